@@ -1,7 +1,18 @@
 -- What words come to.
-use Rattle.std.proofs.Common.{ℕ, Option, List, refl, inl, inr}
+use Rattle.std.proofs.Common.{◌≡◌, ℕ, Option, List, false, refl, inl, inr, subst}
+use Rattle.std.specs.Prelude.{IfSome}
+use Rattle.std.specs.declared.net.tcp.TcpListener.{TcpListener as Listener}
 use Rattle.clap.specs.Words.{Text}
-use Rattle.lift_program.specs.Ends.{EndOver, IsEndFor, IsEndOf, WritesFor}
+use Rattle.lift_keeper.specs.Keeper.{KeeperView}
+use Rattle.lift_policy.specs.Choices.{IsShipped}
+use Rattle.lift_policy.specs.declared.shipped.Shipped.{Shipped}
+use Rattle.lift_serve.specs.Open.{EndedState}
+use Rattle.lift_serve.specs.lemmas.Opened.{keeps_over}
+use Rattle.lift_program.proofs.Writing.{said_front}
+use Rattle.lift_program.specs.Ends.{AreReadyFor, EndOver, IsEndFor, IsEndOf, IsServingFault, SaysFront, WritesFor}
+use Rattle.lift_program.specs.Serving.{IsServedOver, IsServing}
+use Rattle.lift_program.specs.declared.fault.Fault.{Fault}
+use Rattle.lift_program.specs.declared.words.Request.TheVariants.{Replay, Format, Show, Serve}
 use Rattle.lift_program.specs.Images.{CommandFiles}
 use Rattle.lift_program.specs.Words.{AskForRequest}
 use Rattle.lift_program.specs.declared.end.End.TheVariants.{Replayed, Formatted, Shown, Served, Failed, NoImage, Unformatted, Unshown, Unserved, OtherWords}
@@ -9,19 +20,58 @@ use Rattle.lift_program.specs.declared.fault.Fault.TheVariants.{Memory}
 use Rattle.lift_program.specs.declared.words.Request.{Request}
 
 -- an end of what the words ask for
-pub asked_end : (files : CommandFiles) (input : Option (List ℕ)) (words : List Text) (before after : Option (List ℕ)) (end : EndOver files) (request : Request) → AskForRequest words request → IsEndFor files request before after end
-    → WritesFor files input request before after → IsEndOf files input words before after end
-asked_end files input words before after (Replayed verdict unused) request asks is writes = inr (request, asks, is, writes)
-asked_end files input words before after (Formatted disk) request asks is writes = inr (request, asks, is, writes)
-asked_end files input words before after (Shown disk) request asks is writes = inr (request, asks, is, writes)
-asked_end files input words before after (Served port fault left ended) request asks is writes = inr (request, asks, is, writes)
-asked_end files input words before after (Failed fault unused) request asks is writes = inr (request, asks, is, writes)
-asked_end files input words before after (NoImage fault cause) request asks is writes = inr (request, asks, is, writes)
-asked_end files input words before after (Unformatted fault left) request asks is writes = inr (request, asks, is, writes)
-asked_end files input words before after (Unshown fault left) request asks is writes = inr (request, asks, is, writes)
-asked_end files input words before after (Unserved fault left) request asks is writes = inr (request, asks, is, writes)
-asked_end files input words before after (OtherWords unused) request asks is writes = absurd is
+pub asked_end : (files : CommandFiles) (gives : ℕ → Option Listener → Type 0) (input : Option (List ℕ)) (words : List Text) (before after : Option (List ℕ)) (end : EndOver files) (request : Request) → AskForRequest words request → IsEndFor files gives request before after end
+    → WritesFor files input request before after → IsEndOf files gives input words before after end
+asked_end files gives input words before after (Replayed verdict unused) request asks is writes = inr (request, asks, is, writes)
+asked_end files gives input words before after (Formatted disk) request asks is writes = inr (request, asks, is, writes)
+asked_end files gives input words before after (Shown disk) request asks is writes = inr (request, asks, is, writes)
+asked_end files gives input words before after (Served port fault left ended) request asks is writes = inr (request, asks, is, writes)
+asked_end files gives input words before after (Failed fault unused) request asks is writes = inr (request, asks, is, writes)
+asked_end files gives input words before after (NoImage fault cause) request asks is writes = inr (request, asks, is, writes)
+asked_end files gives input words before after (Unformatted fault left) request asks is writes = inr (request, asks, is, writes)
+asked_end files gives input words before after (Unshown fault left) request asks is writes = inr (request, asks, is, writes)
+asked_end files gives input words before after (Unserved fault left) request asks is writes = inr (request, asks, is, writes)
+asked_end files gives input words before after (OtherWords unused) request asks is writes = absurd is
+
+-- what is ready was read by a keeper that is whole
+pub ready_whole : (files : CommandFiles) (gives : ℕ → Option Listener → Type 0) (words : List Text) (before after : Option (List ℕ)) (keeper : KeeperView files.image.Served) (listener : Listener) (port sessions : ℕ) (policy : Shipped)
+    → AreReadyFor files gives words before after keeper listener port sessions policy → keeper.writer.is_broken ≡ false
+ready_whole files gives words before after keeper listener port sessions policy (Replay, asks, never, said) = absurd never
+ready_whole files gives words before after keeper listener port sessions policy (Format image building half, asks, never, said) = absurd never
+ready_whole files gives words before after keeper listener port sessions policy (Show image building, asks, never, said) = absurd never
+ready_whole files gives words before after keeper listener port sessions policy (Serve image building asked count named, asks, (at, many, by_policy, ready), said) = ready.has.whole
+
+-- what was ready was served
+pub served_end : (files : CommandFiles) (gives : ℕ → Option Listener → Type 0) (input : Option (List ℕ)) (words : List Text) (before after : Option (List ℕ)) (keeper : KeeperView files.image.Served) (listener : Listener) (port sessions : ℕ) (policy : Shipped)
+    (fault : Option Fault) (left : files.image.Served) (ended : Option EndedState) → AreReadyFor files gives words before after keeper listener port sessions policy
+    → IsServedOver files.image.served_state policy listener sessions keeper fault left ended → IfSome fault IsServingFault → IsEndOf files gives input words before after (Served port fault left ended)
+served_end files gives input words before after keeper listener port sessions policy fault left ended (Replay, asks, never, said) served is = absurd never
+served_end files gives input words before after keeper listener port sessions policy fault left ended (Format image building half, asks, never, said) served is = absurd never
+served_end files gives input words before after keeper listener port sessions policy fault left ended (Show image building, asks, never, said) served is = absurd never
+served_end files gives input words before after keeper listener port sessions policy fault left ended (Serve image building asked count named, asks, (at, many, by_policy, ready), said) served is =
+    let serving : IsServing files (gives asked) image.now building.now policy sessions fault left ended = record {
+      keeper = keeper;
+      listener = listener;
+      ready = ready;
+      served = served;
+      keeps = λ honest base accepted given found.
+          keeps_over IsShipped files.image.served_state ready.plan ready.has.opened keeper ready.has.recovers ready.has.starts ready.has.whole ready.has.no_doubt ready.has.own honest base accepted given found
+          policy served.last served.other served.comes;
+    } in
+    inr (
+      Serve image building asked count named,
+      asks,
+      (
+        (
+          at,
+          subst (λ (n : ℕ). IsServing files (gives asked) image.now building.now named n fault left ended) many
+              (subst (λ (p : Shipped). IsServing files (gives asked) image.now building.now p sessions fault left ended) by_policy serving),
+        ),
+        is,
+      ),
+      subst (λ (p : ℕ). SaysFront p before after) at (said_front port before after said),
+    )
 
 -- memory was wanting for the words
-pub unread_words : (files : CommandFiles) (input : Option (List ℕ)) (words : List Text) (written : Option (List ℕ)) → IsEndOf files input words written written (Failed Memory files.image.opener)
-unread_words files input words written = inl (refl, refl)
+pub unread_words : (files : CommandFiles) (gives : ℕ → Option Listener → Type 0) (input : Option (List ℕ)) (words : List Text) (written : Option (List ℕ)) → IsEndOf files gives input words written written (Failed (Memory tt) files.image.opener)
+unread_words files gives input words written = inl (refl, refl)

@@ -6,7 +6,7 @@ use Rattle.clap.specs.declared.error.Error.{Error}
 use Rattle.clap.specs.declared.error.kind.ErrorKind.TheVariants.{OutOfMemory}
 use Rattle.clap.specs.declared.parser.matches.ArgMatches.{ArgMatches}
 use Rattle.clap.proofs.OnLiterals.{clap_on_literals}
-use Rattle.lift_program.specs.Words.{liftd_app, AskForRequest, IsFor}
+use Rattle.lift_program.specs.Words.{liftd_app, AreMatchesOf, AskForRequest, IsFor}
 use Rattle.lift_program.specs.declared.words.Request.{Request}
 
 liftd_is_simple : is_simple liftd_app ≡ true
@@ -28,21 +28,20 @@ taken app words same kinds = subst (λ a. fault_of a words ≡ []) same (kinds (
 found : (app : App) (words : List Text) (m : ArgMatches) → app ≡ liftd_app → HasMatchesOf app words m → subcommand_rows_of m ≡ subcommand_of liftd_app words
 found app words m same has = (has (ap is_simple same ∙ liftd_is_simple)).1 ∙ ap (λ a. subcommand_of a words) same
 
-asked : (app : App) (words : List Text) (m : ArgMatches) (request : Request) → app ≡ liftd_app → (is_simple_and_free app ≡ true → fault_of app words ≡ []) → HasMatchesOf app words m
-    → IsFor (subcommand_rows_of m) request → AskForRequest words request
-asked app words m request same kinds has is = (taken app words same kinds, subst (λ s. IsFor s request) (found app words m same has) is)
+-- what the grammar finds in words that it takes
+pub are_matches : (app : App) (words : List Text) (m : ArgMatches) → app ≡ liftd_app → (is_simple_and_free app ≡ true → fault_of app words ≡ []) → HasMatchesOf app words m → AreMatchesOf words m
+are_matches app words m same kinds has = (taken app words same kinds, found app words m same has)
 
 -- what was found is what the words ask for
-pub some_asked : (app : App) (words : List Text) (m : ArgMatches) (r : Option Request) → app ≡ liftd_app → (is_simple_and_free app ≡ true → fault_of app words ≡ []) → HasMatchesOf app words m
-    → IfSome r (λ request. IsFor (subcommand_rows_of m) request) → IfSome r (λ request. AskForRequest words request)
-some_asked app words m None same kinds has is = tt
-some_asked app words m (Some request) same kinds has is = asked app words m request same kinds has is
+pub some_asked : (words : List Text) (m : ArgMatches) (r : Option Request) → AreMatchesOf words m → IfSome r (λ request. IsFor (subcommand_rows_of m) request) → IfSome r (λ request. AskForRequest words request)
+some_asked words m None are is = tt
+some_asked words m (Some request) are is = (are.0, subst (λ s. IsFor s request) are.1 is)
 
 -- where nothing was found the words ask for nothing
-pub none_asked : (app : App) (words : List Text) (m : ArgMatches) (r : Option Request) → app ≡ liftd_app → HasMatchesOf app words m
-    → IfNone r ((request : Request) → IsFor (subcommand_rows_of m) request → ⊥) → IfNone r ((request : Request) → AskForRequest words request → ⊥)
-none_asked app words m (Some request) same has none = tt
-none_asked app words m None same has none = λ request asks. none request (subst (λ s. IsFor s request) (sym (found app words m same has)) asks.1)
+pub none_asked : (words : List Text) (m : ArgMatches) (r : Option Request) → AreMatchesOf words m → IfNone r ((request : Request) → IsFor (subcommand_rows_of m) request → ⊥)
+    → IfNone r ((request : Request) → AskForRequest words request → ⊥)
+none_asked words m (Some request) are none = tt
+none_asked words m None are none = λ request asks. none request (subst (λ s. IsFor s request) (sym are.1) asks.1)
 
 pub refused : (app : App) (words : List Text) (e : Error) (request : Request) → app ≡ liftd_app → (is_simple_and_free app ≡ true → HasKind (fault_of app words) e)
     → kind_of e ≢ OutOfMemory → AskForRequest words request → ⊥

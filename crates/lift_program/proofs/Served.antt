@@ -1,5 +1,5 @@
 -- What a serving tells at its end.
-use Rattle.std.proofs.Common.{◌≡◌, refl, ℕ, Bool, true, false, Option, Some, None, sym, ap, subst, ◌∙◌}
+use Rattle.std.proofs.Common.{◌≡◌, refl, ℕ, Bool, true, false, Option, Some, None, sym, subst, ◌∙◌}
 use Rattle.std.specs.Prelude.{IfSome, IsSome}
 use Rattle.std.specs.declared.net.tcp.TcpListener.{TcpListener as Listener}
 use Rattle.lift_serve.specs.Open.{AreEndedAt, EndedState}
@@ -8,23 +8,10 @@ use Rattle.lift_serve.specs.declared.serving.ServeFault.TheVariants.{Network as 
 use Rattle.lift_program.specs.Faults.{served_fault}
 use Rattle.lift_program.specs.declared.fault.Fault.{Fault}
 
-so_many_in : (ended : Option EndedState) (listener : Listener) (sessions : ℕ) → IfSome ended (AreEndedAt listener sessions) → IfSome ended (λ (state : EndedState). state.sessions ≡ sessions)
-so_many_in None listener sessions are = tt
-so_many_in (Some ended) listener sessions are = ap (λ (e : EndedState). e.sessions) are
-
--- so many have ended,
-pub so_many_of : (ended told : Option EndedState) (listener : Listener) (sessions : ℕ) → told ≡ ended → IfSome ended (AreEndedAt listener sessions) → IfSome told (λ (state : EndedState). state.sessions ≡ sessions)
-so_many_of ended told listener sessions same are =
-    subst (λ (e : Option EndedState). IfSome e (λ (state : EndedState). state.sessions ≡ sessions)) (sym same) (so_many_in ended listener sessions are)
-
-at_it : (ended : Option EndedState) (listener : Listener) (sessions : ℕ) → IfSome ended (AreEndedAt listener sessions) → IfSome ended (λ (state : EndedState). state.listener ≡ listener)
-at_it None listener sessions are = tt
-at_it (Some ended) listener sessions are = ap (λ (e : EndedState). e.listener) are
-
--- at the socket that was asked for,
-pub at_told : (ended told : Option EndedState) (listener : Listener) (sessions : ℕ) → told ≡ ended → IfSome ended (AreEndedAt listener sessions) → IfSome told (λ (state : EndedState). state.listener ≡ listener)
-at_told ended told listener sessions same are =
-    subst (λ (e : Option EndedState). IfSome e (λ (state : EndedState). state.listener ≡ listener)) (sym same) (at_it ended listener sessions are)
+-- so many have ended, at the socket that was asked for,
+pub ended_of : (ended told : Option EndedState) (listener : Listener) (sessions : ℕ) → told ≡ ended → IfSome ended (AreEndedAt listener sessions) → IfSome told (AreEndedAt listener sessions)
+ended_of ended told listener sessions same are =
+    subst (λ (e : Option EndedState). IfSome e (AreEndedAt listener sessions)) (sym same) are
 
 abbrev is_told : Option Fault → Type 0
 is_told None = ⊥

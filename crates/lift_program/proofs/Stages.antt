@@ -1,5 +1,5 @@
 -- What the faults of each stage are to a whole command.
-use Rattle.std.proofs.Common.{◌≡◌, ◌≢◌, ◌<◌, ◌≤◌, ◌+◌, ◌*◌, ◌∙◌, ℕ, List, [], Option, Some, None, Bool, length, false, refl, sym, subst, inl, inr, arith}
+use Rattle.std.proofs.Common.{◌≡◌, ◌≢◌, ◌<◌, ◌≤◌, ◌+◌, ◌*◌, ℕ, List, [], Option, Some, None, length, false, refl, sym, subst, inl, inr}
 use Rattle.lift_building.specs.Describes.{IsTextOf}
 use Rattle.lift_building.specs.Gives.{IsFirstFault}
 use Rattle.lift_building.specs.Plan.{Plan, IsBuilding, shape_of}
@@ -24,6 +24,8 @@ use Rattle.lift_disk.specs.declared.sectors.SectorFile.{SectorFile}
 use Rattle.lift_program.specs.Images.{CommandFiles, ImageFiles, IsOpened}
 use Rattle.lift_program.specs.Ends.{IsFileFault, IsMadeWith, IsUnformatted, IsReplayFault, IsReportOfFault, IsShowingFault}
 use Rattle.lift_program.specs.Faults.{of_building}
+use Rattle.std.specs.declared.net.tcp.TcpListener.{TcpListener as Listener}
+use Rattle.lift_program.specs.Serving.{IsReadyOver}
 use Rattle.lift_program.specs.Showing.{ShowsFront, ShowsPart}
 use Rattle.lift_program.specs.Stages.{HasBuilding, HasKeeperOf, HasNoImage, HasNoKeeperOf, HasRecovered, IsBuildingFault, IsImageFault, IsLeftAs, IsNoImage, IsOpeningFault, IsUndone, IsUnkept, ReadsBuilding, StopsOver, most_text}
 use Rattle.lift_program.specs.declared.left.Undone.{Undone}
@@ -125,6 +127,22 @@ pub no_image : {F O : Type 0} (is_text : List ℕ → Type 0) (is_refused : File
     → IsNoImage is_text is_refused fault cause
 no_image is_text is_refused plan fault cause has unhad = record { building = (plan, has); unhad = unhad }
 
+-- all that a serving takes was had
+pub is_ready : (files : CommandFiles) (gives : Option Listener → Type 0) (image building : List ℕ) (plan standing : Plan) (keeper told : KeeperView files.image.Served) (listener listening : Listener) → told ≡ keeper → listening ≡ listener → standing ≡ plan
+    → HasBuilding (files.is_text building) plan → HasKeeperOf files.image image standing keeper → keeper.state.batch ≡ [] → gives (Some listener) → IsReadyOver files gives image building told listening
+is_ready files gives image building plan standing keeper told listener listening same at stands has kept settled here =
+    subst (λ (k : KeeperView files.image.Served). IsReadyOver files gives image building k listening) (sym same) (subst (λ (l : Listener). IsReadyOver files gives image building keeper l) (sym at) (record {
+      plan = standing;
+      described = subst (HasBuilding (files.is_text building)) (sym stands) has;
+      has = kept;
+      settled = settled;
+      here = here;
+    }))
+
+-- the building stands where it was put
+pub stands_so : (is_text : List ℕ → Type 0) (plan standing : Plan) → standing ≡ plan → HasBuilding is_text plan → HasBuilding is_text standing
+stands_so is_text plan standing same has = subst (HasBuilding is_text) (sym same) has
+
 -- the recovery was refused, or no image could be opened
 pub keeper_undone : {D F O : Type 0} (is_text : List ℕ → Type 0) (opener : O) (is_fresh : D → Type 0) (state : D → DiskState) (is_refused : FileFault F O → Type 0) (plan : Plan) (undone : Undone D F O) → HasBuilding is_text plan
     → IsUnkept is_fresh state is_refused plan undone → IsUndone is_text opener is_fresh state is_refused undone
@@ -197,8 +215,8 @@ shown_left is_text is_fresh state plan opened left before after (File OfImage) h
 shown_left is_text is_fresh state plan opened left before after (File Input) has fresh is refused front = absurd is
 shown_left is_text is_fresh state plan opened left before after (File Output) has fresh is refused front =
     recovered_left is_text is_fresh state plan opened left before after (File Output) has fresh (λ recovered. recovered) (front (inl refl))
-shown_left is_text is_fresh state plan opened left before after Memory has fresh is refused front =
-    recovered_left is_text is_fresh state plan opened left before after Memory has fresh (λ recovered. recovered) (front (inr refl))
+shown_left is_text is_fresh state plan opened left before after (Memory no_memory) has fresh is refused front =
+    recovered_left is_text is_fresh state plan opened left before after (Memory no_memory) has fresh (λ recovered. recovered) (front (inr refl))
 shown_left is_text is_fresh state plan opened left before after Network has fresh is refused front = absurd is
 shown_left is_text is_fresh state plan opened left before after Thread has fresh is refused front = absurd is
 
@@ -220,7 +238,7 @@ showing_part files path building plan opened left before after (File OfImage) de
 showing_part files path building plan opened left before after (File Input) described fresh is written front = absurd is
 showing_part files path building plan opened left before after (File Output) described fresh is written front =
     part_shown files path building plan opened left before after described fresh (front (inl refl))
-showing_part files path building plan opened left before after Memory described fresh is written front =
+showing_part files path building plan opened left before after (Memory no_memory) described fresh is written front =
     part_shown files path building plan opened left before after described fresh (front (inr refl))
 showing_part files path building plan opened left before after Network described fresh is written front = absurd is
 showing_part files path building plan opened left before after Thread described fresh is written front = absurd is
@@ -233,7 +251,7 @@ replay_report (File OfBuilding) before after is unread = absurd is
 replay_report (File OfImage) before after is unread = absurd is
 replay_report (File Input) before after is unread = unread refl
 replay_report (File Output) before after is unread = tt
-replay_report Memory before after is unread = tt
+replay_report (Memory no_memory) before after is unread = tt
 replay_report Network before after is unread = absurd is
 replay_report Thread before after is unread = absurd is
 
@@ -245,7 +263,7 @@ nothing_written (File OfBuilding) written = refl
 nothing_written (File OfImage) written = refl
 nothing_written (File Input) written = refl
 nothing_written (File Output) written = tt
-nothing_written Memory written = tt
+nothing_written (Memory no_memory) written = tt
 nothing_written Network written = refl
 nothing_written Thread written = tt
 
@@ -268,7 +286,7 @@ is_opened {F} {told} opens gives holds how first image file below path same unca
 
 -- the fault that is there
 abbrev pub fault_there : Option Fault → Fault
-fault_there None = Memory
+fault_there None = Memory tt
 fault_there (Some fault) = fault
 
 -- what is there isn't nothing

@@ -46,7 +46,7 @@ module _ {M S V F O E : Type 0} (contents : E → Option (List ℕ)) (a b c : Ou
   told_once (Served port (Some (Building fault)) left ended) first last quiet = last_so contents a b c _ first last
   told_once (Served port (Some (Journal fault)) left ended) first last quiet = first_so contents a b c _ first (quiet refl)
   told_once (Served port (Some (File role)) left ended) first last quiet = last_so contents a b c _ first last
-  told_once (Served port (Some Memory) left ended) first last quiet = last_so contents a b c _ first last
+  told_once (Served port (Some (Memory no_memory)) left ended) first last quiet = last_so contents a b c _ first last
   told_once (Served port (Some Network) left ended) first last quiet = last_so contents a b c _ first last
   told_once (Served port (Some Thread) left ended) first last quiet = last_so contents a b c _ first last
   told_once (Failed fault unused) first last quiet = last_so contents a b c _ first last

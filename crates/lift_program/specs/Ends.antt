@@ -3,6 +3,7 @@ use Rattle.std.specs.Prelude.{ℕ, ◌≡◌, ◌⊎◌, ◌<◌, ◌+◌, ◌*�
 use Rattle.std.specs.Prelude.{IfSome, Result, Ok, Err, true, false, codes, take}
 use Rattle.std.specs.Fmt.{decimal}
 use Rattle.std.specs.Io.KnownBytes.{Appends}
+use Rattle.std.specs.declared.net.tcp.TcpListener.{TcpListener as Listener}
 use Rattle.clap.specs.Words.{Text}
 use Rattle.lift_base.specs.Input.{InputState}
 use Rattle.lift_base.specs.Output.{OutputState}
@@ -11,7 +12,9 @@ use Rattle.lift_disk.specs.Disk.{LeavesNow, RunsOn}
 use Rattle.lift_disk.specs.declared.file.FileFault.{FileFault}
 use Rattle.lift_journal.specs.Calls.{StopsIn, format_calls}
 use Rattle.lift_journal.specs.declared.fault.JournalFault.TheVariants.{Disk}
+use Rattle.lift_keeper.specs.Keeper.{KeeperView}
 use Rattle.lift_keeper.specs.declared.fault.KeeperFault.TheVariants.{Journal as OfJournal}
+use Rattle.lift_policy.specs.declared.shipped.Shipped.{Shipped}
 use Rattle.lift_register.specs.Register.{empty}
 use Rattle.lift_clerk.specs.Keeping.{KeepsFront}
 use Rattle.lift_replay.specs.declared.lines.Verdict.{Verdict}
@@ -20,7 +23,7 @@ use Rattle.lift_replay.specs.Replaying.{ReportsFront, ReportsInput}
 use Rattle.lift_serve.specs.Open.{EndedState}
 use Rattle.lift_program.specs.Faults.{fault_text, help_text, usage_text}
 use Rattle.lift_program.specs.Output.{IsWrittenOrFailed, SaysText}
-use Rattle.lift_program.specs.Serving.{IsServing}
+use Rattle.lift_program.specs.Serving.{IsReadyOver, IsServing}
 use Rattle.lift_program.specs.Images.{CommandFiles}
 use Rattle.lift_program.specs.Showing.{IsShown, ShowsPart}
 use Rattle.lift_program.specs.Stages.{HasBuilding, IsBuildingFault, IsLeftAs, IsNoImage}
@@ -80,7 +83,7 @@ line_at_once_in None = None
 line_at_once_in (Some (Building fault)) = None
 line_at_once_in (Some (Journal fault)) = told_line (Journal fault)
 line_at_once_in (Some (File role)) = None
-line_at_once_in (Some Memory) = None
+line_at_once_in (Some (Memory no_memory)) = None
 line_at_once_in (Some Network) = None
 line_at_once_in (Some Thread) = None
 
@@ -90,7 +93,7 @@ line_at_end_in None = None
 line_at_end_in (Some (Building fault)) = told_line (Building fault)
 line_at_end_in (Some (Journal fault)) = None
 line_at_end_in (Some (File role)) = told_line (File role)
-line_at_end_in (Some Memory) = told_line Memory
+line_at_end_in (Some (Memory no_memory)) = told_line (Memory no_memory)
 line_at_end_in (Some Network) = told_line Network
 line_at_end_in (Some Thread) = told_line Thread
 
@@ -179,7 +182,7 @@ IsMadeFor files (Serve image building port sessions policy) left = ⊥
 
 -- a file in this role, or want of memory
 abbrev pub IsFileFault : Role → Fault → Type 0
-IsFileFault role fault = (fault ≡ File role) ⊎ (fault ≡ Memory)
+IsFileFault role fault = (fault ≡ File role) ⊎ (fault ≡ Memory tt)
 
 -- the standard input, the standard output, or want of memory
 abbrev pub IsReplayFault : Fault → Type 0
@@ -189,7 +192,7 @@ IsReplayFault (File OfBuilding) = ⊥
 IsReplayFault (File OfImage) = ⊥
 IsReplayFault (File Input) = Unit {0}
 IsReplayFault (File Output) = Unit {0}
-IsReplayFault Memory = Unit {0}
+IsReplayFault (Memory no_memory) = Unit {0}
 IsReplayFault Network = ⊥
 IsReplayFault Thread = ⊥
 
@@ -226,7 +229,7 @@ IsShowingFault (File OfBuilding) = ⊥
 IsShowingFault (File OfImage) = ⊥
 IsShowingFault (File Input) = ⊥
 IsShowingFault (File Output) = Unit {0}
-IsShowingFault Memory = Unit {0}
+IsShowingFault (Memory no_memory) = Unit {0}
 IsShowingFault Network = ⊥
 IsShowingFault Thread = ⊥
 
@@ -241,7 +244,7 @@ abbrev pub IsServingFault : Fault → Type 0
 IsServingFault (Building fault) = ⊥
 IsServingFault (Journal fault) = fault ≡ OfJournal Disk
 IsServingFault (File role) = ⊥
-IsServingFault Memory = Unit {0}
+IsServingFault (Memory no_memory) = Unit {0}
 IsServingFault Network = Unit {0}
 IsServingFault Thread = Unit {0}
 
@@ -307,43 +310,55 @@ IsUnshownFor files (Show image building) fault left = IsShowingFault fault
     files.image.shown_state fault left
 IsUnshownFor files (Serve image building port sessions policy) fault left = ⊥
 
--- a building was to be served on this port over the image at this path, until so many connections
--- had ended, and the serving came to this
-abbrev pub IsServedFor : (files : CommandFiles) → Request → ℕ → Option Fault
-    → files.image.Served → Option EndedState → Type 0
-IsServedFor files Replay port fault left ended = ⊥
-IsServedFor files (Format image building half) port fault left ended = ⊥
-IsServedFor files (Show image building) port fault left ended = ⊥
-IsServedFor files (Serve image building asked sessions policy) port fault left ended =
-    (port ≡ asked) × IsServing files image.now building.now policy sessions fault left ended
+-- A building was to be served on this port over the image at this path, until so many connections
+-- had ended, and the serving came to this. A socket at a port gives this here, in all that follows.
+abbrev pub IsServedFor : (files : CommandFiles) → (gives : ℕ → Option Listener → Type 0) → Request
+    → ℕ → Option Fault → files.image.Served → Option EndedState → Type 0
+IsServedFor files gives Replay port fault left ended = ⊥
+IsServedFor files gives (Format image building half) port fault left ended = ⊥
+IsServedFor files gives (Show image building) port fault left ended = ⊥
+IsServedFor files gives (Serve image building asked sessions policy) port fault left ended =
+    (port ≡ asked)
+    × IsServing files (gives asked) image.now building.now policy sessions fault left ended
 
--- a building was to be served over the image at this path, and why it wasn't, though the image was
--- opened
-abbrev pub IsUnservedFor : (files : CommandFiles) → Request → Fault → files.image.Served → Type 0
-IsUnservedFor files Replay fault left = ⊥
-IsUnservedFor files (Format image building half) fault left = ⊥
-IsUnservedFor files (Show image building) fault left = ⊥
-IsUnservedFor files (Serve image building port sessions policy) fault left =
+-- a building is to be served so, and all that this takes was had
+abbrev pub IsReadyFor : (files : CommandFiles) → (gives : ℕ → Option Listener → Type 0) → Request
+    → KeeperView files.image.Served → Listener → (port sessions : ℕ) → Shipped → Type 0
+IsReadyFor files gives Replay keeper listener port sessions policy = ⊥
+IsReadyFor files gives (Format image building half) keeper listener port sessions policy = ⊥
+IsReadyFor files gives (Show image building) keeper listener port sessions policy = ⊥
+IsReadyFor files gives (Serve image building asked count named) keeper listener port sessions policy =
+    (port ≡ asked) × (sessions ≡ count) × (policy ≡ named)
+    × IsReadyOver files (gives asked) image.now building.now keeper listener
+
+-- A building was to be served over the image at this path, and why it wasn't, though the image was
+-- opened: for the port only where a socket there was refused.
+abbrev pub IsUnservedFor : (files : CommandFiles) → (gives : ℕ → Option Listener → Type 0) → Request
+    → Fault → files.image.Served → Type 0
+IsUnservedFor files gives Replay fault left = ⊥
+IsUnservedFor files gives (Format image building half) fault left = ⊥
+IsUnservedFor files gives (Show image building) fault left = ⊥
+IsUnservedFor files gives (Serve image building port sessions policy) fault left =
     IsLeftAs (files.is_text building.now) (files.image.is_to_be_served image.now)
-    files.image.served_state fault left
+    files.image.served_state fault left × (fault ≡ Network → gives port None)
 
 -- What a request may come to. Where nothing was asked of an image, what was to open it is left.
-abbrev pub IsEndFor : (files : CommandFiles) → Request → (before after : Option (List ℕ))
+abbrev pub IsEndFor : (files : CommandFiles) → (gives : ℕ → Option Listener → Type 0) → Request → (before after : Option (List ℕ))
     → EndOver files → Type 0
-IsEndFor files request before after (Replayed verdict unused) =
+IsEndFor files gives request before after (Replayed verdict unused) =
     (request ≡ Replay) × (unused ≡ files.image.opener)
-IsEndFor files request before after (Formatted left) = IsMadeFor files request left
-IsEndFor files request before after (Shown disk) = IsShownFor files request disk before after
-IsEndFor files request before after (Served port fault left ended) =
-    IsServedFor files request port fault left ended × IfSome fault IsServingFault
-IsEndFor files request before after (Failed fault unused) =
+IsEndFor files gives request before after (Formatted left) = IsMadeFor files request left
+IsEndFor files gives request before after (Shown disk) = IsShownFor files request disk before after
+IsEndFor files gives request before after (Served port fault left ended) =
+    IsServedFor files gives request port fault left ended × IfSome fault IsServingFault
+IsEndFor files gives request before after (Failed fault unused) =
     IsRequestFault files request fault × (unused ≡ files.image.opener)
-IsEndFor files request before after (NoImage fault cause) = IsNoImageFor files request fault cause
-IsEndFor files request before after (Unformatted fault left) =
+IsEndFor files gives request before after (NoImage fault cause) = IsNoImageFor files request fault cause
+IsEndFor files gives request before after (Unformatted fault left) =
     IsUnformattedFor files request fault left
-IsEndFor files request before after (Unshown fault left) = IsUnshownFor files request fault left
-IsEndFor files request before after (Unserved fault left) = IsUnservedFor files request fault left
-IsEndFor files request before after (OtherWords unused) = ⊥
+IsEndFor files gives request before after (Unshown fault left) = IsUnshownFor files request fault left
+IsEndFor files gives request before after (Unserved fault left) = IsUnservedFor files gives request fault left
+IsEndFor files gives request before after (OtherWords unused) = ⊥
 
 -- what is said where a port is served
 abbrev pub serving_text : ℕ → List ℕ
@@ -367,14 +382,24 @@ WritesFor files input (Serve image building port sessions policy) before after =
 
 -- What these words come to: an end of what they ask for; want of memory for them, with nothing
 -- written; or, where they ask for nothing, other words. In these two nothing was asked of an image.
-abbrev pub IsEndOf : (files : CommandFiles) → (input : Option (List ℕ)) → List Text
+abbrev pub IsEndOf : (files : CommandFiles) → (gives : ℕ → Option Listener → Type 0) → (input : Option (List ℕ)) → List Text
     → (before after : Option (List ℕ)) → EndOver files → Type 0
-IsEndOf files input words before after (OtherWords unused) =
+IsEndOf files gives input words before after (OtherWords unused) =
     ((request : Request) → AskForRequest words request → ⊥) × (unused ≡ files.image.opener)
-IsEndOf files input words before after end =
-    ((end ≡ Failed Memory files.image.opener) × (after ≡ before))
-    ⊎ ((request : Request) × AskForRequest words request × IsEndFor files request before after end
+IsEndOf files gives input words before after end =
+    ((end ≡ Failed (Memory tt) files.image.opener) × (after ≡ before))
+    ⊎ ((request : Request) × AskForRequest words request × IsEndFor files gives request before after end
     × WritesFor files input request before after)
+
+-- The words ask for a building to be served, all that this takes was had, and what was written says
+-- that the port is served.
+abbrev pub AreReadyFor : (files : CommandFiles) → (gives : ℕ → Option Listener → Type 0) → List Text
+    → (before after : Option (List ℕ)) → KeeperView files.image.Served → Listener
+    → (port sessions : ℕ) → Shipped → Type 0
+AreReadyFor files gives words before after keeper listener port sessions policy =
+    (request : Request) × AskForRequest words request
+    × IsReadyFor files gives request keeper listener port sessions policy
+    × Appends before after (serving_text port)
 
 -- What was written of a fault: nothing of a building's, an image's, a journal's, or the port's.
 abbrev pub IsReportOfFault : Fault → (before after : Option (List ℕ)) → Type 0
@@ -384,7 +409,7 @@ IsReportOfFault (File OfBuilding) before after = after ≡ before
 IsReportOfFault (File OfImage) before after = after ≡ before
 IsReportOfFault (File Input) before after = after ≡ before
 IsReportOfFault (File Output) before after = Unit {0}
-IsReportOfFault Memory before after = Unit {0}
+IsReportOfFault (Memory no_memory) before after = Unit {0}
 IsReportOfFault Network before after = after ≡ before
 IsReportOfFault Thread before after = Unit {0}
 
@@ -411,27 +436,16 @@ pub record IsAnswered (words : List Text) (has_failed : Type 0)
   pub help : AsksForHelp words → SaysText help_text has_failed before after
   pub quiet : ¬ AsksForHelp words → after ≡ before
 
--- An end is a fault of the standard output only where that has failed, a serving at a port only
--- where that was listened at, and a fault of the port only where it was refused.
-pub record IsCaused {M S V F O : Type 0} (has_failed : Type 0)
-    (has_listened : ℕ → Option EndedState → Type 0) (was_refused : Type 0)
-    (end : End M S V F O) : Type 0 where
-  pub unwritten : undone_for end ≡ Some (File Output) → has_failed
-  pub here : (port : ℕ) (fault : Option Fault) (left : V) (ended : Option EndedState)
-      → end ≡ Served port fault left ended → has_listened port ended
-  pub refused : undone_for end ≡ Some Network → was_refused
-
--- The status of an end that these words come to over this input, with its report, which has its
--- cause, and whose line was told, if it has one.
-pub record IsStatusFor (files : CommandFiles) {E : Type 0} (contents : E
-    → Option (List ℕ)) (words : List Text) (input before after : Option (List ℕ))
-    (has_failed : Type 0) (has_listened : ℕ → Option EndedState → Type 0) (was_refused : Type 0)
-    (old new : OutputState E) (status : ℕ) : Type 0 where
+-- The status of an end that these words come to over this input, with its report, and whose line was
+-- told, if it has one. It is a fault of the standard output only where that has failed.
+pub record IsStatusFor (files : CommandFiles) (gives : ℕ → Option Listener → Type 0) {E : Type 0}
+    (contents : E → Option (List ℕ)) (words : List Text) (input before after : Option (List ℕ))
+    (has_failed : Type 0) (old new : OutputState E) (status : ℕ) : Type 0 where
   pub end : EndOver files
-  pub is_end : IsEndOf files input words before after end
+  pub is_end : IsEndOf files gives input words before after end
   pub reported : IsReportOfEnd input end before after
   pub answered : end ≡ OtherWords files.image.opener → IsAnswered words has_failed before after
+  pub unwritten : undone_for end ≡ Some (File Output) → has_failed
   pub is_status : status ≡ exit_status_of end
   pub told : IfSome (line_of end) (IsWrittenOrFailed contents old new)
   pub quiet : line_of end ≡ None → new ≡ old
-  pub caused : IsCaused has_failed has_listened was_refused end

@@ -48,7 +48,7 @@ abbrev pub fault_text : Fault → List ℕ
 fault_text (Building fault) = building_fault_line fault
 fault_text (Journal fault) = journal_text fault
 fault_text (File role) = codes "liftd: file"
-fault_text Memory = codes "liftd: memory"
+fault_text (Memory no_memory) = codes "liftd: memory"
 fault_text Network = codes "liftd: network"
 fault_text Thread = codes "liftd: thread"
 
@@ -62,13 +62,13 @@ help_text = codes "liftd, the group controller of a lift group\n\n  liftd [repla
 
 -- a building that was refused for want of memory is that
 abbrev pub of_building : BuildingFault → Fault
-of_building (NoRoom no_memory) = Memory
+of_building (NoRoom no_memory) = Memory tt
 of_building fault = Building fault
 
 -- a script whose reading failed is undone for the standard input, one whose report could not be
 -- written for the standard output
 abbrev pub of_replay : ReplayFault → Fault
-of_replay (NoMemory refused) = Memory
+of_replay (NoMemory no_memory) = Memory tt
 of_replay Read = File Input
 of_replay Write = File Output
 
@@ -79,4 +79,4 @@ served_fault true fault = Some (Journal (OfJournal Disk))
 served_fault false None = None
 served_fault false (Some NoNetwork) = Some Network
 served_fault false (Some NoThread) = Some Thread
-served_fault false (Some NoGrowth) = Some Memory
+served_fault false (Some NoGrowth) = Some (Memory tt)

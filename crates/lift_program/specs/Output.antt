@@ -43,7 +43,7 @@ pub record IsOutputSettled {W : Type 0} (gives : W → List ℕ → Option ℕ �
     (flushes : W → Bool → W → Type 0) (old new : W) (result : Result Unit Fault) : Type 0 where
   pub flushed : OnOk result (IsFlushed gives flushes old new)
   pub failed : result ≡ Err (File Output) → WriterHasFailed gives flushes old new
-  pub wanting : result ≡ Err Memory → WasTaken gives flushes old new
+  pub wanting : result ≡ Err (Memory tt) → WasTaken gives flushes old new
 
 -- This text was written; or a front of it, and then the output has failed.
 abbrev pub SaysText : List ℕ → (has_failed : Type 0) → (before after : Option (List ℕ)) → Type 0

@@ -106,7 +106,7 @@ StopsOver plan old new (File OfBuilding) = ⊥
 StopsOver plan old new (File OfImage) = ⊥
 StopsOver plan old new (File Input) = ⊥
 StopsOver plan old new (File Output) = HasRecovered plan old new
-StopsOver plan old new Memory = HasRecovered plan old new
+StopsOver plan old new (Memory no_memory) = HasRecovered plan old new
 StopsOver plan old new Network = HasRecovered plan old new
 StopsOver plan old new Thread = ⊥
 
@@ -131,13 +131,13 @@ IsBuildingFault is_text (File OfBuilding) = Unit {0}
 IsBuildingFault is_text (File OfImage) = ⊥
 IsBuildingFault is_text (File Input) = ⊥
 IsBuildingFault is_text (File Output) = ⊥
-IsBuildingFault is_text Memory = Unit {0}
+IsBuildingFault is_text (Memory no_memory) = Unit {0}
 IsBuildingFault is_text Network = ⊥
 IsBuildingFault is_text Thread = ⊥
 
 -- what the system's refusal comes to: want of memory where it said so, else the image's file
 abbrev pub IsSystemFault : Error → Fault → Type 0
-IsSystemFault error fault = (error_kind error ≡ OutOfMemory → fault ≡ Memory)
+IsSystemFault error fault = (error_kind error ≡ OutOfMemory → fault ≡ Memory tt)
     × (error_kind error ≢ OutOfMemory → fault ≡ File OfImage)
 
 -- what a refused image comes to
@@ -150,7 +150,7 @@ IsImageFault (Stopped stopped) fault = IsSystemFault stopped.error fault
 -- No image was had: that is told as its file, or as want of memory where the system told that.
 pub record HasNoImage {F O : Type 0} (is_refused : FileFault F O → Type 0) (fault : Fault)
     (cause : FileFault F O) : Type 0 where
-  pub is_fault : (fault ≡ File OfImage) ⊎ (fault ≡ Memory)
+  pub is_fault : (fault ≡ File OfImage) ⊎ (fault ≡ Memory tt)
   pub told : IsImageFault cause fault
   pub refused : is_refused cause
 

@@ -2,8 +2,10 @@
 use Rattle.std.specs.Prelude.{◌≡◌, ◌≤◌, ◌⊎◌, ℕ, true, List, [], ◌∷◌, Option, Some, None, codes}
 use Rattle.std.specs.Fmt.{decimal}
 use Rattle.clap.specs.Words.{AddsSubcommand, App, Row, Rule, Text, app_of, new_app, new_rule}
-use Rattle.clap.specs.Words.{with_rule, with_subcommand, first_of, subcommand_of, fault_of}
+use Rattle.clap.specs.Words.{with_rule, with_subcommand, first_of, fault_of}
+use Rattle.clap.specs.Words.{subcommand_of, subcommand_rows_of}
 use Rattle.clap.specs.declared.builder.command.Command.{Command}
+use Rattle.clap.specs.declared.parser.matches.ArgMatches.{ArgMatches}
 use Rattle.lift_policy.specs.declared.shipped.Shipped.{Shipped}
 use Rattle.lift_policy.specs.declared.shipped.Shipped.TheVariants.{Etd, FewestOpen, ShortestWait}
 use Rattle.lift_program.specs.declared.words.Request.{Request}
@@ -118,6 +120,11 @@ IsFor (Some command) request = ((command.0 ≡ codes "replay") × (request ≡ R
 abbrev pub AskForRequest : List Text → Request → Type 0
 AskForRequest words request = (fault_of liftd_app words ≡ [])
     × IsFor (subcommand_of liftd_app words) request
+
+-- The grammar of the commands takes the words, and these are its matches.
+abbrev pub AreMatchesOf : List Text → ArgMatches → Type 0
+AreMatchesOf words matches = (fault_of liftd_app words ≡ [])
+    × (subcommand_rows_of matches ≡ subcommand_of liftd_app words)
 
 -- none of these requests is there
 abbrev pub AsksNothing : (Request → Type 0) → Type 0

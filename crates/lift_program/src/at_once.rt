@@ -6,7 +6,7 @@ use crate::fault::Fault;
 use lift_base::text::Watched;
 use lift_journal::JournalFault;
 use lift_keeper::KeeperFault;
-use lift_serve::Witness;
+use lift_serve::{Failed, Witness};
 use std::io::Write;
 
 /// What is told of a device that failed.
@@ -25,7 +25,7 @@ impl<E: Write + Drop> Witness for AtOnce<E> {
 
     ghost hears = { λ old new. IsFailureTold E.contents old.errors new.errors };
 
-    fn has_failed(&mut self) {
+    fn has_failed(&mut self, _failed: Failed) {
         FAILED.tell(&mut self.errors);
     }
 }

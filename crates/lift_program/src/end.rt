@@ -7,8 +7,9 @@ ghost use Rattle.lift_program.specs.Output.{IsWrittenOrFailed};
 use crate::fault::Fault;
 use crate::left::Left;
 use crate::output::tell;
+use crate::unwritten::ShownImage;
 use lift_base::text::Watched;
-use lift_disk::FileFault;
+use lift_disk::{BufferedFile, FileFault, SectorFile};
 use lift_replay::Verdict;
 use lift_serve::Ended;
 use std::io::Write;
@@ -41,6 +42,9 @@ pub enum End<M, S, V, F: Drop, O: Drop> {
     OtherWords(Left<O>),
 }
 
+/// How a command ends over files that this opens.
+pub(crate) type EndBy<I, T> = End<SectorFile<T>, ShownImage<T>, BufferedFile<T>, T, I>;
+
 /// Writes the line of a fault of a serving at its end: but that a device failed was told when it did.
 fn tell_at_end<E: Write + Drop>(fault: &Fault, errors: &mut Watched<E>)
     ensures told { IfSome (line_at_end_in (Some fault.now))
@@ -51,7 +55,7 @@ fn tell_at_end<E: Write + Drop>(fault: &Fault, errors: &mut Watched<E>)
         Fault::Journal(_) => {}
         Fault::Building(_) => fault.tell(errors),
         Fault::File(_) => fault.tell(errors),
-        Fault::Memory => fault.tell(errors),
+        Fault::Memory(_) => fault.tell(errors),
         Fault::Network => fault.tell(errors),
         Fault::Thread => fault.tell(errors),
     }

@@ -1,25 +1,23 @@
 //! Why the program ends with its work undone, and the line that says so.
 
-ghost use Rattle.std.specs.Prelude.{◌≡◌, ◌≢◌, ◌≤◌, ◌+◌, ◌++◌, ◌∷◌, [], Some, length};
+ghost use Rattle.std.specs.Prelude.{◌≡◌, ◌≤◌, ◌+◌, ◌++◌, ◌∷◌, [], Some, length};
 ghost use Rattle.std.specs.Fmt.{decimal};
-ghost use Rattle.std.specs.IoError.{error_kind};
 ghost use Rattle.arrayvec.specs.ArrayString.{array_string_len};
 ghost use Rattle.lift_program.specs.Faults.{building_fault_line, journal_text, fault_text};
 ghost use Rattle.lift_program.specs.Faults.{of_building, of_replay};
 ghost use Rattle.lift_program.specs.Output.{IsWrittenOrFailed};
-ghost use Rattle.lift_program.specs.declared.fault.Fault.TheVariants.{Memory as Wanting};
 
 use crate::output::tell;
+use crate::refused::NoMemory;
 use arrayvec::ArrayString;
 use itoa::Buffer;
 use lift_base::text::Watched;
 use lift_building::BuildingFault;
 use lift_journal::JournalFault;
 use lift_keeper::KeeperFault;
-use lift_replay::{NoMemory, ReplayFault};
-use std::alloc::AllocError;
-use std::io::{ErrorKind, Write};
-use std::{fmt, io};
+use lift_replay::ReplayFault;
+use std::fmt;
+use std::io::Write;
 use thiserror::Error;
 
 /// What a file is to the program.
@@ -45,27 +43,11 @@ pub enum Fault {
     /// A file, the standard input or the standard output.
     File(Role),
     /// A growth was refused.
-    Memory,
+    Memory(NoMemory),
     /// The port couldn't be had, or failed.
     Network,
     /// A thread couldn't be started.
     Thread,
-}
-
-impl From<AllocError> for Fault {
-    ghost from_gives = { λ _ fault. fault ≡ Wanting };
-
-    fn from(_error: AllocError) -> Fault {
-        Fault::Memory
-    }
-}
-
-impl From<NoMemory> for Fault {
-    ghost from_gives = { λ _ fault. fault ≡ Wanting };
-
-    fn from(_no_memory: NoMemory) -> Fault {
-        Fault::Memory
-    }
 }
 
 /// A building that is refused for want of memory is that.
@@ -74,7 +56,7 @@ impl From<BuildingFault> for Fault {
 
     fn from(fault: BuildingFault) -> Fault {
         match fault {
-            BuildingFault::Memory(_) => Fault::Memory,
+            BuildingFault::Memory(no_memory) => Fault::from(no_memory),
             other => Fault::Building(other),
         }
     }
@@ -85,7 +67,7 @@ impl From<ReplayFault> for Fault {
 
     fn from(fault: ReplayFault) -> Fault {
         match fault {
-            ReplayFault::Memory(_) => Fault::Memory,
+            ReplayFault::Memory(no_memory) => Fault::from(no_memory),
             ReplayFault::Read => Fault::File(Role::Input),
             ReplayFault::Write => Fault::File(Role::Output),
         }
@@ -165,18 +147,6 @@ fn journal_line(fault: KeeperFault) -> Line
 }
 
 impl Fault {
-    /// What a refused call on a file in this role comes to.
-    pub fn of_file(role: Role, error: &io::Error) -> Fault
-        ensures memory { error_kind error.now ≡ ErrorKind.OutOfMemory → result ≡ Fault.Memory }
-        ensures file { error_kind error.now ≢ ErrorKind.OutOfMemory → result ≡ Fault.File role }
-    {
-        if error.kind() == ErrorKind::OutOfMemory {
-            Fault::Memory
-        } else {
-            Fault::File(role)
-        }
-    }
-
     /// Its line, without its end.
     fn line(&self) -> Line
         ensures text { result.bytes ≡ fault_text self.now }
@@ -186,7 +156,7 @@ impl Fault {
             Fault::Building(fault) => building_line(fault),
             Fault::Journal(fault) => journal_line(fault),
             Fault::File(_) => plain_line("liftd: file"),
-            Fault::Memory => plain_line("liftd: memory"),
+            Fault::Memory(_) => plain_line("liftd: memory"),
             Fault::Network => plain_line("liftd: network"),
             Fault::Thread => plain_line("liftd: thread"),
         }

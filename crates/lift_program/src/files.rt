@@ -17,6 +17,7 @@ ghost use Rattle.lift_program.specs.declared.fault.Role.TheVariants.{Image as Of
 use crate::fault::{Fault, Role};
 use crate::left::{Left, Refused};
 use crate::opening::{ImageView, TextOpener};
+use crate::refused::{text_in, told_as};
 use crate::unwritten::{ShownImage, UnwrittenFile};
 use lift_base::text::Counted;
 use lift_building::Building;
@@ -32,6 +33,18 @@ const MOST_BYTES: usize = 1_048_576;
 /// The file is read in so many calls at most.
 const MOST_CALLS: u32 = 2_097_152;
 
+/// What a building's file comes to that couldn't be read.
+fn unread(fault: InputFault) -> Fault
+    ensures fault { IsFileFault OfBuilding result }
+    ensures unread { result ≡ Fault.File OfBuilding → fault ≡ InputFault.Read }
+    ensures wanting { result ≡ Fault.Memory tt → fault ≡ InputFault.Memory tt }
+{
+    match fault {
+        InputFault::Read => Fault::File(Role::Building),
+        InputFault::Memory(no_memory) => Fault::from(no_memory),
+    }
+}
+
 /// The bytes of a building's file. Reading stops behind one byte more than there may be, and the
 /// file is refused then.
 fn bytes_of<R: Read + Drop>(alloc: Global, reader: &mut Counted<R>) -> Result<Vec<u8>, Fault>
@@ -46,7 +59,7 @@ fn bytes_of<R: Read + Drop>(alloc: Global, reader: &mut Counted<R>) -> Result<Ve
     // wanting only where no call failed.
     ensures refused { result ≡ Err (Fault.File OfBuilding) → IsUnread reader.new
         ⊎ TakesBytes (most_text + 1) R.remaining reader.old.reader reader.new.reader }
-    ensures wanting { result ≡ Err Fault.Memory → reader.new.failed ≡ false }
+    ensures wanting { result ≡ Err (Fault.Memory tt) → reader.new.failed ≡ false }
     ensures unfailed { OnOk result (reader.new.failed ≡ false) }
 {
     match read_all(alloc, reader, MOST_BYTES, MOST_CALLS) {
@@ -57,8 +70,7 @@ fn bytes_of<R: Read + Drop>(alloc: Global, reader: &mut Counted<R>) -> Result<Ve
                 Ok(bytes)
             }
         }
-        Err(InputFault::Read) => Err(Fault::File(Role::Building)),
-        Err(InputFault::Memory(_)) => Err(Fault::Memory),
+        Err(fault) => Err(unread(fault)),
     }
 }
 
@@ -89,25 +101,9 @@ pub fn building_in<B: TextOpener>(opener: B, alloc: Global, path: &str) -> Resul
     ensures fault { IfErr result
         (IsBuildingFault (IsTextRead (B.opens opener path.now) B.Text.remaining)) }
 {
-    let text = match opener.open_text(path) {
-        Ok(text) => text,
-        Err(error) => return Err(Fault::of_file(Role::Building, &error)),
-    };
+    let text = text_in(opener, path)?;
     let bytes = bytes_of(alloc, &mut Counted::new(text))?;
     building_of(alloc, &bytes)
-}
-
-/// What is told of a file that can't be an image.
-fn told_as<F: Drop, O: Drop>(cause: &FileFault<F, O>) -> Fault
-    ensures file { IsFileFault OfImage result }
-    ensures told { IsImageFault cause.now result }
-{
-    match cause {
-        FileFault::Untold(error, _) => Fault::of_file(Role::Image, error),
-        FileFault::NotAFile(_) => Fault::File(Role::Image),
-        FileFault::Unopened(error) => Fault::of_file(Role::Image, error),
-        FileFault::Stopped(stopped) => Fault::of_file(Role::Image, &stopped.error),
-    }
 }
 
 /// What it comes to.

@@ -3,6 +3,7 @@
 ghost use Rattle.std.specs.Prelude.{ℕ, List, Option, Some, None, IfOk, OnErr, ⊤};
 ghost use Rattle.std.specs.declared.net.tcp.TcpListener.{TcpListener as Listener};
 
+use lift_serve::Listening;
 use std::io;
 use std::net::{Ipv4Addr, SocketAddr, SocketAddrV4, TcpListener};
 use std::rt::LibcRuntime;
@@ -15,8 +16,8 @@ pub trait Listens: Drop {
     ghost gives: { Self → List ℕ → ℕ → Option Listener → Type 0 };
 
     /// A socket that listens at a port of an address.
-    fn listen(self, address: [u8; 4], port: u16) -> io::Result<TcpListener>
-        ensures gives { IfOk result (λ listener. gives self address port (Some listener)) }
+    fn listen(self, address: [u8; 4], port: u16) -> io::Result<Listening>
+        ensures gives { IfOk result (λ listening. gives self address port (Some listening)) }
         ensures refused { OnErr result (gives self address port None) };
 }
 
@@ -35,8 +36,12 @@ impl<'r> SystemSocket<'r> {
 impl Listens for SystemSocket<'_> {
     ghost gives = { λ _ _ _ _. ⊤ };
 
-    fn listen(self, address: [u8; 4], port: u16) -> io::Result<TcpListener> {
+    fn listen(self, address: [u8; 4], port: u16) -> io::Result<Listening> {
         let address = Ipv4Addr::from_octets(address);
-        TcpListener::bind(self.rt, SocketAddr::V4(SocketAddrV4::new(address, port)))
+        let listener = TcpListener::bind(
+            self.rt,
+            SocketAddr::V4(SocketAddrV4::new(address, port)),
+        )?;
+        Ok(Listening::at(listener))
     }
 }

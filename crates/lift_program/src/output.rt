@@ -7,6 +7,7 @@ ghost use Rattle.lift_program.specs.Output.{IsOutputSettled, IsWrittenOrFailed};
 ghost use Rattle.lift_program.specs.declared.fault.Role.TheVariants.{Output};
 
 use crate::fault::{Fault, Role};
+use crate::refused::pass_on;
 use lift_base::text::{Outlet, Watched, put_all};
 use std::io;
 use std::io::Write;
@@ -43,9 +44,9 @@ pub fn write_out<W: Outflow>(writer: &mut W, bytes: &[u8]) -> Result<(), Fault>
     if put_all(writer, bytes).is_err() {
         return Err(Fault::File(Role::Output));
     }
-    match writer.settle() {
+    match pass_on(writer) {
         Ok(()) => Ok(()),
-        Err(error) => Err(Fault::of_file(Role::Output, &error)),
+        Err(fault) => Err(fault),
     }
 }
 

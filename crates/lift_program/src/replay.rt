@@ -6,8 +6,9 @@ ghost use Rattle.lift_program.specs.declared.fault.Role.TheVariants.{Input, Outp
 ghost use Rattle.lift_program.specs.Ends.{IsReplayFault, IsUncalled, IsUnread, ReportsAll};
 ghost use Rattle.lift_program.specs.Output.{WriterHasFailed, IsFlushed};
 
-use crate::fault::{Fault, Role};
+use crate::fault::Fault;
 use crate::output::Outflow;
+use crate::refused::pass_on;
 use lift_base::text::Counted;
 use lift_replay::Verdict;
 use std::alloc::Global;
@@ -38,8 +39,8 @@ pub fn replay<R: Read + Drop, W: Outflow>(
         → WriterHasFailed W.gives W.flushes writer.old writer.new }
 {
     let verdict = lift_replay::run(alloc, input, writer)?;
-    match writer.settle() {
+    match pass_on(writer) {
         Ok(()) => Ok(verdict),
-        Err(error) => Err(Fault::of_file(Role::Output, &error)),
+        Err(fault) => Err(fault),
     }
 }

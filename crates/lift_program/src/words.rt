@@ -7,12 +7,11 @@ ghost use Rattle.lift_program.specs.Words.{IsFormat, IsShow, IsHalf, IsRequestIn
 ghost use Rattle.lift_program.specs.Words.{IsPolicy, IsPolicyWord, IsServe};
 ghost use Rattle.lift_policy.specs.declared.shipped.Shipped.{Shipped as ShippedValue};
 
-use crate::grammar::grammar;
+use crate::refused::{NoMemory, matches_of};
 use clap::ArgMatches;
-use clap::error::ErrorKind;
 use lift_base::text::number_up_to;
 use lift_policy::{Etd, FewestOpen, Shipped, ShortestWait};
-use std::alloc::{AllocError, Global};
+use std::alloc::Global;
 use std::convert::AsStr;
 
 /// What the program is to do.
@@ -198,21 +197,15 @@ pub fn asks_for_help<S: AsStr>(words: &[S]) -> bool
 pub fn request_of<'a, S: AsStr>(
     alloc: Global,
     words: &'a [S],
-) -> Result<Option<Request<'a>>, AllocError>
+) -> Result<Option<Request<'a>>, NoMemory>
     ensures asked { IfOk result (λ found.
         IfSome found (λ request. AskForRequest (map S.text words.now) request)) }
     ensures range { IfOk result (λ found. IfSome found (λ request. IsRequestInRange request)) }
     ensures other { IfOk result (λ found.
         IfNone found (AsksNothing (AskForRequest (map S.text words.now)))) }
 {
-    match grammar(alloc)?.try_get_matches_from(words) {
-        Ok(matches) => Ok(found_in(&matches)),
-        Err(error) => {
-            if error.kind() == ErrorKind::OutOfMemory {
-                Err(AllocError)
-            } else {
-                Ok(None)
-            }
-        }
+    match matches_of(alloc, words)? {
+        Some(matches) => Ok(found_in(&matches)),
+        None => Ok(None),
     }
 }

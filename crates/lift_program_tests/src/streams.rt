@@ -2,7 +2,9 @@
 
 use lift_base::text::Watched;
 use lift_disk::{FileOpener, SystemOpener};
-use lift_program::{Files, Listens, Openers, SystemSocket, SystemTextOpener, TextOpener, start};
+use lift_program::{
+    Files, Given, Listens, Openers, SystemSocket, SystemTextOpener, TextOpener, start,
+};
 use std::alloc::Global;
 use std::io::{Read, Write};
 use std::net::{Ipv4Addr, SocketAddr, SocketAddrV4, TcpListener};
@@ -67,9 +69,8 @@ impl Run {
         let mut errors = Vec::new(rt.alloc());
         let status = start(
             rt,
-            openers,
+            Given::new(openers, words),
             rt.alloc(),
-            words,
             reader,
             &mut report,
             &mut Watched::new(&mut errors),
@@ -106,9 +107,8 @@ fn outputs_that_fail(rt: HostRuntime) -> Result<(), Fail> {
         let mut errors = Vec::new(rt.alloc());
         let status = start(
             &rt,
-            openers(&rt),
+            Given::new(openers(&rt), words),
             rt.alloc(),
-            words,
             b"".as_slice(),
             &mut Failing,
             &mut Watched::new(&mut errors),
@@ -137,9 +137,8 @@ fn inputs_that_fail(rt: HostRuntime) {
         let mut errors = Watched::new(Failing);
         let status = start(
             &rt,
-            openers(&rt),
+            Given::new(openers(&rt), words.as_slice()),
             rt.alloc(),
-            words.as_slice(),
             Failing,
             &mut report,
             &mut errors,

@@ -33,4 +33,4 @@ pub use refused::NoThread;
 pub use relay::{Key, rejoin, split, tell};
 pub use settling::Settler;
 pub use tie::turn_flusher_once;
-pub use witness::{HeardBy, NoWitness, Witness};
+pub use witness::{Failed, HeardBy, NoWitness, Witness};

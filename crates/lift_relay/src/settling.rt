@@ -14,7 +14,7 @@ ghost use Rattle.lift_relay.specs.Settler.{SettlesBatch};
 
 use crate::batch::Batch;
 use crate::held::HeldClerk;
-use crate::witness::{HeardBy, Witness};
+use crate::witness::{HeardBy, Witness, tell_of};
 use arrayvec::ArrayVec;
 use lift_base::{Reply, Terminal};
 use lift_clerk::Clerk;
@@ -123,15 +123,6 @@ fn commit_nothing<D: Disk>(writer: &mut Writer<'_, D>) -> Result<FlushCounts, Ke
             answers: 0,
         }),
         Err(fault) => Err(fault),
-    }
-}
-
-/// Tells the witness where the writer is broken now, as it wasn't before.
-pub(crate) fn tell_of<V: Witness>(witness: &mut V, was_broken: bool, is_broken: bool)
-    ensures { FailureHeard V.hears was_broken is_broken witness.old witness.new }
-{
-    if is_broken && !was_broken {
-        witness.has_failed();
     }
 }
 

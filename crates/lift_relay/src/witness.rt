@@ -1,5 +1,14 @@
 //! Who is told that the device fails, when it does.
 
+ghost use Rattle.lift_relay.specs.Heard.{FailureHeard};
+
+/// That a device has just failed, as it hadn't since it was last opened. Only this file makes one, in
+/// which no call waits: so whoever waits with a witness can't tell it of a failure.
+#[derive(Drop)]
+pub struct Failed {
+    made: (),
+}
+
 /// Is told when a device fails, in the very call in which it does.
 pub trait Witness {
     // It was told.
@@ -7,7 +16,7 @@ pub trait Witness {
 
     /// A call of the device has just failed, as none had before since it was last opened. So a device
     /// that stays broken is told once.
-    fn has_failed(&mut self)
+    fn has_failed(&mut self, failed: Failed)
         ensures { hears self.old self.new };
 }
 
@@ -20,5 +29,14 @@ pub trait HeardBy<V: Witness> {}
 pub struct NoWitness;
 
 impl Witness for NoWitness {
-    fn has_failed(&mut self) {}
+    fn has_failed(&mut self, _failed: Failed) {}
+}
+
+/// Tells the witness where the writer is broken now, as it wasn't before.
+pub(crate) fn tell_of<V: Witness>(witness: &mut V, was_broken: bool, is_broken: bool)
+    ensures { FailureHeard V.hears was_broken is_broken witness.old witness.new }
+{
+    if is_broken && !was_broken {
+        witness.has_failed(Failed { made: () });
+    }
 }

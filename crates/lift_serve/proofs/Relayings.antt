@@ -1,6 +1,6 @@
 -- What a run of both parts leaves for the clerk of them.
 use Rattle.std.proofs.Common.{◌≡◌, ◌≢◌, ℕ, ◌⊎◌, inl, inr, ◌||◌, true, List, [], ◌++◌, Option, Some, None, refl, sym, ap, subst, ◌∙◌}
-use Rattle.std.specs.Prelude.{is_err, Result, Ok, Err, IfSome, IsSome}
+use Rattle.std.specs.Prelude.{is_err, Result, Ok, Err, IfSome, IsErr, IsSome}
 use Rattle.std.proofs.Math.Logic.{∥∥₁_map}
 use Rattle.lift_base.specs.declared.history.Entry.{Entry}
 use Rattle.lift_disk.specs.Disk.{DiskState}
@@ -30,12 +30,10 @@ use Rattle.lift_parts.specs.Parts.{AreParts, AreOfOne}
 use Rattle.lift_parts.specs.Turns.{AllocatorTurns, NoMore, FlusherTurns, NoFlush, OneFlush, first_of}
 use Rattle.lift_parts.specs.lemmas.Paired.{same_allocator, turns_joined, flushes_joined}
 use Rattle.lift_serve.specs.declared.serving.ServeFault.{ServeFault}
-use Rattle.lift_serve.specs.declared.serving.ServeFault.TheVariants.{Network, Thread, Memory}
-use Rattle.lift_serve.specs.declared.lacks.Lack.{Lack}
-use Rattle.lift_serve.specs.declared.lacks.Lack.TheVariants.{Thread as NoThread, Memory as NoMemory}
+use Rattle.lift_serve.specs.declared.serving.ServeFault.TheVariants.{Thread}
 use Rattle.std.specs.declared.net.tcp.TcpListener.{TcpListener as Listener}
-use Rattle.lift_serve.specs.Open.{AreEndedAt, EndedState, IsEndAt, ended_in, given_up_for}
-use Rattle.lift_serve.specs.Relaying.{ComeOf, HaveRunOn, IsLastTurn, KeptRelay, Relayed, first_told, has_failed, told, undone}
+use Rattle.lift_serve.specs.Open.{AreEndedAt, EndedState, IsEndAt, ended_in, told_behind}
+use Rattle.lift_serve.specs.Relaying.{ComeOf, HaveRunOn, IsLastTurn, KeptRelay, Relayed, has_failed}
 
 abbrev is_spawn : Option RunFault → Type 0
 is_spawn None = ⊥
@@ -233,42 +231,21 @@ pub come_on : {D P : Type 0} (chooses : P → Choice) (state : D → DiskState) 
 come_on chooses state clerk a b f g fault come refused ran = ∥∥₁_map come (come_by chooses state clerk a b f g fault refused ran)
 
 -- that no thread could be made for the serving itself is told, whatever else there was
-pub tells_spawn : (fault : Option RunFault) (own rest : Option Lack) (is_told : Option ServeFault) → own ≡ undone fault
-    → is_told ≡ told (first_told own rest) → fault ≡ Some (Spawn tt) → is_told ≡ Some Thread
-tells_spawn fault own rest is_told is says spawn =
-    says ∙ ap (λ (o : Option Lack). told (first_told o rest)) (is ∙ ap undone spawn)
+pub tells_spawn : (over : Result EndedState (Unit {0})) (first is_told : Option ServeFault) → is_told ≡ told_behind over first → IsErr over → is_told ≡ Some Thread
+tells_spawn (Ok ended) first is_told says given_up = absurd (cc)
+tells_spawn (Err given_up) first is_told says over = says
 
-abbrev is_network : Option ServeFault → Type 0
-is_network None = ⊥
-is_network (Some Network) = Unit {0}
-is_network (Some Thread) = ⊥
-is_network (Some Memory) = ⊥
-
-told_no_network : (lack : Option Lack) → told lack ≢ Some Network
-told_no_network None is = subst is_network (sym is) tt
-told_no_network (Some NoThread) is = subst is_network (sym is) tt
-told_no_network (Some NoMemory) is = subst is_network (sym is) tt
-
--- what was wanting is never told as the socket's fault
-pub tells_no_network : (lack : Option Lack) (is_told : Option ServeFault) → is_told ≡ told lack → is_told ≢ Some Network
-tells_no_network lack is_told says is = told_no_network lack (sym says ∙ is)
+-- that connections have ended is told where so many have,
+pub ended_so : (over : Result EndedState (Unit {0})) (ended : Option EndedState) (listener : Listener) (sessions : ℕ) → IsEndAt listener sessions over → ended ≡ ended_in over → IfSome ended (AreEndedAt listener sessions)
+ended_so (Ok over) ended listener sessions at_end is = subst (λ (e : Option EndedState). IfSome e (AreEndedAt listener sessions)) (sym is) at_end
+ended_so (Err given_up) ended listener sessions at_end is = subst (λ (e : Option EndedState). IfSome e (AreEndedAt listener sessions)) (sym is) tt
 
 abbrev is_told_of : Option ServeFault → Type 0
 is_told_of None = ⊥
 is_told_of (Some fault) = Unit {0}
 
-told_of_it : (lack : Lack) → told (Some lack) ≢ None
-told_of_it NoThread is = subst is_told_of is tt
-told_of_it NoMemory is = subst is_told_of is tt
-
--- that connections have ended is told where so many have,
-pub ended_so : (over : Result EndedState Lack) (ended : Option EndedState) (listener : Listener) (sessions : ℕ) → IsEndAt listener sessions over → ended ≡ ended_in over → IfSome ended (AreEndedAt listener sessions)
-ended_so (Ok over) ended listener sessions at_end is = subst (λ (e : Option EndedState). IfSome e (AreEndedAt listener sessions)) (sym is) at_end
-ended_so (Err lack) ended listener sessions at_end is = subst (λ (e : Option EndedState). IfSome e (AreEndedAt listener sessions)) (sym is) tt
-
 -- and where nothing is told as the fault
-pub all_ended : (own rest : Option Lack) (over : Result EndedState Lack) (fault : Option ServeFault) (ended : Option EndedState) → fault ≡ told (first_told own (first_told (given_up_for over) rest)) → ended ≡ ended_in over
+pub all_ended : (over : Result EndedState (Unit {0})) (first fault : Option ServeFault) (ended : Option EndedState) → fault ≡ told_behind over first → ended ≡ ended_in over
     → fault ≡ None → IsSome ended
-all_ended (Some lack) rest over fault ended says is none = absurd (told_of_it lack (sym says ∙ none))
-all_ended None rest (Err lack) fault ended says is none = absurd (told_of_it lack (sym says ∙ none))
-all_ended None rest (Ok over) fault ended says is none = subst (λ (e : Option EndedState). IsSome e) (sym is) refl
+all_ended (Err given_up) first fault ended says is none = absurd (subst is_told_of (sym says ∙ none) tt)
+all_ended (Ok over) first fault ended says is none = subst (λ (e : Option EndedState). IsSome e) (sym is) refl

@@ -2,15 +2,17 @@
 use Rattle.std.specs.Prelude.{ℕ, ◌≡◌, ◌≤◌, ◌⊎◌, suc, List, Option, Some, None, IsSome, IfOk, Result}
 use Rattle.std.specs.Prelude.{Ok, Err, if◌then◌else◌, nat_lt}
 use Rattle.std.specs.declared.net.tcp.TcpListener.{TcpListener as Listener}
-use Rattle.lift_serve.specs.declared.lacks.Lack.{Lack}
+use Rattle.lift_serve.specs.declared.serving.ServeFault.{ServeFault}
+use Rattle.lift_serve.specs.declared.serving.ServeFault.TheVariants.{Thread}
 
--- the numbers of the open connections, the next number, how many have ended, and what was wanting
--- where all were given up
+-- the numbers of the open connections, the next number, how many have ended, whether all were given
+-- up, and what was wanting first
 pub record OpenState : Type 0 where
   pub numbers : List ℕ
   pub next : ℕ
   pub ended : ℕ
-  pub given_up : Option Lack
+  pub given_up : Option (Unit {0})
+  pub lacked : Option ServeFault
 
 -- at this socket, so many connections
 pub record EndedState : Type 0 where
@@ -30,15 +32,21 @@ abbrev pub AreEndedAt : Listener → ℕ → EndedState → Type 0
 AreEndedAt listener sessions ended = ended ≡ record { listener = listener; sessions = sessions }
 
 -- The accepting is over: so many connections at this socket have ended, unless all were given up.
-abbrev pub IsEndAt : Listener → ℕ → Result EndedState Lack → Type 0
+abbrev pub IsEndAt : Listener → ℕ → Result EndedState (Unit {0}) → Type 0
 IsEndAt listener sessions over = IfOk over (AreEndedAt listener sessions)
 
--- what was wanting where all were given up
-abbrev pub given_up_for : Result EndedState Lack → Option Lack
-given_up_for (Ok ended) = None
-given_up_for (Err lack) = Some lack
-
--- that they have ended, where they were not
-abbrev pub ended_in : Result EndedState Lack → Option EndedState
+-- that they have ended, where they were not given up
+abbrev pub ended_in : Result EndedState (Unit {0}) → Option EndedState
 ended_in (Ok ended) = Some ended
-ended_in (Err lack) = None
+ended_in (Err given_up) = None
+
+-- the first of two, if there is one
+abbrev pub first_told : {T : Type 0} → (before behind : Option T) → Option T
+first_told None behind = behind
+first_told (Some lack) behind = Some lack
+
+-- what is told of a serving whose accepting was over so: that no thread could be had for the serving
+-- itself, and else what was wanting first
+abbrev pub told_behind : Result EndedState (Unit {0}) → (first : Option ServeFault) → Option ServeFault
+told_behind (Ok ended) first = first
+told_behind (Err given_up) first = Some Thread

@@ -25,9 +25,6 @@ use Rattle.lift_parts.specs.Keeping.{HaveKept}
 use Rattle.lift_parts.specs.Parts.{AreOfOne, AreParts, IsRejoined}
 use Rattle.lift_serve.specs.declared.serving.ServeFault.{ServeFault}
 use Rattle.lift_serve.specs.declared.serving.ServeFault.TheVariants.{Network, Thread, Memory}
-use Rattle.lift_serve.specs.declared.lacks.Lack.{Lack}
-use Rattle.lift_serve.specs.declared.lacks.Lack.TheVariants.{Thread as NoThread}
-use Rattle.lift_serve.specs.declared.lacks.Lack.TheVariants.{Memory as NoMemory}
 
 -- Turns of both parts, and nothing else, have led here from a clerk that was split. It began at a
 -- new desk, where it had taken and answered nothing.
@@ -84,23 +81,6 @@ abbrev pub has_failed : Option RunFault → Bool
 has_failed None = false
 has_failed (Some (Spawn no_thread)) = false
 has_failed (Some (Keeper fault)) = true
-
--- what a run by itself is undone for: that no thread could be made
-abbrev pub undone : Option RunFault → Option Lack
-undone None = None
-undone (Some (Keeper fault)) = None
-undone (Some (Spawn no_thread)) = Some NoThread
-
--- the first of two, if there is one
-abbrev pub first_told : {T : Type 0} → (before behind : Option T) → Option T
-first_told None behind = behind
-first_told (Some lack) behind = Some lack
-
--- how a lack is told
-abbrev pub told : Option Lack → Option ServeFault
-told None = None
-told (Some NoThread) = Some Thread
-told (Some NoMemory) = Some Memory
 
 -- The clerk was split, its parts ran, each on a thread of its own, or came to this fault, and the
 -- clerk of both turned once more. The keeper is broken at the end exactly where a turn of the

@@ -1,17 +1,19 @@
 //! The connections that are open, and how many have ended. How many are to end is not known here:
 //! who asks says it, so that what a lock holds can't be of another number.
 
-ghost use Rattle.std.specs.Prelude.{◌≡◌, ◌≤◌, ℕ, ◌+◌, ◌%◌, ◌^◌, ◌∷◌, ◌++◌, [], Ok, Some, true, is_err};
-ghost use Rattle.std.specs.Prelude.{IfOk, IfErr, IfSome, IsSome, IsTrue, ◌↔◌, not, ◌==◌, filter};
-ghost use Rattle.lift_serve.specs.Open.{AreOver, IsEndAt, one_more};
+ghost use Rattle.std.specs.Prelude.{◌≡◌, ◌≤◌, ℕ, ◌+◌, ◌%◌, ◌^◌, ◌∷◌, ◌++◌, [], None, Some};
+ghost use Rattle.std.specs.Prelude.{IfOk, IfErr, IfSome, IfNone, IsErr, IsSome, IsTrue, OnErr, ◌↔◌};
+ghost use Rattle.std.specs.Prelude.{not, ◌==◌, filter};
+ghost use Rattle.lift_serve.specs.Open.{AreOver, IsEndAt, first_told, one_more};
 
 use crate::attending::Attended;
-use crate::lacks::{Lack, Lacked, Lacking, Noted, push};
+use crate::lacks::{GivenUp, Lacking, Lacks, push};
+use crate::serving::ServeFault;
 use crate::shared::Shared;
-use crate::socket::{Arrival, Closer, Socket};
+use crate::socket::{Arrival, Closer, Listening, ListeningCloser, Socket};
 use std::alloc::Global;
 use std::marker::Model;
-use std::net::{Shutdown, TcpListener, TcpStream};
+use std::net::Shutdown;
 use std::snapshot::Snapshot;
 use std::sync::Wait;
 use std::sync::atomic::{AtomicBool, Ordering};
@@ -78,7 +80,7 @@ impl Connection {
         alloc: Global,
         shared: Shared<'_, 'd>,
     ) -> Result<Attended<'d>, Lacking>
-        ensures lack { IfErr result (λ lacking. lacking.what ≡ Lack.Memory) }
+        ensures lack { IfErr result (λ lacking. lacking ≡ ServeFault.Memory) }
     {
         let Connection { ticket, socket } = self;
         socket.attended(rt, alloc, shared, ticket)
@@ -115,20 +117,11 @@ impl Awaited {
 
     /// The end was counted.
     pub(crate) fn counted(self, left: Left)
-        requires { left.number ≡ self }
+        requires { left ≡ self }
     {
         let Awaited { number: _ } = self;
         let _used = left;
     }
-}
-
-/// Why a connection has ended.
-#[derive(Drop)]
-pub(crate) enum Ending<'d> {
-    /// It was attended to.
-    Attended(Attended<'d>),
-    /// Something was wanting for it.
-    Lacking(Noted),
 }
 
 /// That the end of the connection of this number was counted. Only `leave` makes one.
@@ -137,12 +130,20 @@ pub(crate) struct Left {
     number: u64,
 }
 
+impl Model for Left {
+    ghost use Rattle.std.specs.Prelude.{ℕ};
+
+    ghost Value = { ℕ };
+
+    ghost view = { λ l. l.number };
+}
+
 /// That so many connections at this socket have ended. Only `Connections` makes one, which has
 /// counted them.
 #[derive(Drop)]
 pub struct Ended {
     connections: Snapshot<Connections>,
-    listener: Snapshot<TcpListener>,
+    listener: Snapshot<Listening>,
     sessions: u32,
     ghost counted: { sessions ≤ connections.value.ended },
 }
@@ -156,18 +157,38 @@ impl Model for Ended {
 }
 
 /// That no more connections are accepted: all have ended that were to end, or all were given up.
-pub(crate) type Over = Result<Ended, Lacked>;
+pub(crate) type Over = Result<Ended, GivenUp>;
 
-/// The connections that are open, and how many have ended. Contracts see the numbers of those that
-/// are open, the next number, how many have ended, and what was wanting where all were given up.
+/// Whether connections are still read. Only `Connections` ends that, after the last end that counts.
 #[derive(Drop)]
+pub(crate) struct Reading {
+    is_over: AtomicBool,
+}
+
+impl Reading {
+    /// They are.
+    pub(crate) fn new() -> Self {
+        Reading {
+            is_over: AtomicBool::new(false),
+        }
+    }
+
+    /// Nothing more is read.
+    pub(crate) fn is_over(&self) -> bool {
+        self.is_over.load(Ordering::SeqCst)
+    }
+}
+
+/// The connections that are open, how many have ended, and what was wanting first. Contracts see the
+/// numbers of those that are open, the next number, how many have ended, whether all were given up,
+/// and what was wanting. They can't be let go: what comes of the serving tells it.
 pub struct Connections {
     open: Vec<Open>,
     next: u64,
     ended: u32,
-    given_up: Option<Lacked>,
-    /// A view of the listening socket.
-    listening: TcpStream,
+    given_up: Option<GivenUp>,
+    lacks: Lacks,
+    listening: ListeningCloser,
 }
 
 impl Model for Connections {
@@ -181,25 +202,33 @@ impl Model for Connections {
       next = c.next;
       ended = c.ended;
       given_up = c.given_up;
+      lacked = c.lacks;
     } };
 }
 
 impl Connections {
     /// None is open, and none has ended.
-    pub fn new(alloc: Global, listening: TcpStream) -> Self
-        ensures { result ≡ record { numbers = []; next = 0; ended = 0; given_up = None } }
+    pub fn new(alloc: Global, listening: ListeningCloser) -> Self
+        ensures { result ≡ record {
+          numbers = [];
+          next = 0;
+          ended = 0;
+          given_up = None;
+          lacked = None;
+        } }
     {
         Connections {
             open: Vec::new(alloc),
             next: 0,
             ended: 0,
             given_up: None,
+            lacks: Lacks::new(),
             listening,
         }
     }
 
     /// Whether so many have ended at this socket, or all were given up.
-    pub(crate) fn is_over(&self, listener: &TcpListener, sessions: u32) -> Option<Over>
+    pub(crate) fn is_over(&self, listener: &Listening, sessions: u32) -> Option<Over>
         ensures over { IsSome result ↔ AreOver sessions self.now }
         ensures ended { IfSome result (IsEndAt listener.now sessions) }
     {
@@ -207,13 +236,13 @@ impl Connections {
             return Some(Ok(self.all_ended(listener, sessions)));
         }
         match self.given_up {
-            Some(lacked) => Some(Err(lacked)),
+            Some(given_up) => Some(Err(given_up)),
             None => None,
         }
     }
 
     /// So many have ended.
-    fn all_ended(&self, listener: &TcpListener, sessions: u32) -> Ended
+    fn all_ended(&self, listener: &Listening, sessions: u32) -> Ended
         requires { sessions ≤ self.now.ended }
         ensures { result ≡ record { listener = listener.now; sessions = sessions } }
     {
@@ -231,73 +260,119 @@ impl Connections {
         self.open.is_empty()
     }
 
-    /// A connection is open from now on, by the number of its ticket. Nobody is let in where so many
-    /// have ended, or all were given up.
+    /// Somebody who came is let in: a connection is open from now on, by the number of its ticket.
+    /// Nobody is where so many have ended, or all were given up; and where memory is wanting for it,
+    /// that is noted, and the connection has ended.
     pub(crate) fn enter(
         &mut self,
         alloc: Global,
-        listener: &TcpListener,
+        listener: &Listening,
         sessions: u32,
+        reading: &Reading,
         arrival: Arrival,
-    ) -> Result<Result<(Connection, Awaited), Over>, Lacking>
-        ensures over { AreOver sessions self.old → IfOk result (λ entered. is_err entered ≡ true) }
-        ensures lacks { IfErr result (λ _. ¬ AreOver sessions self.old) }
-        ensures let_in { IfOk result (λ entered. IfOk entered (λ came. (came.0 ≡ self.old.next)
-            × (self.new ≡ record self.old {
+    ) -> Result<Option<(Connection, Awaited)>, Over>
+        ensures over { IsErr result ↔ AreOver sessions self.old }
+        ensures left_out { OnErr result (self.new ≡ self.old) }
+        ensures ended { IfErr result (IsEndAt listener.now sessions) }
+        ensures let_in { IfOk result (λ entered. IfSome entered (λ came. (came.0 ≡ self.old.next)
+            × (came.1 ≡ came.0) × (self.new ≡ record self.old {
               numbers = self.old.numbers ++ came.0 ∷ [];
               next = (self.old.next + 1) % 2 ^ 64;
             }))) }
-        ensures awaited { IfOk result (λ entered. IfOk entered (λ came. came.1 ≡ came.0)) }
-        ensures left_out { IfOk result (λ entered. IfErr entered (λ over.
-            AreOver sessions self.old × (self.new ≡ self.old))) }
-        ensures ended { IfOk result (λ entered. IfErr entered (IsEndAt listener.now sessions)) }
-        ensures unchanged { IfErr result (λ _. self.new ≡ self.old) }
-        ensures lack { IfErr result (λ lacking. lacking.what ≡ Lack.Memory) }
+        ensures refused { IfOk result (λ entered. IfNone entered (self.new ≡ record self.old {
+          ended = one_more sessions self.old.ended;
+          lacked = first_told self.old.lacked (Some ServeFault.Memory);
+        })) }
     {
         if let Some(over) = self.is_over(listener, sessions) {
             arrival.close(&over);
-            return Ok(Err(over));
+            return Err(over);
         }
+        match self.admit(alloc, arrival) {
+            Ok(entered) => Ok(Some(entered)),
+            Err(lacking) => {
+                self.lacks.note(lacking);
+                self.ended(sessions, reading);
+                Ok(None)
+            }
+        }
+    }
+
+    /// Whoever came has a connection from now on.
+    fn admit(&mut self, alloc: Global, arrival: Arrival) -> Result<(Connection, Awaited), Lacking>
+        ensures let_in { IfOk result (λ came. (came.0 ≡ self.old.next)
+            × (self.new ≡ record self.old {
+              numbers = self.old.numbers ++ came.0 ∷ [];
+              next = (self.old.next + 1) % 2 ^ 64;
+            })) }
+        ensures awaited { IfOk result (λ came. came.1 ≡ came.0) }
+        ensures unchanged { OnErr result (self.new ≡ self.old) }
+        ensures lack { IfErr result (λ lacking. lacking ≡ ServeFault.Memory) }
+    {
         let number = self.next;
         let (socket, closer) = arrival.open(alloc)?;
         push(&mut self.open, Open { number, closer })?;
         self.next = number.wrapping_add(1);
         let ticket = Ticket { number };
-        Ok(Ok((Connection { ticket, socket }, Awaited { number })))
+        Ok((Connection { ticket, socket }, Awaited { number }))
     }
 
-    /// The connection of this number has ended, and so, where so many are to end.
+    /// The connection of this number has ended, which was attended to.
     pub(crate) fn leave(
         &mut self,
         sessions: u32,
-        turned_away: &AtomicBool,
+        reading: &Reading,
         number: u64,
-        ending: Ending<'_>,
+        attended: Attended<'_>,
     ) -> Left
         ensures left { self.new ≡ record self.old {
           numbers = filter (λ n.
               not (n == number)) self.old.numbers;
           ended = one_more sessions self.old.ended;
         } }
-        ensures number { result.number ≡ number }
+        ensures number { result ≡ number }
     {
-        let _used = ending;
-        self.open.retain(|open| open.number != number);
-        self.ended(sessions, turned_away);
-        Left { number }
+        let _used = attended;
+        self.remove(sessions, reading, number)
     }
 
-    /// A connection that was not let in has ended, for which something was wanting.
-    pub(crate) fn refuse(&mut self, sessions: u32, turned_away: &AtomicBool, noted: Noted)
-        ensures { self.new ≡ record self.old { ended = one_more sessions self.old.ended } }
+    /// The connection of this number has ended, for which this was wanting.
+    pub(crate) fn leave_unattended(
+        &mut self,
+        sessions: u32,
+        reading: &Reading,
+        number: u64,
+        lacking: Lacking,
+    ) -> Left
+        ensures left { self.new ≡ record self.old {
+          numbers = filter (λ n.
+              not (n == number)) self.old.numbers;
+          ended = one_more sessions self.old.ended;
+          lacked = first_told self.old.lacked (Some lacking);
+        } }
+        ensures number { result ≡ number }
     {
-        let _used = noted;
-        self.ended(sessions, turned_away);
+        self.lacks.note(lacking);
+        self.remove(sessions, reading, number)
+    }
+
+    /// The connection of this number is open no more, and its end is counted.
+    fn remove(&mut self, sessions: u32, reading: &Reading, number: u64) -> Left
+        ensures left { self.new ≡ record self.old {
+          numbers = filter (λ n.
+              not (n == number)) self.old.numbers;
+          ended = one_more sessions self.old.ended;
+        } }
+        ensures number { result ≡ number }
+    {
+        self.open.retain(|open| open.number != number);
+        self.ended(sessions, reading);
+        Left { number }
     }
 
     /// One connection more has ended. After the last one that is to end no more are accepted, and
     /// nothing more is read from the others.
-    fn ended(&mut self, sessions: u32, turned_away: &AtomicBool)
+    fn ended(&mut self, sessions: u32, reading: &Reading)
         ensures { self.new ≡ record self.old { ended = one_more sessions self.old.ended } }
     {
         if self.ended >= sessions {
@@ -305,24 +380,24 @@ impl Connections {
         }
         self.ended += 1;
         if self.ended == sessions {
-            self.turn_away(turned_away);
+            self.turn_away(reading);
         }
     }
 
-    /// No more are to end, for what was wanting: as after the last one that was to.
-    pub fn give_up(&mut self, turned_away: &AtomicBool, lacked: Lacked)
-        ensures { self.new ≡ record self.old { given_up = Some lacked } }
+    /// No more are to end: as after the last one that was to.
+    pub(crate) fn give_up(&mut self, reading: &Reading, given_up: GivenUp)
+        ensures { self.new ≡ record self.old { given_up = Some given_up } }
     {
-        self.given_up = Some(lacked);
-        self.turn_away(turned_away);
+        self.given_up = Some(given_up);
+        self.turn_away(reading);
     }
 
     /// No more are accepted, and nothing more is read from those that are open: who waits for a line
     /// finds the end, and the others look at this before each read.
-    fn turn_away(&self, turned_away: &AtomicBool) {
-        turned_away.store(true, Ordering::SeqCst);
+    fn turn_away(&self, reading: &Reading) {
+        reading.is_over.store(true, Ordering::SeqCst);
         self.shut(Shutdown::Read);
-        let _closed = self.listening.shutdown(Shutdown::Both);
+        self.listening.shut();
     }
 
     /// Shuts down all that are open, that way.
@@ -332,8 +407,23 @@ impl Connections {
         }
     }
 
-    /// Closes all that are open, whatever they wait for.
-    pub fn close(&self) {
+    /// Closes all that are open, whatever they wait for: no more are accepted.
+    pub(crate) fn close(&self, _over: &Over) {
         self.shut(Shutdown::Both);
+    }
+
+    /// What was wanting.
+    pub(crate) fn into_lacks(self) -> Lacks
+        ensures { result ≡ self.lacked }
+    {
+        let Connections {
+            open: _,
+            next: _,
+            ended: _,
+            given_up: _,
+            lacks,
+            listening: _,
+        } = self;
+        lacks
     }
 }

@@ -1,7 +1,7 @@
 //! What is wanting in a serving: it is known only from the call that was refused it.
 
 ghost use Rattle.std.specs.Prelude.{◌≡◌, ◌≢◌, ◌≤◌, ◌++◌, ◌∷◌, [], None, Some, OnOk, OnErr};
-ghost use Rattle.std.specs.Prelude.{IfOk, IfErr, List, Result, length};
+ghost use Rattle.std.specs.Prelude.{IfOk, IfErr, IsSome, List, Result, length, ◌↔◌};
 ghost use Rattle.lift_desk.specs.Seats.{AreSeatsOf, IsClerkOf, OwesNothing, clerk_of, seats_from};
 ghost use Rattle.lift_base.specs.declared.history.Entry.{Entry};
 ghost use Rattle.lift_register.specs.Register.{RegisterState};
@@ -12,43 +12,32 @@ ghost use Rattle.lift_parts.specs.Flusher.{IsFlusher};
 ghost use Rattle.lift_parts.specs.History.{group_behind};
 ghost use Rattle.lift_parts.specs.Parts.{AreParts};
 ghost use Rattle.lift_relay.specs.Heard.{FailureHeard};
-ghost use Rattle.lift_serve.specs.Open.{EndedState, IsEndAt, ended_in, given_up_for};
-ghost use Rattle.lift_serve.specs.Relaying.{HaveRunOn, first_told, told, undone};
+ghost use Rattle.lift_serve.specs.declared.serving.ServeFault.{ServeFault};
+ghost use Rattle.lift_serve.specs.Open.{EndedState, IsEndAt, ended_in, first_told, told_behind};
 
 use crate::connections::{Awaited, Left, Over};
+use crate::pager::Pager;
 use crate::relaying::Parts;
+use crate::seating::TERMINALS;
 use crate::serving::{ServeFault, Served, unserved};
+use crate::socket::{Listening, ListeningCloser};
+use lift_base::two_owners;
 use lift_desk::{Desk, DeskParts};
 use lift_disk::Disk;
 use lift_policy::Policy;
-use lift_relay::{
-    Allocator, Flusher, Gate, HeardBy, HeldClerk, HeldKeeper, RunFault, Witness, run, split_held,
-};
+use lift_relay::{Allocator, Flusher, HeldClerk, HeldKeeper, RunFault, Witness, split_held};
 use std::alloc::Global;
 use std::io::{BufReader, Read};
 use std::marker::Model;
-use std::net::TcpListener;
+use std::net::TcpStream;
 use std::snapshot::Snapshot;
-use std::sync::{Arc, Wait};
-use std::thread::{Promise, PromisedHandle, Scope, Threads};
+use std::sync::Arc;
+use std::thread::{Promise, PromisedHandle, Scope};
 
-/// What is wanting.
-#[derive(Clone, Copy)]
-pub enum Lack {
-    /// A thread couldn't be started.
-    Thread,
-    /// A growth was refused.
-    Memory,
-}
+/// How much is read of a connection at once, in bytes.
+const AHEAD: usize = 512;
 
-/// That something is wanting. Only the calls below that were refused it make one. It can't be let
-/// go: it is noted, or it ends the whole serving, whose keeper or parts that takes.
-pub struct Lacking {
-    what: Lack,
-}
-
-/// That a serving was refused something. Only the calls below that were refused it make one, and
-/// what was noted of them.
+/// That a serving was refused something. Only the calls below that were refused it make one.
 #[derive(Clone, Copy)]
 pub struct Refusal {
     fault: ServeFault,
@@ -73,152 +62,96 @@ impl Refusal {
     }
 }
 
-/// How a lack is told.
-fn fault_of(lack: Lack) -> ServeFault
-    ensures { Some result ≡ told (Some lack) }
-{
-    match lack {
-        Lack::Thread => ServeFault::Thread,
-        Lack::Memory => ServeFault::Memory,
-    }
+/// That a thread or memory is wanting. Only the calls below that were refused it make one, of which
+/// none asks for more than the serving has a use for. It can't be let go: it is noted, or it is told
+/// and nobody is served.
+pub struct Lacking {
+    refusal: Refusal,
+    ghost begun: { refusal ≢ ServeFault.Network },
 }
 
-/// How it is told whether something was wanting.
-fn told_of(lack: Option<Lack>) -> Option<Refusal>
-    ensures { result ≡ told lack }
-{
-    match lack {
-        Some(lack) => Some(Refusal {
-            fault: fault_of(lack),
-        }),
-        None => None,
-    }
+impl Model for Lacking {
+    ghost use Rattle.lift_serve.specs.declared.serving.ServeFault.{ServeFault};
+
+    ghost Value = { ServeFault };
+
+    ghost view = { λ l. l.refusal };
 }
 
 impl Lacking {
     /// It is told.
-    fn told(self) -> Refusal
-        ensures { Some result ≡ told (Some self.what) }
+    pub(crate) fn told(self) -> Refusal
+        ensures { result ≡ self }
     {
-        let Lacking { what } = self;
-        Refusal {
-            fault: fault_of(what),
-        }
-    }
-
-    /// What is wanting.
-    pub(crate) fn lacked(&self) -> Lacked
-        ensures { result ≡ self.now.what }
-    {
-        Lacked { what: self.what }
-    }
-
-    /// Nobody is served, for this: the keeper and the witness as they are.
-    pub(crate) fn unserved<'b, D: Disk + Drop, K: Drop, V: Witness + Drop>(
-        self,
-        keeper: HeldKeeper<'b, D, K>,
-        witness: V,
-    ) -> Served<'b, D, K, V>
-        ensures keeper { result.keeper ≡ keeper.entry }
-        ensures heard { FailureHeard V.hears keeper.entry.writer.is_broken
-            result.keeper.writer.is_broken witness result.witness }
-        ensures fault { result.fault ≡ told (Some self.what) }
-        ensures undone { result.fault ≢ None }
-        ensures ended { result.ended ≡ None }
-    {
-        unserved(keeper, witness, self.told())
-    }
-
-    /// Both parts as they were, where no thread could be made before their run, of which this tells.
-    #[tactic(auto, using(crate::proofs::Relayings::not_run, lift_relay::specs::lemmas::Heard::heard_none))]
-    pub(crate) fn unrun<'d, 'b, D: Disk + Drop, P: Policy + Drop, K: Drop, V: Witness + Drop>(
-        self,
-        parts: Parts<'d, 'b, D, P, K, V>,
-    ) -> Parts<'d, 'b, D, P, K, V>
-        requires thread { self.what ≡ Lack.Thread }
-        ensures unrun { HaveRunOn (P.chooses parts.entry.allocator.policy) D.state
-            parts.entry.allocator result.allocator parts.entry.flusher result.flusher
-            (Some (RunFault.Spawn tt)) }
-        ensures told { result.refusal ≡ undone (Some (RunFault.Spawn tt)) }
-        ensures heard { FailureHeard V.hears parts.entry.flusher.writer.is_broken
-            result.flusher.writer.is_broken parts.entry.witness result.witness }
-    {
-        let Lacking { what } = self;
-        let lacked = Lacked { what };
-        let Parts {
-            allocator,
-            flusher,
-            clerk,
-            fault: _,
-            refusal: _,
-            witness,
-        } = parts;
-        Parts {
-            allocator,
-            flusher,
-            clerk,
-            fault: None,
-            refusal: Some(lacked),
-            witness,
-        }
+        let Lacking { refusal } = self;
+        refusal
     }
 }
 
-/// That something was wanting, as it is told. Only the calls below that were refused it make one.
-#[derive(Clone, Copy)]
-pub struct Lacked {
-    what: Lack,
-}
-
-impl Model for Lacked {
-    ghost use Rattle.lift_serve.specs.declared.lacks.Lack.{Lack};
-
-    ghost Value = { Lack };
-
-    ghost view = { λ l. l.what };
-
-    ghost inverse = { λ w. record { what = w } };
-}
-
-/// What was wanting, if anything was.
-fn what_of(lacked: Option<Lacked>) -> Option<Lack>
-    ensures { result ≡ lacked }
+/// A growth was refused.
+fn no_memory() -> Lacking
+    ensures { result ≡ ServeFault.Memory }
 {
-    match lacked {
-        Some(lacked) => Some(lacked.what),
-        None => None,
+    Lacking {
+        refusal: Refusal {
+            fault: ServeFault::Memory,
+        },
     }
 }
 
-/// That a lack was noted. Only `note` makes one.
-#[derive(Drop)]
-pub(crate) struct Noted {
-    what: Lack,
+/// A thread was refused.
+fn no_thread() -> Lacking
+    ensures { result ≡ ServeFault.Thread }
+{
+    Lacking {
+        refusal: Refusal {
+            fault: ServeFault::Thread,
+        },
+    }
 }
 
-/// The first of what was wanting to the rest of a serving, if anything was. Only `note` adds to it.
-/// It can't be let go: what comes of the serving ends it, which takes the keeper and tells it.
+/// That the serving itself was refused a thread, for the accepting or for the allocator: so all
+/// connections are given up. Only the calls below that were refused that thread make one.
+#[derive(Clone, Copy)]
+pub struct GivenUp {
+    made: (),
+}
+
+impl Model for GivenUp {
+    ghost Value = { Unit {0} };
+
+    ghost view = { λ _. tt };
+
+    ghost inverse = { λ _. record { made = tt } };
+}
+
+impl GivenUp {
+    /// What a run of both parts is given up for: that the allocator had no thread.
+    pub(crate) fn by(fault: Option<RunFault>) -> Option<Self>
+        ensures { IsSome result ↔ (fault ≡ Some (RunFault.Spawn tt)) }
+    {
+        match fault {
+            Some(RunFault::Spawn(_)) => Some(GivenUp { made: () }),
+            Some(RunFault::Keeper(_)) => None,
+            None => None,
+        }
+    }
+}
+
+/// The first of what was wanting to a serving, if anything was. Only `note` adds to it. It can't be
+/// let go: what comes of the serving ends it, which takes the keeper and tells it.
 pub struct Lacks {
-    first: Option<Lack>,
+    first: Option<Refusal>,
+    ghost begun: { first ≢ Some ServeFault.Network },
 }
 
 impl Model for Lacks {
     ghost use Rattle.std.specs.Prelude.{Option};
-    ghost use Rattle.lift_serve.specs.declared.lacks.Lack.{Lack};
+    ghost use Rattle.lift_serve.specs.declared.serving.ServeFault.{ServeFault};
 
-    ghost Value = { Option Lack };
+    ghost Value = { Option ServeFault };
 
     ghost view = { λ l. l.first };
-}
-
-/// The first of two lacks.
-fn first_of(before: Option<Lack>, behind: Option<Lack>) -> Option<Lack>
-    ensures { result ≡ first_told before behind }
-{
-    match before {
-        Some(lack) => Some(lack),
-        None => behind,
-    }
 }
 
 impl Lacks {
@@ -230,39 +163,38 @@ impl Lacks {
     }
 
     /// Keeps the first in mind.
-    pub(crate) fn note(&mut self, lacking: Lacking) -> Noted
-        ensures first { self.new ≡ first_told self.old (Some lacking.what) }
-        ensures noted { result.what ≡ lacking.what }
+    pub(crate) fn note(&mut self, lacking: Lacking)
+        ensures { self.new ≡ first_told self.old (Some lacking) }
     {
-        let Lacking { what } = lacking;
-        self.first = first_of(self.first, Some(what));
-        Noted { what }
+        let Lacking { refusal } = lacking;
+        if self.first.is_none() {
+            self.first = Some(refusal);
+        }
     }
 
-    /// What came of a serving with this keeper, whose accepting was over so. Told is what was refused
-    /// to it itself, and else why all were given up, and else the first of the rest. Where nothing
-    /// was wanting, all have ended that were to end.
+    /// What came of a serving with this keeper, whose accepting was over so. Told is that all were
+    /// given up, and else the first that was wanting. Where nothing was, all have ended that were to
+    /// end.
     pub(crate) fn behind<'b, D: Disk + Drop, K: Drop, V: Witness + Drop>(
         self,
-        own: Option<Lacked>,
         over: Over,
         keeper: HeldKeeper<'b, D, K>,
         witness: V,
     ) -> Served<'b, D, K, V>
         ensures keeper { result.keeper ≡ keeper.entry }
         ensures witness { result.witness ≡ witness }
-        ensures fault { result.fault ≡ told (first_told own (first_told (given_up_for over) self)) }
+        ensures fault { result.fault ≡ told_behind over self }
+        ensures begun { result.fault ≢ Some ServeFault.Network }
         ensures ended { result.ended ≡ ended_in over }
     {
         let Lacks { first } = self;
-        let (ended, given_up) = match over {
-            Ok(ended) => (Some(ended), None),
-            Err(lacked) => (None, Some(lacked)),
+        let (ended, fault) = match over {
+            Ok(ended) => (Some(ended), first),
+            Err(_) => (None, Some(no_thread().told())),
         };
-        let lack = first_of(what_of(own), first_of(what_of(given_up), first));
         Served {
             keeper,
-            fault: told_of(lack),
+            fault,
             ended,
             witness,
         }
@@ -279,57 +211,45 @@ impl Lacks {
         ensures keeper { result.keeper ≡ keeper.entry }
         ensures heard { FailureHeard V.hears keeper.entry.writer.is_broken
             result.keeper.writer.is_broken witness result.witness }
-        ensures fault { result.fault ≡ told (Some lacking.what) }
-        ensures undone { result.fault ≢ None }
+        ensures fault { result.fault ≡ Some lacking }
         ensures ended { result.ended ≡ None }
     {
         let Lacks { first: _ } = self;
-        lacking.unserved(keeper, witness)
+        unserved(keeper, witness, lacking.told())
     }
 }
 
-/// A value that threads share.
-pub(crate) fn share<T: Drop>(alloc: Global, value: T) -> Result<Arc<T>, Lacking>
-    ensures lack { IfErr result (λ lacking. lacking.what ≡ Lack.Memory) }
-{
-    match Arc::new(alloc, value) {
-        Ok(shared) => Ok(shared),
-        Err(_) => Err(Lacking { what: Lack::Memory }),
-    }
-}
-
-/// One more that has it.
-pub(crate) fn share_again<T>(shared: &Arc<T>) -> Result<Arc<T>, Lacking>
-    ensures lack { IfErr result (λ lacking. lacking.what ≡ Lack.Memory) }
-{
-    match Arc::try_clone(shared) {
-        Ok(again) => Ok(again),
-        Err(_) => Err(Lacking { what: Lack::Memory }),
-    }
-}
-
-/// A reader that reads so many bytes at once.
-pub(crate) fn read_ahead<I: Read + Drop>(
+/// Two that have a connection's stream.
+pub(crate) fn share(
     alloc: Global,
-    bytes: usize,
-    reader: I,
-) -> Result<BufReader<I>, Lacking>
-    ensures lack { IfErr result (λ lacking. lacking.what ≡ Lack.Memory) }
+    stream: TcpStream,
+) -> Result<(Arc<TcpStream>, Arc<TcpStream>), Lacking>
+    ensures lack { IfErr result (λ lacking. lacking ≡ ServeFault.Memory) }
 {
-    match BufReader::with_capacity(alloc, bytes, reader) {
-        Ok(ahead) => Ok(ahead),
-        Err(_) => Err(Lacking { what: Lack::Memory }),
+    match two_owners(alloc, stream) {
+        Ok(both) => Ok(both),
+        Err(_) => Err(no_memory()),
     }
 }
 
-/// A vector with room for so many.
-pub(crate) fn with_room<T: Drop>(alloc: Global, count: usize) -> Result<Vec<T>, Lacking>
-    ensures none { IfOk result (λ values. values.items ≡ []) }
-    ensures lack { IfErr result (λ lacking. lacking.what ≡ Lack.Memory) }
+/// A reader that reads 512 bytes at once.
+pub(crate) fn read_ahead<I: Read + Drop>(alloc: Global, reader: I) -> Result<BufReader<I>, Lacking>
+    ensures lack { IfErr result (λ lacking. lacking ≡ ServeFault.Memory) }
 {
-    match Vec::with_capacity(alloc, count) {
-        Ok(values) => Ok(values),
-        Err(_) => Err(Lacking { what: Lack::Memory }),
+    match BufReader::with_capacity(alloc, AHEAD, reader) {
+        Ok(ahead) => Ok(ahead),
+        Err(_) => Err(no_memory()),
+    }
+}
+
+/// A vector with room for a pager for each terminal that there can be.
+pub(crate) fn room_for_pagers(alloc: Global) -> Result<Vec<Pager>, Lacking>
+    ensures none { IfOk result (λ pagers. pagers.items ≡ []) }
+    ensures lack { IfErr result (λ lacking. lacking ≡ ServeFault.Memory) }
+{
+    match Vec::with_capacity(alloc, TERMINALS) {
+        Ok(pagers) => Ok(pagers),
+        Err(_) => Err(no_memory()),
     }
 }
 
@@ -337,11 +257,11 @@ pub(crate) fn with_room<T: Drop>(alloc: Global, count: usize) -> Result<Vec<T>, 
 pub(crate) fn push<T: Drop>(values: &mut Vec<T>, value: T) -> Result<(), Lacking>
     ensures pushed { OnOk result (values.new.items ≡ values.old.items ++ value ∷ []) }
     ensures unchanged { OnErr result (values.new.items ≡ values.old.items) }
-    ensures lack { IfErr result (λ lacking. lacking.what ≡ Lack.Memory) }
+    ensures lack { IfErr result (λ lacking. lacking ≡ ServeFault.Memory) }
 {
     match values.push(value) {
         Ok(()) => Ok(()),
-        Err(_) => Err(Lacking { what: Lack::Memory }),
+        Err(_) => Err(no_memory()),
     }
 }
 
@@ -349,12 +269,12 @@ pub(crate) fn push<T: Drop>(values: &mut Vec<T>, value: T) -> Result<(), Lacking
 /// this socket, or all were given up.
 #[derive(Drop)]
 pub(crate) struct EndAt {
-    listener: Snapshot<TcpListener>,
+    listener: Snapshot<Listening>,
     sessions: u32,
 }
 
 impl EndAt {
-    pub(crate) fn new(listener: &TcpListener, sessions: u32) -> Self
+    pub(crate) fn new(listener: &Listening, sessions: u32) -> Self
         ensures listener { result.listener.value ≡ listener.now }
         ensures sessions { result.sessions ≡ sessions }
     {
@@ -371,22 +291,29 @@ impl Promise<Over> for EndAt {
     ghost kept_by = { λ p over. IsEndAt p.listener.value p.sessions over };
 }
 
-/// A thread of a scope for the accepting, which returns once that is over.
-pub(crate) fn start_accepting<'s, E, F: FnOnce() -> Over + Send + Drop + 's>(
+/// A thread of a scope for the accepting, which returns once that is over. Who has both parts starts
+/// it beside them.
+pub(crate) fn start_accepting<'s, E, F, D, P, K, V>(
     scope: &Scope<'s, E>,
+    _parts: &Parts<'_, '_, D, P, K, V>,
     promise: EndAt,
     work: F,
-) -> Result<PromisedHandle<Over, EndAt>, Lacking>
+) -> Result<PromisedHandle<Over, EndAt>, GivenUp>
+where
+    F: FnOnce() -> Over + Send + Drop + 's,
+    D: Disk + Drop,
+    P: Policy + Drop,
+    K: Drop,
+    V: Witness + Drop,
     requires runs { F.pre work }
-    requires keeps { (over : Result EndedState Lack) → F.post work over
+    requires keeps { (over : Result EndedState (Unit {0})) → F.post work over
         → IsEndAt promise.listener.value promise.sessions over }
     ensures promised { IfOk result (λ child. child.promise ≡ promise) }
-    ensures lack { IfErr result (λ lacking. lacking.what ≡ Lack.Thread) }
 {
-    let Ok(child) = scope.spawn_with(promise, work) else {
-        return Err(Lacking { what: Lack::Thread });
-    };
-    Ok(child)
+    match scope.spawn_with(promise, work) {
+        Ok(child) => Ok(child),
+        Err(_) => Err(GivenUp { made: () }),
+    }
 }
 
 /// A thread of a scope for a connection that was let in, which returns once its end is counted.
@@ -397,21 +324,21 @@ pub(crate) fn start_session<'s, E, F: FnOnce() -> Left + Send + Drop + 's>(
 ) -> Result<(), (Awaited, Lacking)>
     requires { F.pre work }
     ensures back { IfErr result (λ refused. refused.0 ≡ awaited) }
-    ensures lack { IfErr result (λ refused. refused.1.what ≡ Lack.Thread) }
+    ensures lack { IfErr result (λ refused. refused.1 ≡ ServeFault.Thread) }
 {
     let Ok(child) = scope.spawn(work) else {
-        return Err((awaited, Lacking { what: Lack::Thread }));
+        return Err((awaited, no_thread()));
     };
     awaited.counted_by(child);
     Ok(())
 }
 
-/// A view of a listening socket.
-pub(crate) fn listen_again(listener: &TcpListener) -> Result<TcpListener, Refusal>
+/// What shuts a listening socket down.
+pub(crate) fn closer_of(listening: &Listening) -> Result<ListeningCloser, Refusal>
     ensures network { IfErr result (λ refusal. refusal ≡ ServeFault.Network) }
 {
-    match listener.try_clone() {
-        Ok(again) => Ok(again),
+    match listening.closer() {
+        Ok(closer) => Ok(closer),
         Err(_) => Err(Refusal {
             fault: ServeFault::Network,
         }),
@@ -427,11 +354,11 @@ pub(crate) fn open_desk(alloc: Global, terminals: usize) -> Result<DeskParts, La
     ensures clerk { IfOk result (λ parts. parts.clerk ≡ clerk_of parts.desk) }
     ensures clerk_at { IfOk result (λ parts. IsClerkOf parts.desk parts.clerk) }
     ensures owes { IfOk result (λ parts. OwesNothing parts.clerk) }
-    ensures lack { IfErr result (λ lacking. lacking.what ≡ Lack.Memory) }
+    ensures lack { IfErr result (λ lacking. lacking ≡ ServeFault.Memory) }
 {
     match Desk::open(alloc, terminals) {
         Ok(parts) => Ok(parts),
-        Err(_) => Err(Lacking { what: Lack::Memory }),
+        Err(_) => Err(no_memory()),
     }
 }
 
@@ -447,63 +374,10 @@ pub(crate) fn part<'d, 'b, D: Disk, P: Policy + Drop, K: Drop>(
         (given : List Taken) → History base (group_of clerk.entry) entries given
         → History base (group_behind parts.1) entries given) }
     ensures refused { IfErr result (λ back. back.0 ≡ clerk.entry) }
-    ensures lack { IfErr result (λ back. back.1.what ≡ Lack.Memory) }
+    ensures lack { IfErr result (λ back. back.1 ≡ ServeFault.Memory) }
 {
     match split_held(alloc, clerk) {
         Ok(parts) => Ok(parts),
-        Err((clerk, _)) => Err((clerk, Lacking { what: Lack::Memory })),
-    }
-}
-
-/// What a run by itself is undone for.
-fn undone_by(fault: &Option<RunFault>) -> Option<Lacked>
-    ensures { result ≡ undone fault.now }
-{
-    match fault {
-        Some(RunFault::Spawn(_)) => Some(Lacked { what: Lack::Thread }),
-        Some(RunFault::Keeper(_)) => None,
-        None => None,
-    }
-}
-
-/// Both parts run while the gate goes on, the flusher on this thread, and are given back behind the
-/// last batch.
-#[tactic(auto, using(crate::proofs::Relayings::come_on))]
-pub fn run_parts<'d, 'b, R, G, D, P, K, V>(
-    rt: &R,
-    gate: &G,
-    parts: Parts<'d, 'b, D, P, K, V>,
-) -> Parts<'d, 'b, D, P, K, V>
-where
-    R: Threads + Wait + Sync,
-    G: Gate + Sync,
-    D: Disk + Drop,
-    P: Policy + Drop + Send,
-    K: HeardBy<V> + Drop,
-    V: Witness + Drop,
-    ensures ran { HaveRunOn (P.chooses parts.entry.allocator.policy) D.state parts.entry.allocator
-        result.allocator parts.entry.flusher result.flusher result.fault }
-    ensures told { result.refusal ≡ undone result.fault }
-    // Where the device failed first in it, the witness heard of that, once.
-    ensures heard { FailureHeard V.hears parts.entry.flusher.writer.is_broken
-        result.flusher.writer.is_broken parts.entry.witness result.witness }
-{
-    let Parts {
-        mut allocator,
-        mut flusher,
-        clerk,
-        fault: _,
-        refusal: _,
-        witness,
-    } = parts;
-    let (witness, fault) = run(rt, &mut allocator, &mut flusher, gate, witness);
-    let refusal = undone_by(&fault);
-    Parts {
-        allocator,
-        flusher,
-        clerk,
-        fault,
-        refusal,
-        witness,
+        Err((clerk, _)) => Err((clerk, no_memory())),
     }
 }

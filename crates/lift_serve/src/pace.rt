@@ -2,11 +2,12 @@
 
 ghost use Rattle.std.specs.Prelude.{◌≡◌};
 
+use crate::connections::Over;
 use crate::pager::{Pager, Told};
 use lift_relay::Gate;
 use std::marker::Model;
 use std::sync::Wait;
-use std::sync::atomic::{AtomicU64, Ordering};
+use std::sync::atomic::{AtomicBool, AtomicU64, Ordering};
 use std::thread::Parker;
 use std::time::Duration;
 
@@ -87,6 +88,26 @@ impl AskBell {
     }
 }
 
+/// Whether both parts of a serving are to end, which they are once its accepting is over.
+#[derive(Drop)]
+pub struct Closing {
+    is_set: AtomicBool,
+}
+
+impl Closing {
+    /// They go on.
+    pub(crate) fn new() -> Self {
+        Closing {
+            is_set: AtomicBool::new(false),
+        }
+    }
+
+    /// They are to end.
+    pub(crate) fn set(&self, _over: &Over) {
+        self.is_set.store(true, Ordering::SeqCst);
+    }
+}
+
 /// What wakes the threads of a serving: the allocator's waits for asks, or for the flusher to go
 /// on; the flusher's for batches; a session's, at its terminal's pager, for its answer.
 #[derive(Drop)]
@@ -141,12 +162,12 @@ impl<'s> Bells<'s> {
     }
 }
 
-/// The gate of a serving: both parts go on until the word is no longer 0. A part that has nothing
+/// The gate of a serving: both parts go on until they are to end. A part that has nothing
 /// to do waits until it is woken, and each terminal's pager is told how far its ask is.
 #[derive(Drop)]
 pub struct Pace<'s> {
     bells: &'s Bells<'s>,
-    closing: &'s AtomicU64,
+    closing: &'s Closing,
     sent: AtomicU64,
     /// How many asks the last scan was begun for, and the one before it.
     last: AtomicU64,
@@ -155,7 +176,7 @@ pub struct Pace<'s> {
 
 impl<'s> Pace<'s> {
     /// Of a line on which nothing was sent.
-    pub fn new(bells: &'s Bells<'s>, closing: &'s AtomicU64) -> Self {
+    pub fn new(bells: &'s Bells<'s>, closing: &'s Closing) -> Self {
         Pace {
             bells,
             closing,
@@ -218,7 +239,7 @@ impl<'s> Pace<'s> {
 
 impl<'s> Gate for Pace<'s> {
     fn go_on(&self) -> bool {
-        self.closing.load(Ordering::SeqCst) == 0
+        !self.closing.is_set.load(Ordering::SeqCst)
     }
 
     fn allocator_idles<R: Wait>(&self, rt: &R) {

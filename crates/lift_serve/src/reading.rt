@@ -2,26 +2,23 @@
 
 ghost use Rattle.std.specs.Prelude.{◌≡◌};
 
+use crate::connections::Reading;
 use std::io;
 use std::io::{ErrorKind, Read};
-use std::sync::atomic::{AtomicBool, Ordering};
 
 /// A reader. Each call of it fails once no more are accepted, and the connection itself isn't read.
 #[derive(Drop)]
 pub(crate) struct OpenReader<'s, I: Read + Drop> {
     reader: I,
-    turned_away: &'s AtomicBool,
+    reading: &'s Reading,
 }
 
 impl<'s, I: Read + Drop> OpenReader<'s, I> {
     /// Over a connection's own reader.
-    pub(crate) fn new(reader: I, turned_away: &'s AtomicBool) -> Self
+    pub(crate) fn new(reader: I, reading: &'s Reading) -> Self
         ensures { result.reader ≡ reader }
     {
-        OpenReader {
-            reader,
-            turned_away,
-        }
+        OpenReader { reader, reading }
     }
 }
 
@@ -29,7 +26,7 @@ impl<'s, I: Read + Drop> Read for OpenReader<'s, I> {
     ghost remaining = { λ r. I.remaining r.reader };
 
     fn read(&mut self, buf: &mut [u8]) -> io::Result<usize> {
-        if self.turned_away.load(Ordering::SeqCst) {
+        if self.reading.is_over() {
             return Err(io::Error::from(ErrorKind::ConnectionAborted));
         }
         self.reader.read(buf)

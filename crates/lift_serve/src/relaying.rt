@@ -1,15 +1,18 @@
 //! A clerk's work in two parts, until the parts are one clerk again.
 
-ghost use Rattle.std.specs.Prelude.{◌≡◌, []};
+ghost use Rattle.std.specs.Prelude.{◌≡◌, [], Some};
 ghost use Rattle.lift_parts.specs.Parts.{AreOfOne};
 ghost use Rattle.lift_relay.specs.Heard.{FailureHeard};
-ghost use Rattle.lift_serve.specs.Relaying.{ComeOf, IsLastTurn};
+ghost use Rattle.lift_serve.specs.Relaying.{ComeOf, HaveRunOn, IsLastTurn};
 
-use crate::lacks::Lacked;
 use lift_disk::Disk;
 use lift_policy::Policy;
-use lift_relay::{Allocator, Flusher, HeardBy, HeldClerk, RunFault, Witness, rejoin_held};
+use lift_relay::{
+    Allocator, Flusher, Gate, HeardBy, HeldClerk, RunFault, Witness, rejoin_held, run,
+};
 use std::snapshot::Snapshot;
+use std::sync::Wait;
+use std::thread::Threads;
 
 /// Both parts of one clerk, which began at a new desk, and what came of their run, if they had one.
 /// Nothing has happened to them but turns of their own. So whoever has them, whatever it waits for,
@@ -23,12 +26,61 @@ pub struct Parts<'d, 'b, D: Disk + Drop, P: Policy + Drop, K: Drop, V: Witness +
     pub clerk: Snapshot<HeldClerk<'d, 'b, D, P, K>>,
     /// What came of their run.
     pub fault: Option<RunFault>,
-    /// What was refused to their run, or before it.
-    pub refusal: Option<Lacked>,
     /// Who hears that the device fails.
     pub witness: V,
     ghost of_one: { AreOfOne allocator flusher },
     ghost come_of: { ∥ ComeOf P.chooses D.state clerk.value allocator flusher ∥₁ },
+}
+
+/// Both parts, which have not run.
+#[tactic(auto, using(crate::proofs::Relayings::not_run, lift_relay::specs::lemmas::Heard::heard_none))]
+pub(crate) fn unrun<'d, 'b, D: Disk + Drop, P: Policy + Drop, K: Drop, V: Witness + Drop>(
+    parts: Parts<'d, 'b, D, P, K, V>,
+) -> Parts<'d, 'b, D, P, K, V>
+    ensures unrun { HaveRunOn (P.chooses parts.entry.allocator.policy) D.state parts.entry.allocator
+        result.allocator parts.entry.flusher result.flusher (Some (RunFault.Spawn tt)) }
+    ensures heard { FailureHeard V.hears parts.entry.flusher.writer.is_broken
+        result.flusher.writer.is_broken parts.entry.witness result.witness }
+{
+    parts
+}
+
+/// Both parts run while the gate goes on, the flusher on this thread, and are given back behind the
+/// last batch.
+#[tactic(auto, using(crate::proofs::Relayings::come_on))]
+pub fn run_parts<'d, 'b, R, G, D, P, K, V>(
+    rt: &R,
+    gate: &G,
+    parts: Parts<'d, 'b, D, P, K, V>,
+) -> Parts<'d, 'b, D, P, K, V>
+where
+    R: Threads + Wait + Sync,
+    G: Gate + Sync,
+    D: Disk + Drop,
+    P: Policy + Drop + Send,
+    K: HeardBy<V> + Drop,
+    V: Witness + Drop,
+    ensures ran { HaveRunOn (P.chooses parts.entry.allocator.policy) D.state parts.entry.allocator
+        result.allocator parts.entry.flusher result.flusher result.fault }
+    // Where the device failed first in it, the witness heard of that, once.
+    ensures heard { FailureHeard V.hears parts.entry.flusher.writer.is_broken
+        result.flusher.writer.is_broken parts.entry.witness result.witness }
+{
+    let Parts {
+        mut allocator,
+        mut flusher,
+        clerk,
+        fault: _,
+        witness,
+    } = parts;
+    let (witness, fault) = run(rt, &mut allocator, &mut flusher, gate, witness);
+    Parts {
+        allocator,
+        flusher,
+        clerk,
+        fault,
+        witness,
+    }
 }
 
 /// The clerk of both parts, between which nothing is on its way, behind one turn more: it finds

@@ -7,9 +7,10 @@ ghost use Rattle.lift_serve.specs.Lobby.{AreInOrder, found_seats, found_at};
 ghost use Rattle.lift_serve.specs.Visits.{AreAsFound, IsNewSeat, known_of, letter_in as letter_of};
 
 use crate::held::Held;
-use crate::lacks::{Lack, Lacking, push, with_room};
+use crate::lacks::{Lacking, push, room_for_pagers};
 use crate::lobby::Lobby;
 use crate::pager::Pager;
+use crate::serving::ServeFault;
 use arrayvec::ArrayVec;
 use lift_base::{Content, Letter, Number, Terminal};
 use lift_desk::{Desk, Seat};
@@ -18,7 +19,7 @@ use lift_register::Register;
 use std::alloc::Global;
 
 /// How many terminals there are at most.
-const TERMINALS: usize = 63;
+pub(crate) const TERMINALS: usize = 63;
 
 /// The letter that a kiosk's last call got.
 fn letter_in(content: &Content) -> Option<Letter>
@@ -51,9 +52,9 @@ fn last_of(register: &Register, terminal: Terminal) -> LastLetter
 pub(crate) fn new_pagers(alloc: Global) -> Result<Vec<Pager>, Lacking>
     ensures count { IfOk result (λ pagers. length pagers.items ≡ 63) }
     ensures in_order { IfOk result (λ pagers. AreInOrder pagers.items) }
-    ensures lack { IfErr result (λ lacking. lacking.what ≡ Lack.Memory) }
+    ensures lack { IfErr result (λ lacking. lacking ≡ ServeFault.Memory) }
 {
-    let mut pagers = with_room(alloc, TERMINALS)?;
+    let mut pagers = room_for_pagers(alloc)?;
     for index in 0..TERMINALS {
         let pager = Pager::new(Terminal::new(index as u8).unwrap());
         push(&mut pagers, pager)?;

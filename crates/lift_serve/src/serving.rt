@@ -1,38 +1,35 @@
 //! The serving of a building on a socket.
 
 ghost use Rattle.std.specs.Prelude.{◌≡◌, ◌≤◌, ◌+◌, [], All, Option, None, Some, IfOk, IfErr, IfSome};
-ghost use Rattle.std.specs.Prelude.{IsSome, length};
+ghost use Rattle.std.specs.Prelude.{IsErr, IsSome, length, ℕ};
+ghost use Rattle.std.specs.declared.net.tcp.TcpListener.{TcpListener as Listener};
 ghost use Rattle.std.specs.Thread.{IsSend, IsSync};
 ghost use Rattle.lift_desk.specs.Seats.{AreSeatsOf, clerk_of, seats_from};
 ghost use Rattle.lift_serve.specs.Lobby.{AreInOrder, found_seats};
 ghost use Rattle.lift_relay.specs.Heard.{FailureHeard};
 ghost use Rattle.lift_relay.specs.declared.pair.RunFault.{RunFault as Fault};
 ghost use Rattle.lift_serve.specs.Open.{AreEndedAt, IsEndAt};
-ghost use Rattle.lift_serve.specs.Relaying.{ComesTo, HaveRunOn, Relayed, undone};
+ghost use Rattle.lift_serve.specs.Relaying.{ComesTo, HaveRunOn, Relayed};
 ghost use Rattle.lift_serve.specs.Visits.{IsNewSeat};
 
-use crate::connections::{Connection, Connections, Ended, Ending, Left, Over};
+use crate::connections::{Connection, Connections, Ended, Left, Over, Reading};
 use crate::lacks::{
-    EndAt, Lack, Lacked, Lacking, Lacks, Refusal, listen_again, open_desk, part, run_parts,
-    start_accepting, start_session,
+    EndAt, GivenUp, Lacking, Refusal, closer_of, open_desk, part, start_accepting, start_session,
 };
 use crate::lobby::Lobby;
-use crate::pace::{Bells, Pace};
+use crate::pace::{Bells, Closing, Pace};
 use crate::pager::Pager;
-use crate::relaying::{Parts, turn_rejoined};
+use crate::relaying::{Parts, run_parts, turn_rejoined, unrun};
 use crate::seating::{lobby_of, new_pagers};
 use crate::shared::Shared;
-use crate::socket::Arrival;
+use crate::socket::{Arrival, Listening};
 use lift_desk::{DeskParts, Seat};
 use lift_disk::Disk;
 use lift_parts::{parts_are_clerks, turns_keep_what_was_given};
 use lift_policy::Policy;
 use lift_relay::{Gate, HeardBy, HeldClerk, HeldKeeper, Witness};
 use std::alloc::Global;
-use std::net::{TcpListener, TcpStream};
-use std::os::fd::OwnedFd;
 use std::snapshot::Snapshot;
-use std::sync::atomic::{AtomicBool, AtomicU64, Ordering};
 use std::sync::{Mutex, Wait};
 use std::thread;
 use std::thread::{Scope, Threads};
@@ -47,6 +44,36 @@ pub enum ServeFault {
     Thread,
     /// A growth was refused.
     Memory,
+}
+
+/// A group that is to be served. It can't be let go or taken apart: `serve` alone takes it. So whoever
+/// waits with it can serve at its socket no other group, with no other policy, and no other number of
+/// connections.
+pub struct Prepared<'b, D: Disk + Drop, P, K: Drop> {
+    listening: Listening,
+    sessions: u32,
+    keeper: HeldKeeper<'b, D, K>,
+    policy: P,
+    ghost settled: { keeper.state.batch ≡ [] },
+}
+
+impl<'b, D: Disk + Drop, P, K: Drop> Prepared<'b, D, P, K> {
+    /// The keeper's building is to be served with this policy at this socket, until so many
+    /// connections have ended.
+    pub fn new(listening: Listening, sessions: u32, keeper: HeldKeeper<'b, D, K>, policy: P) -> Self
+        requires { keeper.state.batch ≡ [] }
+        ensures listening { result.listening ≡ listening }
+        ensures sessions { result.sessions ≡ sessions }
+        ensures keeper { result.keeper ≡ keeper.entry }
+        ensures policy { result.policy ≡ policy }
+    {
+        Prepared {
+            listening,
+            sessions,
+            keeper,
+            policy,
+        }
+    }
 }
 
 /// What came of the serving.
@@ -75,14 +102,13 @@ fn attend_connection<R: Wait + Clock>(
     shared: Shared<'_, '_>,
     connection: Connection,
 ) -> Left
-    ensures { result.number ≡ connection }
+    ensures { result ≡ connection }
 {
     let number = connection.number();
-    let ending = match connection.attended(rt, alloc, shared) {
-        Ok(attended) => Ending::Attended(attended),
-        Err(lacking) => Ending::Lacking(shared.note(rt, lacking)),
-    };
-    shared.leave(rt, number, ending)
+    match connection.attended(rt, alloc, shared) {
+        Ok(attended) => shared.leave(rt, number, attended),
+        Err(lacking) => shared.leave_unattended(rt, number, lacking),
+    }
 }
 
 /// Accepts connections until all have ended that were to end.
@@ -103,18 +129,14 @@ fn accept_all<'s, 'd: 's, E, R: Threads + Wait + Clock + Sync>(
             continue;
         };
         let (connection, awaited) = match shared.enter(rt, alloc, arrival) {
-            Ok(Ok(entered)) => entered,
-            Ok(Err(over)) => return over,
-            Err(lacking) => {
-                shared.refuse(rt, lacking);
-                continue;
-            }
+            Ok(Some(entered)) => entered,
+            Ok(None) => continue,
+            Err(over) => return over,
         };
         let work = move || attend_connection(rt, alloc, shared, connection);
         if let Err((awaited, lacking)) = start_session(scope, awaited, work) {
-            let noted = shared.note(rt, lacking);
             let number = awaited.number();
-            awaited.counted(shared.leave(rt, number, Ending::Lacking(noted)));
+            awaited.counted(shared.leave_unattended(rt, number, lacking));
         }
     }
     unreachable!()
@@ -125,20 +147,32 @@ fn accept_all<'s, 'd: 's, E, R: Threads + Wait + Clock + Sync>(
 fn welcome<R: Threads + Wait + Clock + Sync>(rt: &R, alloc: Global, shared: Shared<'_, '_>) -> Over
     ensures { IsEndAt shared.entry.listener.now shared.entry.sessions result }
 {
-    let _over = thread::scope(
+    let over = thread::scope(
         thread::scope_env(),
         rt,
         move |scope| -> Over
             requires { IsSync R.row }
         {
             let over = accept_all(rt, alloc, scope, shared);
-            shared.see_off(rt);
+            shared.see_off(rt, &over);
             over
         },
     );
-    shared.closing.store(1, Ordering::SeqCst);
+    shared.closing.set(&over);
     shared.bells.ring_all();
     shared.over(rt)
+}
+
+/// How a serving is over whose accepting was over so: given up, where it was.
+fn over_behind(given_up: Option<GivenUp>, over: Over) -> Over
+    ensures given_up { IsSome given_up → IsErr result }
+    ensures ended { (listener : Listener) (sessions : ℕ)
+        → IsEndAt listener sessions over → IsEndAt listener sessions result }
+{
+    match given_up {
+        Some(given_up) => Err(given_up),
+        None => over,
+    }
 }
 
 /// Both parts run, the flusher on this thread, while connections are accepted on another. Where no
@@ -158,9 +192,10 @@ where
     P: Policy + Drop + Send,
     K: HeardBy<V> + Drop,
     V: Witness + Drop,
+    // All are given up where no thread could be had.
     ensures ran { (fault : Option Fault) × HaveRunOn (P.chooses parts.entry.allocator.policy)
         D.state parts.entry.allocator result.0.allocator parts.entry.flusher result.0.flusher fault
-        × (result.0.refusal ≡ undone fault) }
+        × (fault ≡ Some (Fault.Spawn tt) → IsErr result.1) }
     ensures heard { FailureHeard V.hears parts.entry.flusher.writer.is_broken
         result.0.flusher.writer.is_broken parts.entry.witness result.0.witness }
     ensures over { IsEndAt shared.entry.listener.now shared.entry.sessions result.1 }
@@ -173,7 +208,7 @@ where
             ensures ran { (fault : Option Fault)
                 × HaveRunOn (P.chooses parts.entry.allocator.policy) D.state parts.entry.allocator
                 result.0.allocator parts.entry.flusher result.0.flusher fault
-                × (result.0.refusal ≡ undone fault) }
+                × (fault ≡ Some (Fault.Spawn tt) → IsErr result.1) }
             ensures heard { FailureHeard V.hears parts.entry.flusher.writer.is_broken
                 result.0.flusher.writer.is_broken parts.entry.witness result.0.witness }
             ensures over { IsEndAt shared.entry.listener.now shared.entry.sessions result.1 }
@@ -182,25 +217,23 @@ where
             let work = move || -> Over
                 ensures { IsEndAt shared.entry.listener.now shared.entry.sessions result }
             { welcome(rt, alloc, shared) };
-            let accepting = match start_accepting(scope, promise, work) {
+            let accepting = match start_accepting(scope, &parts, promise, work) {
                 Ok(accepting) => accepting,
-                Err(lacking) => {
-                    let lacked = lacking.lacked();
-                    return (lacking.unrun(parts), Err(lacked));
-                }
+                Err(given_up) => return (unrun(parts), Err(given_up)),
             };
             let ran = run_parts(rt, gate, parts);
-            if let Some(lacked) = ran.refusal {
-                shared.give_up(rt, lacked);
+            let given_up = GivenUp::by(ran.fault);
+            if let Some(given_up) = given_up {
+                shared.give_up(rt, given_up);
             }
-            (ran, accepting.join(rt))
+            let over = over_behind(given_up, accepting.join(rt));
+            (ran, over)
         },
     )
 }
 
 /// The clerk's work is done in two parts while connections are accepted. It turns once more behind
-/// them. What was refused to the parts' run itself is told beside the clerk: no contract knows what
-/// a lock holds. Where memory was wanting for the parts the clerk comes back as it was.
+/// them. Where memory was wanting for the parts the clerk comes back as it was.
 #[tactic(auto, using(crate::proofs::Relayings::of_one, crate::proofs::Relayings::come_first, crate::proofs::Relayings::relayed_on, crate::proofs::Relayings::none_in_hand, crate::proofs::Relayings::all_received))]
 fn run<'d, 'b, R, D, P, K, V>(
     rt: &R,
@@ -208,10 +241,7 @@ fn run<'d, 'b, R, D, P, K, V>(
     shared: Shared<'_, '_>,
     clerk: HeldClerk<'d, 'b, D, P, K>,
     witness: V,
-) -> Result<
-    (HeldClerk<'d, 'b, D, P, K>, Option<Lacked>, Over, V),
-    (HeldClerk<'d, 'b, D, P, K>, Lacking, V),
->
+) -> Result<(HeldClerk<'d, 'b, D, P, K>, Over, V), (HeldClerk<'d, 'b, D, P, K>, Lacking, V)>
 where
     R: Threads + Wait + Clock + Sync,
     D: Disk + Drop,
@@ -224,12 +254,12 @@ where
     requires unused { clerk.seat ≡ clerk_of clerk.desk }
     ensures ran { IfOk result (λ ran.
         (fault : Option Fault) × Relayed P.chooses D.state clerk.entry ran.0 fault
-        × (ran.1 ≡ undone fault)) }
+        × (fault ≡ Some (Fault.Spawn tt) → IsErr ran.1)) }
     ensures heard { IfOk result (λ ran. FailureHeard V.hears clerk.entry.keeper.writer.is_broken
-        ran.0.keeper.writer.is_broken witness ran.3) }
-    ensures over { IfOk result (λ ran. IsEndAt shared.entry.listener.now shared.entry.sessions ran.2) }
+        ran.0.keeper.writer.is_broken witness ran.2) }
+    ensures over { IfOk result (λ ran. IsEndAt shared.entry.listener.now shared.entry.sessions ran.1) }
     ensures refused { IfErr result (λ back. (back.0 ≡ clerk.entry) × (back.2 ≡ witness)) }
-    ensures lack { IfErr result (λ back. back.1.what ≡ Lack.Memory) }
+    ensures lack { IfErr result (λ back. back.1 ≡ ServeFault.Memory) }
 {
     turns_keep_what_was_given::<D>();
     parts_are_clerks::<D, P>();
@@ -241,14 +271,13 @@ where
                 flusher,
                 clerk: begun,
                 fault: None,
-                refusal: None,
                 witness,
             };
             let pace = Pace::new(shared.bells, shared.closing);
             let (ran, over) = run_beside(rt, alloc, shared, &pace, parts);
             let mut witness = ran.witness;
             let clerk = turn_rejoined(ran.allocator, ran.flusher, &mut witness);
-            Ok((clerk, ran.refusal, over, witness))
+            Ok((clerk, over, witness))
         }
         Err((clerk, lacking)) => Err((clerk, lacking, witness)),
     }
@@ -279,7 +308,7 @@ pub(crate) fn unserved<'b, D: Disk + Drop, K: Drop, V: Witness + Drop>(
 fn serve_from<'d, 'b, R, D, P, K, V>(
     rt: &R,
     alloc: Global,
-    listener: &TcpListener,
+    listener: &Listening,
     sessions: u32,
     connections: Connections,
     pagers: &[Pager],
@@ -307,27 +336,27 @@ where
 {
     let lobby = Mutex::new(lobby);
     let connections = Mutex::new(connections);
-    let lacks = Mutex::new(Lacks::new());
     let bells = Bells::new(pagers);
-    let turned_away = AtomicBool::new(false);
-    let closing = AtomicU64::new(0);
+    let reading = Reading::new();
+    let closing = Closing::new();
     let shared = Shared {
         building: clerk.keeper().building(),
         listener,
         sessions,
         lobby: &lobby,
         bells: &bells,
-        turned_away: &turned_away,
+        reading: &reading,
         closing: &closing,
         connections: &connections,
-        lacks: &lacks,
     };
     match run(rt, alloc, shared, clerk, witness) {
-        Ok((clerk, own, over, witness)) => {
-            lacks.into_inner().behind(own, over, clerk.leave(), witness)
+        Ok((clerk, over, witness)) => {
+            let lacks = connections.into_inner().into_lacks();
+            lacks.behind(over, clerk.leave(), witness)
         }
         Err((clerk, lacking, witness)) => {
-            lacks.into_inner().unserved(lacking, clerk.leave(), witness)
+            let lacks = connections.into_inner().into_lacks();
+            lacks.unserved(lacking, clerk.leave(), witness)
         }
     }
 }
@@ -336,7 +365,7 @@ where
 fn serve_at<'b, R, D, P, K, V>(
     rt: &R,
     alloc: Global,
-    listener: &TcpListener,
+    listener: &Listening,
     sessions: u32,
     connections: Connections,
     pagers: &[Pager],
@@ -392,10 +421,7 @@ where
 pub fn serve<'b, R, D, P, K, V>(
     rt: &R,
     alloc: Global,
-    listener: &TcpListener,
-    sessions: u32,
-    keeper: HeldKeeper<'b, D, K>,
-    policy: P,
+    prepared: Prepared<'b, D, P, K>,
     witness: V,
 ) -> Served<'b, D, K, V>
 where
@@ -404,39 +430,44 @@ where
     P: Policy + Drop + Send,
     K: HeardBy<V> + Drop,
     V: Witness + Drop,
-    requires settled { keeper.state.batch ≡ [] }
     // What the keeper has at the end came to it by the turns of the two parts of a clerk with this
     // policy, and by its last one; or it is as it was, and why is told.
-    ensures comes { ComesTo P.chooses D.state policy keeper.entry result.keeper result.fault }
+    ensures comes { ComesTo P.chooses D.state prepared.entry.policy prepared.entry.keeper result.keeper
+        result.fault }
     // The witness has heard that the device failed, once, where the keeper is broken that wasn't;
     // else it is as it was.
-    ensures heard { FailureHeard V.hears keeper.entry.writer.is_broken result.keeper.writer.is_broken
-        witness result.witness }
+    ensures heard { FailureHeard V.hears prepared.entry.keeper.writer.is_broken
+        result.keeper.writer.is_broken witness result.witness }
     // It tells that connections have ended only where so many have at this socket, and tells no fault
     // only where it tells that.
-    ensures ended { IfSome result.ended (AreEndedAt listener.now sessions) }
+    ensures ended { IfSome result.ended (AreEndedAt prepared.entry.listening prepared.entry.sessions) }
     ensures counted { result.fault ≡ None → IsSome result.ended }
 {
+    let Prepared {
+        listening,
+        sessions,
+        keeper,
+        policy,
+    } = prepared;
     let terminals = 16 + usize::from(keeper.keeper().building().kiosks());
     let DeskParts { desk, seats, clerk } = match open_desk(alloc, terminals) {
         Ok(parts) => parts,
-        Err(lacking) => return lacking.unserved(keeper, witness),
+        Err(lacking) => return unserved(keeper, witness, lacking.told()),
     };
     let pagers = match new_pagers(alloc) {
         Ok(pagers) => pagers,
-        Err(lacking) => return lacking.unserved(keeper, witness),
+        Err(lacking) => return unserved(keeper, witness, lacking.told()),
     };
-    let again = match listen_again(listener) {
-        Ok(again) => again,
+    let closer = match closer_of(&listening) {
+        Ok(closer) => closer,
         Err(refusal) => return unserved(keeper, witness, refusal),
     };
-    let listening = TcpStream::from(OwnedFd::from(again));
-    let connections = Connections::new(alloc, listening);
+    let connections = Connections::new(alloc, closer);
     let clerk = keeper.at(&desk, clerk, policy);
     serve_at(
         rt,
         alloc,
-        listener,
+        &listening,
         sessions,
         connections,
         &pagers,

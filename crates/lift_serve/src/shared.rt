@@ -3,15 +3,14 @@
 ghost use Rattle.std.specs.Prelude.{◌≡◌, IfOk, IfErr, IfSome};
 ghost use Rattle.lift_serve.specs.Open.{IsEndAt};
 
-use crate::connections::{Awaited, Connection, Connections, Ending, Left, Over};
-use crate::lacks::{Lack, Lacked, Lacking, Lacks, Noted};
+use crate::attending::Attended;
+use crate::connections::{Awaited, Connection, Connections, Left, Over, Reading};
+use crate::lacks::{GivenUp, Lacking};
 use crate::lobby::Lobby;
-use crate::pace::Bells;
-use crate::socket::Arrival;
+use crate::pace::{Bells, Closing};
+use crate::socket::{Arrival, Listening};
 use lift_building::Building;
 use std::alloc::Global;
-use std::net::TcpListener;
-use std::sync::atomic::{AtomicBool, AtomicU64};
 use std::sync::{Mutex, Wait};
 use std::thread;
 use std::time::{Clock, Duration};
@@ -24,24 +23,17 @@ const FAREWELL_MS: u64 = 1_000;
 #[derive(Clone, Copy)]
 pub(crate) struct Shared<'a, 'd> {
     pub(crate) building: &'a Building,
-    pub(crate) listener: &'a TcpListener,
+    pub(crate) listener: &'a Listening,
     /// How many connections are to end.
     pub(crate) sessions: u32,
     pub(crate) lobby: &'a Mutex<Lobby<'d>>,
     pub(crate) bells: &'a Bells<'a>,
-    /// Set once no more are accepted: nothing more is read.
-    pub(crate) turned_away: &'a AtomicBool,
-    pub(crate) closing: &'a AtomicU64,
+    pub(crate) reading: &'a Reading,
+    pub(crate) closing: &'a Closing,
     pub(crate) connections: &'a Mutex<Connections>,
-    pub(crate) lacks: &'a Mutex<Lacks>,
 }
 
 impl<'a, 'd> Shared<'a, 'd> {
-    /// Keeps the first lack in mind.
-    pub(crate) fn note<R: Wait>(self, rt: &R, lacking: Lacking) -> Noted {
-        self.lacks.lock(rt).note(lacking)
-    }
-
     pub(crate) fn is_over<R: Wait>(self, rt: &R) -> Option<Over>
         ensures { IfSome result (IsEndAt self.entry.listener.now self.entry.sessions) }
     {
@@ -62,43 +54,43 @@ impl<'a, 'd> Shared<'a, 'd> {
         unreachable!()
     }
 
-    /// Nobody is let in where all connections have ended that were to end.
+    /// Nobody is let in where all connections have ended that were to end, or memory is wanting for
+    /// it: the connection has ended then.
     pub(crate) fn enter<R: Wait>(
         self,
         rt: &R,
         alloc: Global,
         arrival: Arrival,
-    ) -> Result<Result<(Connection, Awaited), Over>, Lacking>
-        ensures awaited { IfOk result (λ entered. IfOk entered (λ came. came.1 ≡ came.0)) }
-        ensures lack { IfErr result (λ lacking. lacking.what ≡ Lack.Memory) }
-        ensures over { IfOk result (λ entered.
-            IfErr entered (IsEndAt self.entry.listener.now self.entry.sessions)) }
+    ) -> Result<Option<(Connection, Awaited)>, Over>
+        ensures awaited { IfOk result (λ entered. IfSome entered (λ came. came.1 ≡ came.0)) }
+        ensures over { IfErr result (IsEndAt self.entry.listener.now self.entry.sessions) }
     {
         self.connections
             .lock(rt)
-            .enter(alloc, self.listener, self.sessions, arrival)
+            .enter(alloc, self.listener, self.sessions, self.reading, arrival)
     }
 
-    /// A connection is not served.
-    pub(crate) fn refuse<R: Wait>(self, rt: &R, lacking: Lacking) {
-        let noted = self.note(rt, lacking);
-        self.connections
-            .lock(rt)
-            .refuse(self.sessions, self.turned_away, noted);
+    /// No connection is served any more.
+    pub(crate) fn give_up<R: Wait>(self, rt: &R, given_up: GivenUp) {
+        self.connections.lock(rt).give_up(self.reading, given_up);
     }
 
-    /// No connection is served any more, for what was wanting.
-    pub(crate) fn give_up<R: Wait>(self, rt: &R, lacked: Lacked) {
-        self.connections.lock(rt).give_up(self.turned_away, lacked);
-    }
-
-    /// The connection of this number has ended, and so.
-    pub(crate) fn leave<R: Wait>(self, rt: &R, number: u64, ending: Ending<'d>) -> Left
-        ensures { result.number ≡ number }
+    /// The connection of this number has ended, which was attended to.
+    pub(crate) fn leave<R: Wait>(self, rt: &R, number: u64, attended: Attended<'d>) -> Left
+        ensures { result ≡ number }
     {
         self.connections
             .lock(rt)
-            .leave(self.sessions, self.turned_away, number, ending)
+            .leave(self.sessions, self.reading, number, attended)
+    }
+
+    /// The connection of this number has ended, for which this was wanting.
+    pub(crate) fn leave_unattended<R: Wait>(self, rt: &R, number: u64, lacking: Lacking) -> Left
+        ensures { result ≡ number }
+    {
+        self.connections
+            .lock(rt)
+            .leave_unattended(self.sessions, self.reading, number, lacking)
     }
 
     fn is_empty<R: Wait>(self, rt: &R) -> bool {
@@ -107,13 +99,13 @@ impl<'a, 'd> Shared<'a, 'd> {
 
     /// Sessions that wait for an answer have a while to write it. What is still open then is
     /// closed.
-    pub(crate) fn see_off<R: Wait + Clock>(self, rt: &R) {
+    pub(crate) fn see_off<R: Wait + Clock>(self, rt: &R, over: &Over) {
         for _ in 0..FAREWELL_MS {
             if self.is_empty(rt) {
                 return;
             }
             thread::sleep(rt, Duration::from_millis(1));
         }
-        self.connections.lock(rt).close();
+        self.connections.lock(rt).close(over);
     }
 }

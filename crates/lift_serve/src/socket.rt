@@ -1,22 +1,68 @@
-//! A connection's socket. Here alone one is accepted, read and written; everything else has what
-//! keeps it, and what shuts it down.
+//! The listening socket, and a connection's. Here alone a connection is accepted, read and written;
+//! everything else has what keeps it, and what shuts it down.
 
 ghost use Rattle.std.specs.Prelude.{◌≡◌, IfErr};
+ghost use Rattle.std.specs.declared.net.tcp.TcpListener.{TcpListener as Listener};
 
 use crate::attending::Attended;
 use crate::connections::{Over, Ticket};
-use crate::lacks::{Lack, Lacking, read_ahead, share, share_again};
+use crate::lacks::{Lacking, read_ahead, share};
+use crate::serving::ServeFault;
 use crate::shared::Shared;
 use crate::speaking::speak;
 use lift_system::watch;
 use std::alloc::Global;
 use std::io;
+use std::marker::Model;
 use std::net::{Shutdown, TcpListener, TcpStream};
+use std::os::fd::OwnedFd;
 use std::sync::{Arc, Wait};
 use std::time::Clock;
 
-/// How much is read of a connection at once, in bytes.
-const AHEAD: usize = 512;
+/// A socket that listens. Who has one can accept nothing at it: it can only be served. Contracts see
+/// the socket.
+#[derive(Drop)]
+pub struct Listening {
+    listener: TcpListener,
+}
+
+impl Model for Listening {
+    ghost use Rattle.std.specs.declared.net.tcp.TcpListener.{TcpListener as Listener};
+
+    ghost Value = { Listener };
+
+    ghost view = { λ l. l.listener };
+}
+
+impl Listening {
+    /// At this socket.
+    pub fn at(listener: TcpListener) -> Self
+        ensures { result ≡ listener }
+    {
+        Listening { listener }
+    }
+
+    /// What shuts it down.
+    pub(crate) fn closer(&self) -> io::Result<ListeningCloser> {
+        let again = self.listener.try_clone()?;
+        let view = TcpStream::from(OwnedFd::from(again));
+        Ok(ListeningCloser { view })
+    }
+}
+
+/// What shuts a listening socket down, whoever waits for a connection there.
+#[derive(Drop)]
+pub struct ListeningCloser {
+    /// A view of the socket.
+    view: TcpStream,
+}
+
+impl ListeningCloser {
+    /// No more are accepted.
+    pub(crate) fn shut(&self) {
+        let _closed = self.view.shutdown(Shutdown::Both);
+    }
+}
 
 /// That a connection was accepted. It can't be let go: it is let in, or memory was wanting for that,
 /// or no more are.
@@ -26,18 +72,17 @@ pub(crate) struct Arrival {
 
 impl Arrival {
     /// The next one at a listening socket.
-    pub(crate) fn at(listener: &TcpListener) -> io::Result<Arrival> {
-        let (stream, _address) = listener.accept()?;
+    pub(crate) fn at(listening: &Listening) -> io::Result<Arrival> {
+        let (stream, _address) = listening.listener.accept()?;
         Ok(Arrival { stream })
     }
 
     /// Its socket, and what shuts that down.
     pub(crate) fn open(self, alloc: Global) -> Result<(Socket, Closer), Lacking>
-        ensures lack { IfErr result (λ lacking. lacking.what ≡ Lack.Memory) }
+        ensures lack { IfErr result (λ lacking. lacking ≡ ServeFault.Memory) }
     {
         let Arrival { stream } = self;
-        let stream = share(alloc, stream)?;
-        let theirs = share_again(&stream)?;
+        let (stream, theirs) = share(alloc, stream)?;
         Ok((Socket { stream }, Closer { stream: theirs }))
     }
 
@@ -75,7 +120,7 @@ impl Socket {
         shared: Shared<'_, 'd>,
         ticket: Ticket,
     ) -> Result<Attended<'d>, Lacking>
-        ensures lack { IfErr result (λ lacking. lacking.what ≡ Lack.Memory) }
+        ensures lack { IfErr result (λ lacking. lacking ≡ ServeFault.Memory) }
     {
         let Socket { stream } = self;
         let _quick = stream.set_nodelay(true);
@@ -94,8 +139,8 @@ fn speak_over<'d, R: Wait + Clock>(
     ticket: Ticket,
     stream: &TcpStream,
 ) -> Result<Attended<'d>, Lacking>
-    ensures lack { IfErr result (λ lacking. lacking.what ≡ Lack.Memory) }
+    ensures lack { IfErr result (λ lacking. lacking ≡ ServeFault.Memory) }
 {
-    let reader = read_ahead(alloc, AHEAD, stream)?;
+    let reader = read_ahead(alloc, stream)?;
     Ok(speak(rt, shared, ticket, reader, stream).0)
 }

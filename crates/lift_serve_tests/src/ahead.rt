@@ -10,6 +10,7 @@ use lift_building::Building;
 use lift_cost::NewCall;
 use lift_disk::{Disk, DiskFault, MemDisk};
 use lift_policy::{Eligible, Etd, Policy, View};
+use lift_serve::Listening;
 use std::alloc::Global;
 use std::net::{Net, TcpListener, TcpStream};
 use std::process::Abort;
@@ -249,7 +250,8 @@ fn serve_callers<
     let policy = Counting { shared };
     let calls = move || call(rt, alloc, port, shared, are_both);
     let ended = &shared.ended;
-    match serve_beside(rt, alloc, &listener, sessions, keeper, policy, ended, calls) {
+    let listening = Listening::at(listener);
+    match serve_beside(rt, alloc, listening, sessions, keeper, policy, ended, calls) {
         Some(keeper) if !keeper.is_broken() => Ok(keeper.register().open_count()),
         _ => Err("a fault of serving".into()),
     }

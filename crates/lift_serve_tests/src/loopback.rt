@@ -7,6 +7,7 @@ use crate::serving::serve_beside;
 use lift_disk::{FuseDisk, Outcome};
 use lift_keeper::Keeper;
 use lift_policy::{Etd, FewestOpen, Shipped, ShortestWait};
+use lift_serve::Listening;
 use std::alloc::Global;
 use std::net::{Net, TcpListener, TcpStream};
 use std::process::Abort;
@@ -243,7 +244,8 @@ fn served<
     let (followed, end) = (AtomicU64::new(0), AtomicU64::new(0));
     let (count, ended) = (&followed, &end);
     let calls = move || follow(rt, alloc, port, script, count, ended);
-    match serve_beside(rt, alloc, &listener, sessions, keeper, policy, ended, calls) {
+    let listening = Listening::at(listener);
+    match serve_beside(rt, alloc, listening, sessions, keeper, policy, ended, calls) {
         Some(keeper) => {
             if count.load(Ordering::SeqCst) == 1 {
                 Ok(keeper)

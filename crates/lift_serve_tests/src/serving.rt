@@ -5,9 +5,8 @@ ghost use Rattle.std.specs.Thread.{IsSync};
 use lift_disk::Disk;
 use lift_keeper::Keeper;
 use lift_policy::Policy;
-use lift_serve::{HeardBy, HeldKeeper, NoWitness, serve};
+use lift_serve::{HeardBy, HeldKeeper, Listening, NoWitness, Prepared, serve};
 use std::alloc::Global;
-use std::net::TcpListener;
 use std::process::Abort;
 use std::sync::Wait;
 use std::sync::atomic::{AtomicU64, Ordering};
@@ -43,7 +42,7 @@ impl HeardBy<NoWitness> for Own {}
 pub(crate) fn serve_beside<'b, R, D, P, C>(
     rt: &R,
     alloc: Global,
-    listener: &TcpListener,
+    listening: Listening,
     sessions: u32,
     keeper: Keeper<'b, D>,
     policy: P,
@@ -74,7 +73,8 @@ where
                 return None;
             }
             let held = HeldKeeper::new(keeper);
-            let served = serve(rt, alloc, listener, sessions, held, policy, NoWitness);
+            let prepared = Prepared::new(listening, sessions, held, policy);
+            let served = serve(rt, alloc, prepared, NoWitness);
             ended.store(1, Ordering::SeqCst);
             if served.fault.is_some() || served.ended.is_none() {
                 return None;

@@ -4,7 +4,7 @@
 
 use lift_base::text::Watched;
 use lift_disk::SystemOpener;
-use lift_program::{Files, Openers, SystemSocket, SystemTextOpener, not_given, start};
+use lift_program::{Files, Given, Openers, SystemSocket, SystemTextOpener, not_given, start};
 use std::process::ExitCode;
 use std::{env, io};
 
@@ -30,9 +30,8 @@ fn main(rt: HostRuntime) -> ExitCode {
     let status = match given(&rt) {
         Ok(words) => start(
             &rt,
-            openers(&rt),
+            Given::new(openers(&rt), words.as_slice()),
             rt.alloc(),
-            words.as_slice(),
             rt.stdin(),
             &mut rt.stdout(),
             &mut errors,

@@ -13,7 +13,7 @@ use lift_disk::{Disk, FlakyDisk};
 use lift_journal::JournalFault;
 use lift_keeper::KeeperFault;
 use lift_policy::Etd;
-use lift_relay::{FlushCounts, Gate, RunFault, Witness};
+use lift_relay::{Failed, FlushCounts, Gate, RunFault, Witness};
 use std::alloc::Global;
 use std::process::Abort;
 use std::sync::Wait;
@@ -282,7 +282,7 @@ struct Counter<'a> {
 }
 
 impl<'a> Witness for Counter<'a> {
-    fn has_failed(&mut self) {
+    fn has_failed(&mut self, _failed: Failed) {
         self.told.fetch_add(1, Ordering::SeqCst);
     }
 }

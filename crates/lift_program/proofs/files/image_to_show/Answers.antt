@@ -1,6 +1,5 @@
 use Rattle.std.proofs.Common.{ap, subst, sym, ◌∙◌}
 use Rattle.lift_disk.specs.Files.{sector_file_state_of}
-use Rattle.lift_disk.specs.declared.sectors.SectorFile.{SectorFile}
 use Rattle.lift_program.specs.Unwritten.{unwritten_file_of}
 use Rattle.lift_program.proofs.Stages.{is_opened}
 use Rattle.lift_program.proofs.files.image_to_show.Goals as goal

@@ -34,5 +34,5 @@ returns-in-Err-clause-settled g c =
 pub returns-in-Err-clause-front : goal.returns-in-Err-clause-front
 returns-in-Err-clause-front g c = (
   length c.args.bytes.now,
-  subst (Appends (g.W.Write.contents c.args.writer.now) (g.W.Write.contents c.settle.new.self)) (sym (take-length c.args.bytes.now)) (search rules),
+  subst (Appends (g.W.Write.contents c.args.writer.now) (g.W.Write.contents c.pass_on.new.writer)) (sym (take-length c.args.bytes.now)) (search rules),
 )

@@ -1,4 +1,4 @@
-use Rattle.std.proofs.Common.{rules, arith, ◌≡◌, ◌+◌, sym, subst, ap, ◌∙◌, Err}
+use Rattle.std.proofs.Common.{rules, arith, ◌≡◌, sym, subst, ap, ◌∙◌, Err}
 use Rattle.std.specs.Prelude.{IfErr}
 use Rattle.lift_disk.specs.Below.{below, buffered_state_of}
 use Rattle.lift_program.specs.Unwritten.{unwritten_state_of}

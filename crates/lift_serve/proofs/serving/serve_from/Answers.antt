@@ -1,7 +1,7 @@
 use Rattle.std.proofs.Common.{refl, sym, ◌∙◌, inl, subst}
 use Rattle.lift_keeper.specs.Keeper.{KeeperView}
 use Rattle.lift_relay.specs.Heard.{FailureHeard}
-use Rattle.lift_serve.proofs.Relayings.{all_ended, ended_so, tells_no_network, tells_spawn}
+use Rattle.lift_serve.proofs.Relayings.{all_ended, ended_so, tells_spawn}
 use Rattle.lift_serve.proofs.serving.serve_from.Goals as goal
 
 pub returns-in-Ok-clause-comes : goal.returns-in-Ok-clause-comes
@@ -18,15 +18,15 @@ returns-in-Ok-clause-comes g c =
         ends = sym (c.behind.ensures.keeper ∙ c.leave.ensures.keeper);
       };
       seats = c.requires.count;
-      tells = tells_spawn c.in-Ok.ensures.ran.0 c.in-Ok.own _ _ c.in-Ok.ensures.ran.2 c.behind.ensures.fault;
-      begun = tells_no_network _ _ c.behind.ensures.fault;
+      tells = λ spawn. tells_spawn c.in-Ok.over _ _ c.behind.ensures.fault (c.in-Ok.ensures.ran.2 spawn);
+      begun = c.behind.ensures.begun;
     })
 
 pub returns-in-Ok-clause-ended : goal.returns-in-Ok-clause-ended
 returns-in-Ok-clause-ended g c = ended_so c.in-Ok.over _ c.args.listener.now c.args.sessions c.in-Ok.ensures.over c.behind.ensures.ended
 
 pub returns-in-Ok-clause-counted : goal.returns-in-Ok-clause-counted
-returns-in-Ok-clause-counted g c = all_ended c.in-Ok.own _ c.in-Ok.over _ _ c.behind.ensures.fault c.behind.ensures.ended
+returns-in-Ok-clause-counted g c = all_ended c.in-Ok.over _ _ _ c.behind.ensures.fault c.behind.ensures.ended
 
 pub returns-in-Ok-clause-heard : goal.returns-in-Ok-clause-heard
 returns-in-Ok-clause-heard g c =

@@ -1,0 +1,51 @@
+use Rattle.std.proofs.Common.{◌∙◌, rules, ap, Err}
+use Rattle.lift_program.specs.Stages.{fault_in}
+use Rattle.lift_program.proofs.Stages.{fault_there, replay_report}
+use Rattle.lift_program.proofs.Writing.{report_front}
+use Rattle.lift_program.proofs.given.done.Goals as goal
+
+pub returns-in-Err-clause-report : goal.returns-in-Err-clause-report
+returns-in-Err-clause-report g c = replay_report c.in-Err.fault _ _ c.in-Err.ensures.fault (λ same. c.in-Err.ensures.unwritten (ap Err same))
+
+pub returns-in-Ok-clause-only : goal.returns-in-Ok-clause-only
+returns-in-Ok-clause-only g c =
+    let input = g.R.Read.remaining c.args.input.now.reader in
+    let before = g.W.Write.contents c.args.writer.now in
+    let after = g.W.Write.contents c.replay.new.writer in
+    rw c.in-Replay.is (report_front input before after c.in-Ok.verdict c.in-Ok.ensures.report)
+
+pub returns-in-Ok-format-clause-end : goal.returns-in-Ok-format-clause-end
+returns-in-Ok-format-clause-end g c = rw c.in-Format.is c.in-Ok-format.ensures.made
+
+pub returns-in-Err-Opened-clause-end : goal.returns-in-Err-Opened-clause-end
+returns-in-Err-Opened-clause-end g c = rw c.in-Format.is (search rules)
+
+pub returns-in-Ok-show-clause-end : goal.returns-in-Ok-show-clause-end
+returns-in-Ok-show-clause-end g c = rw c.in-Show.is c.in-Ok-show.ensures.shown
+
+pub returns-in-Ok-show-clause-only : goal.returns-in-Ok-show-clause-only
+returns-in-Ok-show-clause-only g c = rw c.in-Show.is c.in-Ok-show.ensures.only
+
+pub returns-in-Err-NoBuilding-show-clause-only : goal.returns-in-Err-NoBuilding-show-clause-only
+returns-in-Err-NoBuilding-show-clause-only g c = rw c.in-Show.is c.in-Err-NoBuilding-show.ensures.only
+
+pub returns-in-Err-NoImage-show-clause-only : goal.returns-in-Err-NoImage-show-clause-only
+returns-in-Err-NoImage-show-clause-only g c = rw c.in-Show.is c.in-Err-NoImage-show.ensures.only
+
+pub returns-in-Err-Opened-show-clause-only : goal.returns-in-Err-Opened-show-clause-only
+returns-in-Err-Opened-show-clause-only g c = rw c.in-Show.is c.in-Err-Opened-show.ensures.only
+
+pub returns-in-Err-Opened-show-clause-end : goal.returns-in-Err-Opened-show-clause-end
+returns-in-Err-Opened-show-clause-end g c = rw c.in-Show.is (search rules)
+
+pub returns-in-Ok-ready_for-clause-ready : goal.returns-in-Ok-ready_for-clause-ready
+returns-in-Ok-ready_for-clause-ready g c =
+    rw c.in-Serve.is (c.in-Ok-ready_for.ensures.port, c.in-Ok-ready_for.ensures.sessions, c.in-Ok-ready_for.ensures.policy, c.in-Ok-ready_for.ensures.ready)
+
+pub returns-in-Err-Opened-ready_for-clause-end : goal.returns-in-Err-Opened-ready_for-clause-end
+returns-in-Err-Opened-ready_for-clause-end g c =
+    rw c.in-Serve.is (search rules, λ same. c.in-Err-Opened-ready_for.ensures.refused (ap (λ u. fault_in u) c.in-Err-Opened-ready_for.field-0-is ∙ same))
+
+pub returns-in-Err-Opened-ready_for-clause-unwritten : goal.returns-in-Err-Opened-ready_for-clause-unwritten
+returns-in-Err-Opened-ready_for-clause-unwritten g c =
+    λ is. c.in-Err-Opened-ready_for.ensures.failed (ap (λ u. fault_in u) c.in-Err-Opened-ready_for.field-0-is ∙ ap fault_there is)

@@ -1,0 +1,213 @@
+//! What the program is given, and what its words come to before anything is served.
+
+ghost use Rattle.std.specs.Prelude.{◌≡◌, ◌≤◌, None, Some, Err, true, map, IfOk, IfErr};
+ghost use Rattle.lift_replay.specs.Reading.{IsInputRead};
+ghost use Rattle.lift_replay.specs.declared.lines.Verdict.TheVariants.{Good};
+ghost use Rattle.lift_program.specs.declared.fault.Role.TheVariants.{Input, Output};
+ghost use Rattle.lift_program.specs.declared.words.Request.TheVariants.{Replay};
+ghost use Rattle.lift_program.specs.Ends.{AreReadyFor, IsAnswered, IsEndFor, IsEndOf, IsReadyFor};
+ghost use Rattle.lift_program.specs.Ends.{IsReportOfEnd, IsUncalled, IsUnread, WritesFor};
+ghost use Rattle.lift_program.specs.Ends.{line_at_once, serving_text, undone_for};
+ghost use Rattle.lift_program.specs.Listening.{local};
+ghost use Rattle.lift_program.specs.Output.{WriterHasFailed};
+ghost use Rattle.lift_program.specs.Words.{AskForRequest, IsRequestInRange};
+ghost use Rattle.std.specs.Io.KnownBytes.{Appends};
+
+use crate::end::{End, EndBy};
+use crate::fault::Fault;
+use crate::format::format;
+use crate::help::answer;
+use crate::left::Undone;
+use crate::listening::Listens;
+use crate::opening::{Files, FilesView, Openers, TextOpener};
+use crate::output::Outflow;
+use crate::ready::{Ready, ready_for};
+use crate::replay::replay;
+use crate::show::show;
+use crate::words::{Request, request_of};
+use lift_base::text::Counted;
+use lift_building::Building;
+use lift_disk::{BufferedFile, FileOpener};
+use std::alloc::Global;
+use std::convert::AsStr;
+use std::io::{Read, Write};
+use std::marker::PhantomData;
+
+/// The words behind the program's name, and what opens the files and the socket that they ask for.
+/// Nobody can take them apart: they can only be prepared, by a call that returns. So whoever waits
+/// with them has opened nothing, and nothing but what the words ask for can be opened by them. That
+/// a device fails is told to an `E`.
+#[derive(Drop)]
+pub struct Given<'w, B, I, L, S, E> {
+    files: Files<B, I>,
+    socket: L,
+    words: &'w [S],
+    told: PhantomData<E>,
+}
+
+/// Does what the request asks for; but what is to be served is only made ready.
+#[inline(never)]
+fn done<'b, B: TextOpener, I: FileOpener, L: Listens, R: Read + Drop, W: Outflow, E: Write + Drop>(
+    openers: Openers<B, I, L>,
+    alloc: Global,
+    place: &'b mut Option<Building>,
+    request: Request<'_>,
+    input: &mut Counted<R>,
+    writer: &mut W,
+) -> Result<Ready<'b, BufferedFile<I::Told>, E>, EndBy<I, I::Told>>
+    requires range { IsRequestInRange request }
+    requires uncalled { IsUncalled input.old }
+    ensures ready { IfOk result (λ ready. IsReadyFor
+        (⟦<Files<B, I> as FilesView>⟧.view openers.files) (L.gives openers.socket local) request.entry
+        ready.prepared.keeper ready.prepared.listening ready.port ready.prepared.sessions
+        ready.prepared.policy) }
+    ensures said { IfOk result (λ ready.
+        Appends (W.contents writer.old) (W.contents writer.new) (serving_text ready.port)) }
+    ensures end { IfErr result (IsEndFor (⟦<Files<B, I> as FilesView>⟧.view openers.files)
+        (L.gives openers.socket local) request.entry (W.contents writer.old)
+        (W.contents writer.new)) }
+    ensures only { WritesFor (⟦<Files<B, I> as FilesView>⟧.view openers.files)
+        (R.remaining input.old.reader) request.entry (W.contents writer.old)
+        (W.contents writer.new) }
+    ensures report { IfErr result (λ end. IsReportOfEnd (R.remaining input.old.reader) end
+        (W.contents writer.old) (W.contents writer.new)) }
+    ensures good { result ≡ Err (End.Replayed Good openers.files.image) → input.new.ended ≡ true }
+    ensures unread { result ≡ Err (End.Failed (Fault.File Input) openers.files.image)
+        → IsUnread input.new }
+    ensures few_calls { input.new.calls ≤ 2097152 }
+    ensures read { request.entry ≡ Replay
+        → result ≡ Err (End.Failed (Fault.File Output) openers.files.image)
+        → IsInputRead R.remaining input.old input.new }
+    ensures unwritten { IfErr result (λ end. undone_for end ≡ Some (Fault.File Output)
+        → WriterHasFailed W.gives W.flushes writer.old writer.new) }
+    // Nothing is told at once but of what is served.
+    ensures quiet { IfErr result (λ end. line_at_once end ≡ None) }
+{
+    match request {
+        Request::Replay => match replay(alloc, input, writer) {
+            Ok(verdict) => Err(End::Replayed(verdict, openers.unused())),
+            Err(fault) => Err(End::Failed(fault, openers.unused())),
+        },
+        Request::Format {
+            image,
+            building,
+            half,
+        } => {
+            let Openers { files, socket } = openers;
+            drop(socket);
+            match format(files, alloc, image, building, half) {
+                Ok(left) => Err(End::Formatted(left)),
+                Err(Undone::NoBuilding(fault, unused)) => Err(End::Failed(fault, unused)),
+                Err(Undone::NoImage(refused)) => Err(End::NoImage(refused.fault, refused.cause)),
+                Err(Undone::Opened(fault, left)) => Err(End::Unformatted(fault, left)),
+            }
+        }
+        Request::Show { image, building } => {
+            let Openers { files, socket } = openers;
+            drop(socket);
+            match show(files, alloc, image, building, writer) {
+                Ok(left) => Err(End::Shown(left)),
+                Err(Undone::NoBuilding(fault, unused)) => Err(End::Failed(fault, unused)),
+                Err(Undone::NoImage(refused)) => Err(End::NoImage(refused.fault, refused.cause)),
+                Err(Undone::Opened(fault, left)) => Err(End::Unshown(fault, left)),
+            }
+        }
+        Request::Serve {
+            image,
+            building,
+            port,
+            sessions,
+            policy,
+        } => match ready_for(
+            openers, alloc, place, image, building, port, sessions, policy, writer,
+        ) {
+            Ok(ready) => Ok(ready),
+            Err(Undone::NoBuilding(fault, unused)) => Err(End::Failed(fault, unused)),
+            Err(Undone::NoImage(refused)) => Err(End::NoImage(refused.fault, refused.cause)),
+            Err(Undone::Opened(fault, left)) => Err(End::Unserved(fault, left)),
+        },
+    }
+}
+
+impl<'w, B: TextOpener, I: FileOpener, L: Listens, S: AsStr, E: Write + Drop> Given<
+    'w,
+    B,
+    I,
+    L,
+    S,
+    E,
+> {
+    pub fn new(openers: Openers<B, I, L>, words: &'w [S]) -> Self
+        ensures files { result.files ≡ openers.files }
+        ensures socket { result.socket ≡ openers.socket }
+        ensures words { result.words.now ≡ words.now }
+    {
+        let Openers { files, socket } = openers;
+        Given {
+            files,
+            socket,
+            words,
+            told: PhantomData,
+        }
+    }
+
+    /// Does what the words ask for, and answers how it ended; but what they ask to be served is only
+    /// made ready, over a building that stands in `place`.
+    #[inline(never)]
+    pub(crate) fn prepare<'b, R: Read + Drop, W: Outflow>(
+        self,
+        alloc: Global,
+        place: &'b mut Option<Building>,
+        input: &mut Counted<R>,
+        writer: &mut W,
+    ) -> Result<Ready<'b, BufferedFile<I::Told>, E>, EndBy<I, I::Told>>
+        requires uncalled { IsUncalled input.old }
+        ensures ready { IfOk result (λ ready. AreReadyFor
+            (⟦<Files<B, I> as FilesView>⟧.view self.entry.files)
+            (L.gives self.entry.socket local) (map S.text self.entry.words.now) (W.contents writer.old)
+            (W.contents writer.new) ready.prepared.keeper ready.prepared.listening ready.port
+            ready.prepared.sessions ready.prepared.policy) }
+        // It ends as the words ask, and nothing is written but a front of what they ask for.
+        ensures end { IfErr result (IsEndOf (⟦<Files<B, I> as FilesView>⟧.view self.entry.files)
+            (L.gives self.entry.socket local) (R.remaining input.old.reader)
+            (map S.text self.entry.words.now) (W.contents writer.old) (W.contents writer.new)) }
+        // A script's report is that of the input, and a journal's are its open calls.
+        ensures report { IfErr result (λ end. IsReportOfEnd (R.remaining input.old.reader) end
+            (W.contents writer.old) (W.contents writer.new)) }
+        // Words that ask for nothing are answered by how the program is called, if they ask for help.
+        ensures answered { result ≡ Err (End.OtherWords self.entry.files.image)
+            → IsAnswered (map S.text self.entry.words.now)
+            (WriterHasFailed W.gives W.flushes writer.old writer.new) (W.contents writer.old)
+            (W.contents writer.new) }
+        // A good script was read to its end,
+        ensures good { result ≡ Err (End.Replayed Good self.entry.files.image)
+            → input.new.ended ≡ true }
+        // one that is undone for the standard input could not be read,
+        ensures unread { result ≡ Err (End.Failed (Fault.File Input) self.entry.files.image)
+            → IsUnread input.new }
+        // and one that is undone for the standard output was.
+        ensures read { AskForRequest (map S.text self.entry.words.now) Replay
+            → result ≡ Err (End.Failed (Fault.File Output) self.entry.files.image)
+            → IsInputRead R.remaining input.old input.new }
+        // The standard output is told only where it failed.
+        ensures unwritten { IfErr result (λ end. undone_for end ≡ Some (Fault.File Output)
+            → WriterHasFailed W.gives W.flushes writer.old writer.new) }
+        ensures quiet { IfErr result (λ end. line_at_once end ≡ None) }
+    {
+        let Given {
+            files,
+            socket,
+            words,
+            told: _,
+        } = self;
+        let openers = Openers { files, socket };
+        match request_of(alloc, words) {
+            Ok(Some(request)) => done(openers, alloc, place, request, input, writer),
+            Ok(None) => {
+                answer(words, writer);
+                Err(End::OtherWords(openers.unused()))
+            }
+            Err(no_memory) => Err(End::Failed(Fault::Memory(no_memory), openers.unused())),
+        }
+    }
+}

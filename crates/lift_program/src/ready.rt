@@ -1,0 +1,120 @@
+//! What a serving takes, all of it had: it can only be served.
+
+ghost use Rattle.std.specs.Prelude.{◌≡◌, Some, None, IfOk, IfErr, OnOk, OnErr};
+ghost use Rattle.std.specs.Io.KnownBytes.{Appends};
+ghost use Rattle.lift_program.specs.Ends.{IsFileFault, IsReportOfFault, SaysFront, serving_text};
+ghost use Rattle.lift_program.specs.Listening.{local};
+ghost use Rattle.lift_program.specs.Output.{IsOutputSettled, WriterHasFailed};
+ghost use Rattle.lift_program.specs.Serving.{IsReadyOver};
+ghost use Rattle.lift_program.specs.Stages.{IsUndoneServing, fault_in};
+ghost use Rattle.lift_program.specs.declared.fault.Role.TheVariants.{Output};
+
+use crate::fault::Fault;
+use crate::files::building_in;
+use crate::keeping::{ImageKey, keeper_in, left_by};
+use crate::left::{Left, Undone};
+use crate::listening::Listens;
+use crate::opening::{Files, FilesView, Openers, TextOpener};
+use crate::output::{Outflow, write_out};
+use arrayvec::ArrayString;
+use itoa::Buffer;
+use lift_building::Building;
+use lift_disk::{BufferedFile, Disk, FileOpener};
+use lift_policy::Shipped;
+use lift_serve::{Listening, Prepared};
+use std::alloc::Global;
+use std::io::Write;
+
+/// A building that is to be served on a port. It can't be let go: `serve` alone takes it. Whoever
+/// serves it tells an `E` that the device failed.
+pub(crate) struct Ready<'b, D: Disk + Drop, E> {
+    pub(crate) port: u16,
+    pub(crate) prepared: Prepared<'b, D, Shipped, ImageKey<E>>,
+}
+
+/// Says which port is served.
+fn say<W: Outflow>(port: u16, writer: &mut W) -> Result<(), Fault>
+    ensures said { OnOk result
+        (Appends (W.contents writer.old) (W.contents writer.new) (serving_text port)) }
+    ensures front { OnErr result
+        (SaysFront port (W.contents writer.old) (W.contents writer.new)) }
+    ensures fault { IfErr result (IsFileFault Output) }
+    ensures settled { IsOutputSettled W.gives W.flushes writer.old writer.new result }
+{
+    let mut digits = Buffer::new();
+    let mut line: ArrayString<64> = ArrayString::new();
+    line.push_str("serving ");
+    line.push_str(digits.format(port));
+    line.push_str("\n");
+    write_out(writer, line.as_str().as_bytes())
+}
+
+/// A socket that listens on this machine alone.
+fn listen_here<L: Listens>(socket: L, port: u16) -> Result<Listening, Fault>
+    ensures here { IfOk result (λ listening. L.gives socket local port (Some listening)) }
+    ensures refused { OnErr result (L.gives socket local port None) }
+    ensures fault { IfErr result (λ fault. fault ≡ Fault.Network) }
+{
+    match socket.listen([127, 0, 0, 1], port) {
+        Ok(listening) => Ok(listening),
+        Err(_) => Err(Fault::Network),
+    }
+}
+
+/// All that it takes to serve the building in the file `building` on a port of this machine, with
+/// the journal in the file `image`, until so many connections have ended. The building stands in
+/// `place`. That the port is served is said behind all that can be refused here.
+#[inline(never)]
+#[tactic(auto, using(crate::proofs::Stages::nothing_written, crate::proofs::Writing::nothing_said, crate::proofs::Writing::said_front))]
+pub(crate) fn ready_for<'b, B: TextOpener, I: FileOpener, L: Listens, W: Outflow, E: Write + Drop>(
+    openers: Openers<B, I, L>,
+    alloc: Global,
+    place: &'b mut Option<Building>,
+    image: &str,
+    building: &str,
+    port: u16,
+    sessions: u32,
+    policy: Shipped,
+    writer: &mut W,
+) -> Result<Ready<'b, BufferedFile<I::Told>, E>, Undone<BufferedFile<I::Told>, I::Told, I>>
+    ensures said { OnOk result
+        (Appends (W.contents writer.old) (W.contents writer.new) (serving_text port)) }
+    // The socket was asked for at 127.0.0.1, at this port.
+    ensures ready { IfOk result (λ ready. IsReadyOver
+        (⟦<Files<B, I> as FilesView>⟧.view openers.files) (L.gives openers.socket local port)
+        image.now building.now ready.prepared.keeper ready.prepared.listening) }
+    ensures port { IfOk result (λ ready. ready.port ≡ port) }
+    ensures sessions { IfOk result (λ ready. ready.prepared.sessions ≡ sessions) }
+    ensures policy { IfOk result (λ ready. ready.prepared.policy ≡ policy) }
+    // The port is told only where that was refused.
+    ensures refused { IfErr result (λ undone. fault_in undone ≡ Fault.Network
+        → L.gives openers.socket local port None) }
+    // Nothing was written to an image that isn't served.
+    ensures undone { IfErr result (IsUndoneServing
+        (⟦<Files<B, I> as FilesView>⟧.view openers.files) image.now building.now) }
+    ensures report { IfErr result (λ undone.
+        IsReportOfFault (fault_in undone) (W.contents writer.old) (W.contents writer.new)) }
+    ensures front { SaysFront port (W.contents writer.old) (W.contents writer.new) }
+    ensures failed { IfErr result (λ undone. fault_in undone ≡ Fault.File Output
+        → WriterHasFailed W.gives W.flushes writer.old writer.new) }
+{
+    let Openers { files, socket } = openers;
+    let described = match building_in(files.building, alloc, building) {
+        Ok(building) => building,
+        Err(fault) => return Err(Undone::NoBuilding(fault, Left::new(files.image))),
+    };
+    let standing: &'b Building = place.insert(described);
+    let keeper = match keeper_in(files.image, image, standing) {
+        Ok(keeper) => keeper,
+        Err(undone) => return Err(undone),
+    };
+    let listening = match listen_here(socket, port) {
+        Ok(listening) => listening,
+        Err(fault) => return Err(Undone::Opened(fault, left_by(keeper))),
+    };
+    if let Err(fault) = say(port, writer) {
+        return Err(Undone::Opened(fault, left_by(keeper)));
+    }
+    let prepared = Prepared::new(listening, sessions, keeper, policy);
+    Ok(Ready { port, prepared })
+}

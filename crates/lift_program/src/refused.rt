@@ -1,0 +1,158 @@
+//! What memory may be wanting for, and the evidence that none was left.
+
+ghost use Rattle.std.specs.Prelude.{◌≡◌, ◌≢◌, Some, None, true, false, map};
+ghost use Rattle.std.specs.Prelude.{IfOk, IfErr, IfSome, IfNone, OnOk, OnErr};
+ghost use Rattle.std.specs.Io.KnownBytes.{Keeps};
+ghost use Rattle.std.specs.IoError.{error_kind};
+ghost use Rattle.lift_program.specs.Ends.{IsFileFault};
+ghost use Rattle.lift_program.specs.Faults.{served_fault};
+ghost use Rattle.lift_program.specs.Stages.{IsImageFault};
+ghost use Rattle.lift_program.specs.Words.{AreMatchesOf, AskForRequest, AsksNothing};
+ghost use Rattle.lift_program.specs.declared.fault.Fault.TheVariants.{Memory as Wanting};
+ghost use Rattle.lift_program.specs.declared.fault.Role.TheVariants.{Building as OfBuilding};
+ghost use Rattle.lift_program.specs.declared.fault.Role.TheVariants.{Image as OfImage, Output};
+
+use crate::fault::{Fault, Role};
+use crate::grammar::grammar;
+use crate::opening::TextOpener;
+use crate::output::Outflow;
+use clap::ArgMatches;
+use clap::error::ErrorKind as WordsFault;
+use lift_disk::FileFault;
+use lift_serve::{Refusal, ServeFault};
+use std::alloc::Global;
+use std::convert::AsStr;
+use std::io;
+use std::io::ErrorKind;
+use std::marker::Model;
+
+/// That no memory was left. Only the calls below make one, each where it was refused: by evidence of
+/// the crate below, by the grammar of the words, or by the system's error.
+#[derive(Clone, Copy)]
+pub struct NoMemory {
+    made: (),
+}
+
+impl Model for NoMemory {
+    ghost use Rattle.std.specs.Prelude.{◌≡◌};
+
+    ghost Value = { Unit {0} };
+
+    ghost view = { λ _. tt };
+
+    ghost inverse = { λ _. record { made = tt } };
+}
+
+impl NoMemory {
+    /// The evidence, where that is why the system refused a call.
+    pub(crate) fn of_call(error: &io::Error) -> Option<NoMemory>
+        ensures memory { error_kind error.now ≡ ErrorKind.OutOfMemory → result ≡ Some tt }
+        ensures other { error_kind error.now ≢ ErrorKind.OutOfMemory → result ≡ None }
+    {
+        if error.kind() == ErrorKind::OutOfMemory {
+            Some(NoMemory { made: () })
+        } else {
+            None
+        }
+    }
+}
+
+impl From<lift_building::NoMemory> for Fault {
+    ghost from_gives = { λ _ fault. fault ≡ Wanting tt };
+
+    fn from(_no_memory: lift_building::NoMemory) -> Fault {
+        Fault::Memory(NoMemory { made: () })
+    }
+}
+
+impl From<lift_replay::NoMemory> for Fault {
+    ghost from_gives = { λ _ fault. fault ≡ Wanting tt };
+
+    fn from(_no_memory: lift_replay::NoMemory) -> Fault {
+        Fault::Memory(NoMemory { made: () })
+    }
+}
+
+impl From<Refusal> for Fault {
+    ghost from_gives = { λ refusal fault. Some fault ≡ served_fault false (Some refusal) };
+
+    fn from(refusal: Refusal) -> Fault {
+        match refusal.fault() {
+            ServeFault::Network => Fault::Network,
+            ServeFault::Thread => Fault::Thread,
+            ServeFault::Memory => Fault::Memory(NoMemory { made: () }),
+        }
+    }
+}
+
+/// What a refused call on a file in this role comes to.
+fn told(role: Role, error: &io::Error) -> Fault
+    ensures memory { error_kind error.now ≡ ErrorKind.OutOfMemory → result ≡ Fault.Memory tt }
+    ensures file { error_kind error.now ≢ ErrorKind.OutOfMemory → result ≡ Fault.File role }
+{
+    match NoMemory::of_call(error) {
+        Some(no_memory) => Fault::Memory(no_memory),
+        None => Fault::File(role),
+    }
+}
+
+/// What is told of a file that can't be an image.
+pub(crate) fn told_as<F: Drop, O: Drop>(cause: &FileFault<F, O>) -> Fault
+    ensures file { IsFileFault OfImage result }
+    ensures told { IsImageFault cause.now result }
+{
+    match cause {
+        FileFault::Untold(error, _) => told(Role::Image, error),
+        FileFault::NotAFile(_) => Fault::File(Role::Image),
+        FileFault::Unopened(error) => told(Role::Image, error),
+        FileFault::Stopped(stopped) => told(Role::Image, &stopped.error),
+    }
+}
+
+/// What reads the file of a building.
+pub(crate) fn text_in<B: TextOpener>(opener: B, path: &str) -> Result<B::Text, Fault>
+    ensures opened { IfOk result (λ text. B.opens opener path.now (Some text)) }
+    ensures fault { IfErr result (IsFileFault OfBuilding) }
+{
+    match opener.open_text(path) {
+        Ok(text) => Ok(text),
+        Err(error) => Err(told(Role::Building, &error)),
+    }
+}
+
+/// Has the standard output pass on what was written.
+pub(crate) fn pass_on<W: Outflow>(writer: &mut W) -> Result<(), Fault>
+    ensures flushed { OnOk result (W.flushes writer.old true writer.new) }
+    ensures failed { OnErr result (W.flushes writer.old false writer.new) }
+    ensures bytes { Keeps (W.contents writer.old) (W.contents writer.new) }
+    ensures fault { IfErr result (IsFileFault Output) }
+{
+    match writer.settle() {
+        Ok(()) => Ok(()),
+        Err(error) => Err(told(Role::Output, &error)),
+    }
+}
+
+/// What the program's grammar finds in the words; none where it doesn't take them.
+pub(crate) fn matches_of<'a, S: AsStr>(
+    alloc: Global,
+    words: &'a [S],
+) -> Result<Option<ArgMatches<'a>>, NoMemory>
+    ensures taken { IfOk result (λ found. IfSome found (AreMatchesOf (map S.text words.now))) }
+    ensures other { IfOk result (λ found.
+        IfNone found (AsksNothing (AskForRequest (map S.text words.now)))) }
+{
+    let Ok(command) = grammar(alloc) else {
+        return Err(NoMemory { made: () });
+    };
+    match command.try_get_matches_from(words) {
+        Ok(matches) => Ok(Some(matches)),
+        Err(error) => {
+            if error.kind() == WordsFault::OutOfMemory {
+                Err(NoMemory { made: () })
+            } else {
+                Ok(None)
+            }
+        }
+    }
+}
