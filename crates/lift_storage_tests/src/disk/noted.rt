@@ -1,17 +1,15 @@
 //! A device on a file that notes how it is called.
 use crate::disk::calls::Call;
-use lift_disk::{Disk, HostFile, SectorFile, SystemFile, TracedFile};
+use lift_disk::{Buffered, Disk, HostFile, SectorFile, SystemFile, TracedFile};
 use std::cell::Cell;
 use std::fs::{Metadata, OpenFile};
 use std::io;
 use std::io::ErrorKind;
 use std::os::unix::fs::FileExt;
-use std::test::Fail;
 
 /// Where the file was read and written last, how often it was synced, and how often what is cached
 /// was dropped behind; how many bytes it was given, its length, and whether it was made safe with
-/// that; whether its lock is to be had, and its
-/// reads, writes and syncs succeed.
+/// that; how many calls more succeed before one fails.
 #[derive(Drop)]
 struct Notes {
     read: Cell<u64>,
@@ -21,9 +19,11 @@ struct Notes {
     given: Cell<u64>,
     length: Cell<u64>,
     safe_length: Cell<u64>,
-    is_free: Cell<bool>,
-    is_well: Cell<bool>,
+    left: Cell<u32>,
 }
+
+/// So many calls are never made.
+const ALL: u32 = u32::MAX;
 
 impl Notes {
     fn new() -> Notes {
@@ -35,8 +35,7 @@ impl Notes {
             given: Cell::new(0),
             length: Cell::new(0),
             safe_length: Cell::new(0),
-            is_free: Cell::new(true),
-            is_well: Cell::new(true),
+            left: Cell::new(ALL),
         }
     }
 
@@ -52,11 +51,13 @@ impl Notes {
 
     /// What a call comes to.
     fn outcome(&self) -> io::Result<()> {
-        if self.is_well.get() {
-            Ok(())
-        } else {
-            Err(io::Error::from(ErrorKind::TimedOut))
+        let left = self.left.get();
+        if left == 0 {
+            self.left.set(ALL);
+            return Err(io::Error::from(ErrorKind::TimedOut));
         }
+        self.left.set(left - 1);
+        Ok(())
     }
 }
 
@@ -84,15 +85,18 @@ impl FileExt for NotedFile<'_> {
 
 impl OpenFile for NotedFile<'_> {
     fn metadata(&self) -> io::Result<Metadata> {
+        self.notes.outcome()?;
         Ok(Metadata::of_file(0))
     }
 
     fn set_len(&self, size: u64) -> io::Result<()> {
+        self.notes.outcome()?;
         self.notes.length.set(size);
         Ok(())
     }
 
     fn sync_all(&self) -> io::Result<()> {
+        self.notes.outcome()?;
         self.notes.safe_length.set(self.notes.length.get());
         Ok(())
     }
@@ -107,19 +111,19 @@ impl OpenFile for NotedFile<'_> {
 
 impl HostFile for NotedFile<'_> {
     fn try_lock(&self) -> io::Result<()> {
-        if self.notes.is_free.get() {
-            Ok(())
-        } else {
-            Err(io::Error::from(ErrorKind::WouldBlock))
-        }
+        self.notes.outcome()
     }
 
     fn drop_cached(&self) -> io::Result<()> {
         self.notes
             .drops
             .set(self.notes.drops.get().saturating_add(1));
-        Ok(())
+        self.notes.outcome()
     }
+}
+
+fn file(notes: &Notes) -> SystemFile<NotedFile<'_>> {
+    SystemFile::over(NotedFile { notes })
 }
 
 /// Whether the call comes to what it says, and the file was then read and written last at these
@@ -135,47 +139,88 @@ fn is_noted<D: Disk>(
 
 /// Each call of the device is one of the file: at 512 times the sector, or a sync of its data.
 /// Behind the first sync, and behind the first one that follows a failed call, what is cached is
-/// dropped.
+/// dropped, and the sync fails where that does.
 #[test]
 fn each_call_is_one_of_the_file(rt: HostRuntime) {
     let notes = Notes::new();
-    let mut disk = SectorFile::over(
-        TracedFile::over(SystemFile::over(NotedFile { notes: &notes })),
-        8,
-    );
-    for (is_well, call, noted) in [
-        (true, Call::Put(3, 1), (1, 1536, 0, 0)),
-        (true, Call::Put(0, 1), (1, 0, 0, 0)),
-        (true, Call::Get(5, 1), (2560, 0, 0, 0)),
-        (true, Call::Sync, (2560, 0, 1, 1)),
-        (true, Call::Put(1, 1), (2560, 512, 1, 1)),
-        (true, Call::Sync, (2560, 512, 2, 1)),
-        (false, Call::PutFails(2, 1), (2560, 1024, 2, 1)),
-        (true, Call::Sync, (2560, 1024, 3, 2)),
-        (false, Call::SyncFails, (2560, 1024, 4, 2)),
-        (false, Call::SyncFails, (2560, 1024, 5, 2)),
-        (true, Call::Sync, (2560, 1024, 6, 3)),
-        (false, Call::GetFails(4), (2048, 1024, 6, 3)),
-        (true, Call::Sync, (2048, 1024, 7, 4)),
-        (true, Call::Sync, (2048, 1024, 8, 4)),
+    let mut disk = SectorFile::over(TracedFile::over(file(&notes)), 8);
+    for (left, call, noted) in [
+        (ALL, Call::Put(3, 1), (1, 1536, 0, 0)),
+        (ALL, Call::Put(0, 1), (1, 0, 0, 0)),
+        (ALL, Call::Get(5, 1), (2560, 0, 0, 0)),
+        (ALL, Call::Sync, (2560, 0, 1, 1)),
+        (ALL, Call::Put(1, 1), (2560, 512, 1, 1)),
+        (ALL, Call::Sync, (2560, 512, 2, 1)),
+        (0, Call::PutFails(2, 1), (2560, 1024, 2, 1)),
+        (ALL, Call::Sync, (2560, 1024, 3, 2)),
+        (0, Call::SyncFails, (2560, 1024, 4, 2)),
+        (0, Call::SyncFails, (2560, 1024, 5, 2)),
+        (1, Call::SyncFails, (2560, 1024, 6, 3)),
+        (ALL, Call::Sync, (2560, 1024, 7, 4)),
+        (0, Call::GetFails(4), (2048, 1024, 7, 4)),
+        (ALL, Call::Sync, (2048, 1024, 8, 5)),
+        (ALL, Call::Sync, (2048, 1024, 9, 5)),
     ] {
-        notes.is_well.set(is_well);
+        notes.left.set(left);
         assert!(rt; is_noted(&mut disk, &notes, &call, &noted));
     }
 }
 
-/// A file that is made has its length, each of its sectors is written, and that is made safe;
-/// opened, it is as it was, and so it is where another has its lock.
+/// Behind a first sync calls that succeed leave nothing to be dropped, also where they are joined.
 #[test]
-fn a_file_is_made_with_its_sectors(rt: HostRuntime) -> Result<(), Fail> {
+fn nothing_is_dropped_behind_joined_calls(rt: HostRuntime) {
     let notes = Notes::new();
-    let _opened = TracedFile::over(SystemFile::over(NotedFile { notes: &notes }));
-    notes.is_free.set(false);
-    assert!(rt; TracedFile::zeroed(SystemFile::over(NotedFile { notes: &notes }), 300).is_err());
+    let mut disk = Buffered::over(SectorFile::over(TracedFile::over(file(&notes)), 40));
+    for (call, noted) in [
+        (Call::Put(3, 1), (1, 1, 0, 0)),
+        (Call::Put(4, 1), (1, 1, 0, 0)),
+        (Call::Sync, (1, 1536, 1, 1)),
+        (Call::Get(9, 0), (4608, 1536, 1, 1)),
+        (Call::Put(5, 1), (4608, 1536, 1, 1)),
+        (Call::Sync, (4608, 2560, 2, 1)),
+        (Call::Get(30, 0), (15360, 2560, 2, 1)),
+        (Call::Sync, (15360, 2560, 3, 1)),
+    ] {
+        assert!(rt; is_noted(&mut disk, &notes, &call, &noted));
+    }
+}
+
+/// Whether a file of 300 sectors is made where the call behind so many fails.
+fn is_made(notes: &Notes, calls: u32) -> bool {
+    notes.left.set(calls);
+    notes.given.set(0);
+    TracedFile::zeroed(file(notes), 300).is_ok()
+}
+
+/// A file that is made has its length, each of its sectors is written, and that is made safe, by
+/// seven calls, each of which has to succeed; opened, it is as it was, and so it is where another
+/// has its lock.
+#[test]
+fn a_file_is_made_with_its_sectors(rt: HostRuntime) {
+    let notes = Notes::new();
+    let _opened = TracedFile::over(file(&notes));
+    assert!(rt; !is_made(&notes, 0));
     assert!(rt; notes.length.get() == 0 && notes.syncs.get() == 0 && notes.written.get() == 1);
-    notes.is_free.set(true);
-    assert!(rt; TracedFile::zeroed(SystemFile::over(NotedFile { notes: &notes }), 300).is_ok());
+    for calls in 1..7u32 {
+        assert!(rt; !is_made(&notes, calls));
+    }
+    assert!(rt; is_made(&notes, 7) && notes.left.get() == 0);
     assert!(rt; notes.length.get() == 153_600 && notes.safe_length.get() == 153_600);
     assert!(rt; notes.given.get() == 153_600 && notes.written.get() == 131_072);
-    Ok(())
+}
+
+/// One that is opened has to tell its length, and its lock has to be had.
+#[test]
+fn a_file_is_opened_by_calls_that_succeed(rt: HostRuntime) {
+    let notes = Notes::new();
+    for (left, is_locked, is_measured) in [
+        (0u32, false, false),
+        (1, false, true),
+        (2, true, true),
+    ] {
+        notes.left.set(left);
+        assert!(rt; TracedFile::locked(file(&notes)).is_ok() == is_locked);
+        notes.left.set(left);
+        assert!(rt; TracedFile::measured(file(&notes)).is_ok() == is_measured);
+    }
 }

@@ -1,6 +1,6 @@
 //! A device on a file that moves a piece at each call, fails where it was told to, and counts its
 //! calls.
-use crate::disk::calls::{Call, get, put};
+use crate::disk::calls::{Call, get, put, sync};
 use lift_disk::{Buffered, Disk, HostFile, SectorFile, SystemFile, TracedFile};
 use std::alloc::{AllocError, Global};
 use std::cell::Cell;
@@ -241,15 +241,15 @@ fn are_themselves_by_each<D: Disk>(disk: &mut D) -> bool {
     true
 }
 
-/// Whatever is read at once, each sector is read as it was written: forwards, backwards, and by
-/// leaps.
+/// Whatever is written and read at once, also by calls of the file that move a part of it, each
+/// sector is read as it was written: forwards, backwards, and by leaps.
 #[test]
 fn each_sector_is_read_as_itself(rt: HostRuntime) -> Result<(), AllocError> {
     for piece in [usize::MAX, 1000] {
         let calls = Calls::new();
-        let mut disk = device(rt.alloc(), piece, &calls)?;
-        assert!(rt; put_each(&mut disk));
-        assert!(rt; are_themselves_by_each(&mut Buffered::over(disk)));
+        let mut disk = Buffered::over(device(rt.alloc(), piece, &calls)?);
+        assert!(rt; put_each(&mut disk) && sync(&mut disk));
+        assert!(rt; are_themselves_by_each(&mut Buffered::over(disk.into_inner())));
     }
     Ok(())
 }
