@@ -5,17 +5,30 @@
  *     LD_PRELOAD=$PWD/count-calls.so COUNT_CALLS=counts liftd show ..
  *
  * At the program's end the file that COUNT_CALLS names holds one line: the reads, the writes and
- * the syncs. Calls on connections and streams, which have no offset, are not counted.
+ * the syncs, and how many of these were of the folder that COUNT_FOLDER names, if it names one.
+ * Calls on connections and streams, which have no offset, are not counted. COUNT_FAIL is the number
+ * of a sync that fails, counted from 1.
  */
+#include <errno.h>
 #include <fcntl.h>
 #include <stdio.h>
 #include <stdlib.h>
+#include <sys/stat.h>
 #include <sys/syscall.h>
 #include <unistd.h>
 
-static unsigned long reads, writes, syncs;
+static unsigned long reads, writes, syncs, of_folder;
 
-static void count(unsigned long *calls) { __atomic_add_fetch(calls, 1, __ATOMIC_RELAXED); }
+static unsigned long count(unsigned long *calls) { return __atomic_add_fetch(calls, 1, __ATOMIC_RELAXED); }
+
+/* Whether this sync is the one that fails. */
+static int does_fail(void) {
+    const char *failing = getenv("COUNT_FAIL");
+    unsigned long at = count(&syncs);
+    if (!failing || strtoul(failing, NULL, 10) != at) return 0;
+    errno = EIO;
+    return 1;
+}
 
 __attribute__((destructor)) static void tell(void) {
     const char *path = getenv("COUNT_CALLS");
@@ -23,7 +36,7 @@ __attribute__((destructor)) static void tell(void) {
     if (!path) return;
     int flags = O_WRONLY | O_CREAT | O_TRUNC;
     int file = (int)syscall(SYS_openat, AT_FDCWD, path, flags, 0666);
-    int length = snprintf(told, sizeof told, "%lu %lu %lu\n", reads, writes, syncs);
+    int length = snprintf(told, sizeof told, getenv("COUNT_FOLDER") ? "%lu %lu %lu %lu\n" : "%lu %lu %lu\n", reads, writes, syncs, of_folder);
     if (file >= 0) syscall(SYS_write, file, told, (size_t)length);
 }
 
@@ -52,11 +65,14 @@ ssize_t pwrite64(int fd, const void *bytes, size_t length, off_t offset) {
 }
 
 int fsync(int fd) {
-    count(&syncs);
+    const char *folder = getenv("COUNT_FOLDER");
+    struct stat named, synced;
+    if (does_fail()) return -1;
+    if (folder && !stat(folder, &named) && !fstat(fd, &synced) && named.st_dev == synced.st_dev && named.st_ino == synced.st_ino)
+        count(&of_folder);
     return (int)syscall(SYS_fsync, fd);
 }
 
 int fdatasync(int fd) {
-    count(&syncs);
-    return (int)syscall(SYS_fdatasync, fd);
+    return does_fail() ? -1 : (int)syscall(SYS_fdatasync, fd);
 }

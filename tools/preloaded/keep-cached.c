@@ -9,8 +9,8 @@
  *
  * A sync that fails tells EIO, and takes its pages for written, though none of them was, or, with CACHE_PART=N, though some
  * were not, by chances that begin with the number N. A later sync writes none of them, until something is written to the same
- * page again. posix_fadvise with POSIX_FADV_DONTNEED drops the pages that no sync has to write, so that reads give what the
- * disk holds; with CACHE_ADVICE=ignore it does nothing, and with CACHE_ADVICE=refuse it fails.
+ * page again. posix_fadvise with POSIX_FADV_DONTNEED drops the pages that no sync has to write, of those that lie wholly in its
+ * range, so that reads give what the disk holds; with CACHE_ADVICE=ignore it does nothing, and with CACHE_ADVICE=refuse it fails.
  *
  * CACHE_FAIL tells which calls of this process fail, counted from 1: sync:N or write:N, several joined by commas, N a number
  * or two joined by a dash. A write that fails changes nothing. CACHE_COUNT names a file into which, after each call,
@@ -172,7 +172,10 @@ int posix_fadvise(int fd, off_t offset, off_t size, int advice) {
     } else if (how && !strcmp(how, "refuse")) {
         told = ENOSYS;
     } else if (!how || strcmp(how, "ignore")) {
-        for (size_t page = 0; page < MOST; page++) {
+        struct stat now;
+        size_t page = ((size_t)offset + PAGE - 1) / PAGE, end = MOST;
+        if (size && !fstat(fd, &now) && offset + size < now.st_size) end = (size_t)(offset + size) / PAGE;
+        for (; page < end && page < MOST; page++) {
             if (cache->state[page] != TAKEN_FOR_WRITTEN) continue;
             cache->state[page] = AS_ON_DISK;
             dropped++;
