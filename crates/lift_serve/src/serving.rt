@@ -60,6 +60,9 @@ pub struct Prepared<'b, D: Disk + Drop, P, K: Drop> {
 impl<'b, D: Disk + Drop, P, K: Drop> Prepared<'b, D, P, K> {
     /// The keeper's building is to be served with this policy at this socket, until so many
     /// connections have ended.
+    ///
+    /// It stays a call: built into its caller, the copies of a keeper take the compiler ten minutes.
+    #[inline(never)]
     pub fn new(listening: Listening, sessions: u32, keeper: HeldKeeper<'b, D, K>, policy: P) -> Self
         requires { keeper.state.batch ≡ [] }
         ensures listening { result.listening ≡ listening }
