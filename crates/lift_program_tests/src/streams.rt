@@ -34,6 +34,26 @@ impl Write for Failing {
     }
 }
 
+/// A stream that takes all bytes, and passes them on only where it is asked twice.
+#[derive(Drop)]
+struct Slow {
+    is_asked: bool,
+}
+
+impl Write for Slow {
+    fn write(&mut self, buf: &[u8]) -> io::Result<usize> {
+        Ok(buf.len())
+    }
+
+    fn flush(&mut self) -> io::Result<()> {
+        if self.is_asked {
+            return Ok(());
+        }
+        self.is_asked = true;
+        Err(io::Error::from(io::ErrorKind::TimedOut))
+    }
+}
+
 /// What a run opens its files and its socket by.
 pub(crate) fn openers(
     rt: &HostRuntime,
@@ -93,7 +113,30 @@ impl Run {
 const SMALL: &str =
     "floors = 2\ndoor_ms = 0\nkiosks = [0]\nflight = [[0, 1], [1, 0]]\ncars = [{ places = 1 }]";
 
-/// The standard output is a file too.
+/// Whether the output is told as what failed.
+fn is_told<F, B: TextOpener, I: FileOpener, L: Listens, W: Write>(
+    rt: &F,
+    openers: Openers<B, I, L>,
+    words: &[&str],
+    writer: &mut W,
+) -> bool
+where
+    F: Alloc<A = Global> + Threads + Wait + Clock + Sync,
+{
+    let mut errors = Vec::new(rt.alloc());
+    let status = start(
+        rt,
+        Given::new(openers, words),
+        rt.alloc(),
+        b"".as_slice(),
+        writer,
+        &mut Watched::new(&mut errors),
+    );
+    status == 1 && errors.as_slice() == b"liftd: file\n".as_slice()
+}
+
+/// The standard output is a file too, also where it takes all bytes and then can't pass them on. It
+/// isn't asked again.
 #[test]
 fn outputs_that_fail(rt: HostRuntime) -> Result<(), Fail> {
     let building = "liftd_unheard.toml";
@@ -104,16 +147,9 @@ fn outputs_that_fail(rt: HostRuntime) -> Result<(), Fail> {
     let show = ["show", image, building];
     let replay = ["replay"];
     for words in [show.as_slice(), replay.as_slice()] {
-        let mut errors = Vec::new(rt.alloc());
-        let status = start(
-            &rt,
-            Given::new(openers(&rt), words),
-            rt.alloc(),
-            b"".as_slice(),
-            &mut Failing,
-            &mut Watched::new(&mut errors),
-        );
-        assert!(rt; status == 1 && errors.as_slice() == b"liftd: file\n".as_slice());
+        let is_told_failing = is_told(&rt, openers(&rt), words, &mut Failing);
+        let is_told_slow = is_told(&rt, openers(&rt), words, &mut Slow { is_asked: false });
+        assert!(rt; is_told_failing && is_told_slow);
     }
     fs::remove_file(&rt, image)?;
     fs::remove_file(&rt, building)?;
