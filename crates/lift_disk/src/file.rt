@@ -32,7 +32,7 @@ pub enum FileFault<F: Drop, O: Drop> {
     Stopped(Stopped<F>),
 }
 
-/// How many whole sectors a file of so many bytes has, 4,294,967,295 at most.
+/// How many whole sectors a file of this many bytes has, 4,294,967,295 at most.
 fn whole_sectors(bytes: u64) -> u32
     ensures { result ≡ sectors_in bytes }
 {
@@ -115,9 +115,9 @@ impl<F: ToldFile + Drop> SectorFile<F> {
         }
     }
 
-    /// Makes a file of so many sectors of zeros, or makes one that is there into that, if its lock
-    /// is to be had. Its sectors are written and its folder is made safe, so that it has its room
-    /// and its name. A file that was opened and is refused comes back.
+    /// Makes a file of this many sectors of zeros, or makes one that is there into that, if its
+    /// lock is to be had. Its sectors are written and its folder is made safe, so that it has its
+    /// room and its name. A file that was opened and is refused comes back.
     pub fn create<O: FileOpener<Told = F>>(
         opener: O,
         path: &str,
