@@ -85,7 +85,7 @@ impl<'d, 'b, D: Disk, P: Policy + Drop> Clerk<'d, 'b, D, P> {
     }
 
     /// Tells it what a terminal has asked so far, and the terminal what was answered there so far.
-    /// Behind a later turn that ask is taken, and behind a later `hear` that answer is heard. It
+    /// After a later turn that ask is taken, and after a later `hear` that answer is heard. It
     /// stores nothing.
     pub fn tell(&mut self, seat: &mut Seat)
         requires { IsSeatOf self.old.desk seat.old }
@@ -181,7 +181,7 @@ impl<'d, 'b, D: Disk, P: Policy + Drop> Clerk<'d, 'b, D, P> {
 impl<'d, 'b, D: Arm, P: Policy + Drop> Clerk<'d, 'b, D, P> {
     ghost use Rattle.lift_disk.specs.Disk.{IsUnchanged, IsTold};
 
-    /// Tells the device anew which calls to fail. It changes no image.
+    /// Tells the device again which calls to fail. It changes no image.
     pub fn arm(&mut self, calls: u32)
         ensures unchanged { IsUnchanged (D.state self.old.keeper.writer.device)
             (D.state self.new.keeper.writer.device) }

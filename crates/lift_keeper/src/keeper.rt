@@ -240,7 +240,7 @@ impl<'b, D: Disk> Keeper<'b, D> {
 impl<'b, D: Arm> Keeper<'b, D> {
     ghost use Rattle.lift_disk.specs.Disk.{IsUnchanged, IsTold};
 
-    /// Tells the device anew which calls to fail. It changes no image.
+    /// Tells the device again which calls to fail. It changes no image.
     pub fn arm(&mut self, calls: u32)
         ensures same { IsUnchanged (D.state self.old.writer.device)
             (D.state self.new.writer.device) }

@@ -103,7 +103,7 @@ is_unformatted files path building plan half image left told fault same has fres
 pub reads_building : (is_text : List ℕ → Type 0) (plan : Plan) → HasBuilding is_text plan → ReadsBuilding is_text
 reads_building is_text plan has = (plan, has)
 
--- the building's file, or want of memory
+-- the building's file, or out of memory
 pub file_refuses : (is_text : List ℕ → Type 0) (fault : Fault) → IsFileFault OfBuilding fault → IsBuildingFault is_text fault
 file_refuses is_text fault (inl is) = subst (IsBuildingFault is_text) (sym is) tt
 file_refuses is_text fault (inr is) = subst (IsBuildingFault is_text) (sym is) tt
@@ -158,7 +158,7 @@ keeper_undone is_text opener is_fresh state is_refused plan (Opened fault left) 
   unwritten = is.refused.writes;
 }
 
--- behind the recovery
+-- after the recovery
 kept_left : (is_text : List ℕ → Type 0) (files : ImageFiles) (path : List ℕ) (plan : Plan) (keeper : KeeperView files.Served) (left : files.Served) (fault : Fault) → HasBuilding is_text plan → HasKeeperOf files path plan keeper → left ≡ keeper.writer.device
     → ((old new : DiskState) → HasRecovered plan old new → StopsOver plan old new fault) → IsLeftAs is_text (files.is_to_be_served path) files.served_state fault left
 kept_left is_text files path plan keeper left fault has opened is stops =
@@ -178,7 +178,7 @@ pub port_left : (is_text : List ℕ → Type 0) (files : ImageFiles) (path : Lis
 port_left is_text files path plan keeper left fault has opened is network =
     kept_left is_text files path plan keeper left fault has opened is (λ old new recovered. subst (StopsOver plan old new) (sym network) recovered)
 
--- the standard output failed, or memory was wanting
+-- the standard output failed, or memory ran out
 pub output_left : (is_text : List ℕ → Type 0) (files : ImageFiles) (path : List ℕ) (plan : Plan) (keeper : KeeperView files.Served) (left : files.Served) (fault : Fault) → HasBuilding is_text plan → HasKeeperOf files path plan keeper → left ≡ keeper.writer.device
     → IsFileFault Output fault → IsLeftAs is_text (files.is_to_be_served path) files.served_state fault left
 output_left is_text files path plan keeper left fault has opened is (inl output) =

@@ -153,10 +153,10 @@ abbrev pub EndOver : CommandFiles → Type 0
 EndOver files = End files.image.Made files.image.Shown files.image.Served files.image.File
     files.image.Opener
 
--- An empty journal with so many sectors in a half was made on the image that was made at this path,
--- of a building that was read: by five calls, three of them writes, of which none failed. Where the
--- image was honest it still is, and there a serving begins with nothing to lose: each image that a
--- crash may leave from now on keeps the answers of nobody, and no entry.
+-- An empty journal with this many sectors in a half was made on the image that was made at this
+-- path, of a building that was read: by five calls, three of them writes, of which none failed.
+-- Where the image was honest it still is, and there a serving begins with nothing to lose: each
+-- image that a crash may leave from now on keeps the answers of nobody, and no entry.
 pub record IsMadeWith (files : CommandFiles) (image building : List ℕ) (half : ℕ)
     (left : files.image.Made) : Type 0 where
   pub plan : Plan
@@ -180,11 +180,11 @@ IsMadeFor files (Format image building half) left =
 IsMadeFor files (Show image building) left = ⊥
 IsMadeFor files (Serve image building port sessions policy) left = ⊥
 
--- a file in this role, or want of memory
+-- a file in this role, or out of memory
 abbrev pub IsFileFault : Role → Fault → Type 0
 IsFileFault role fault = (fault ≡ File role) ⊎ (fault ≡ Memory tt)
 
--- the standard input, the standard output, or want of memory
+-- the standard input, the standard output, or out of memory
 abbrev pub IsReplayFault : Fault → Type 0
 IsReplayFault (Building fault) = ⊥
 IsReplayFault (Journal fault) = ⊥
@@ -221,7 +221,7 @@ IsUnmade files image building half (NoImageHad refused) =
 IsUnmade files image building half (Opened fault left) =
     IsUnformatted files image building half fault left
 
--- what an opening may be refused for, want of memory, or the standard output
+-- what an opening may be refused for, out of memory, or the standard output
 abbrev pub IsShowingFault : Fault → Type 0
 IsShowingFault (Building fault) = ⊥
 IsShowingFault (Journal fault) = IsOpeningFault fault
@@ -310,7 +310,7 @@ IsUnshownFor files (Show image building) fault left = IsShowingFault fault
     files.image.shown_state fault left
 IsUnshownFor files (Serve image building port sessions policy) fault left = ⊥
 
--- A building was to be served on this port over the image at this path, until so many connections
+-- A building was to be served on this port over the image at this path, until this many connections
 -- had ended, and the serving came to this. A socket at a port gives this here, in all that follows.
 abbrev pub IsServedFor : (files : CommandFiles) → (gives : ℕ → Option Listener → Type 0) → Request
     → ℕ → Option Fault → files.image.Served → Option EndedState → Type 0
@@ -380,7 +380,7 @@ WritesFor files input (Show image building) before after =
 WritesFor files input (Serve image building port sessions policy) before after =
     SaysFront port before after
 
--- What these words come to: an end of what they ask for; want of memory for them, with nothing
+-- What these words come to: an end of what they ask for; out of memory for them, with nothing
 -- written; or, where they ask for nothing, other words. In these two nothing was asked of an image.
 abbrev pub IsEndOf : (files : CommandFiles) → (gives : ℕ → Option Listener → Type 0) → (input : Option (List ℕ)) → List Text
     → (before after : Option (List ℕ)) → EndOver files → Type 0

@@ -24,7 +24,7 @@ pub record ImageFiles : Type 1 where
   pub Opener : Type 0
   -- what opens it
   pub opener : Opener
-  -- no image of so many sectors was made at this path, for this
+  -- no image of this many sectors was made at this path, for this
   pub is_unmade : List ℕ → ℕ → FileFault File Opener → Type 0
   -- no image to be served was had at this path, for this
   pub is_unserved : List ℕ → FileFault File Opener → Type 0
@@ -32,7 +32,7 @@ pub record ImageFiles : Type 1 where
   pub is_unshown : List ℕ → FileFault File Opener → Type 0
   pub Made : Type 0
   pub made_state : Made → DiskState
-  -- its image, of so many sectors, was made at this path, and nothing else was done
+  -- its image, of this many sectors, was made at this path, and nothing else was done
   pub is_just_made : List ℕ → ℕ → Made → Type 0
   pub Served : Type 0
   pub served_state : Served → DiskState
@@ -71,9 +71,9 @@ pub record IsOpened {F : Type 0} {told : Told F}
   pub measured : IsMeasured (opens how path) gives holds first file
   pub honest : (holds measured.file).is_honest → image.is_honest
 
--- An image of so many sectors was made at this path: its file was opened there to be made, it has its
--- room, its folder names it for good, and no call of the image was made. It is honest where the file
--- is that was opened.
+-- An image of this many sectors was made at this path: its file was opened there to be made, it has
+-- its room, its folder names it for good, and no call of the image was made. It is honest where the
+-- file is that was opened.
 pub record IsJustMade {F : Type 0} {told : Told F}
     (opens : OpenOptions → List ℕ → Option F → Type 0) (names : List ℕ → F → Type 0)
     (gives : F → FileCall → F → Type 0) (holds : F → DiskState) (path : List ℕ) (sectors : ℕ)

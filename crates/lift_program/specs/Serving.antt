@@ -31,8 +31,9 @@ pub record IsReadyOver (files : CommandFiles) (gives : Option Listener → Type 
   pub here : gives (Some listener)
 
 -- The keeper's building was served at this socket with this policy. What is told is that the device
--- failed, exactly where it did, and else what the serving told. Connections have ended only where so
--- many have at this socket, and where nothing is told they have. This is the device as it was left.
+-- failed, exactly where it did, and else what the serving told. Connections have ended only where
+-- this many have at this socket, and where nothing is told they have. This is the device as it was
+-- left.
 pub record IsServedOver {D : Type 0} (state : D → DiskState) (policy : Shipped)
     (listener : Listener) (sessions : ℕ) (keeper : KeeperView D) (fault : Option Fault) (left : D)
     (ended : Option EndedState) : Type 0 where

@@ -30,11 +30,11 @@ use Rattle.lift_program.specs.declared.left.Undone.TheVariants.{NoBuilding, NoIm
 use Rattle.lift_program.specs.declared.fault.Role.TheVariants.{Building as OfBuilding}
 use Rattle.lift_program.specs.declared.fault.Role.TheVariants.{Image as OfImage, Input, Output}
 
--- a building's text has so many bytes at most
+-- a building's text has this many bytes at most
 abbrev pub most_text : ℕ
 most_text = 1048576
 
--- so many bytes were taken from the reader
+-- this many bytes were taken from the reader
 abbrev pub TakesBytes : {R : Type 0} → ℕ → (R → Option (List ℕ)) → (old new : R) → Type 0
 TakesBytes count remaining old new = (bytes : List ℕ) × (length bytes ≡ count)
     × Consumes (remaining old) (remaining new) bytes
@@ -123,7 +123,7 @@ pub record IsLeftAs {D : Type 0} (is_text : List ℕ → Type 0) (is_fresh : D �
   pub moments : LeavesOnly (state opened) (state left) (MayLeave (state opened))
   pub unwritten : (state left).writes ≡ (state opened).writes
 
--- what no building is had for: its file, want of memory, or its text's first fault
+-- what no building is had for: its file, out of memory, or its text's first fault
 abbrev pub IsBuildingFault : (is_text : List ℕ → Type 0) → Fault → Type 0
 IsBuildingFault is_text (Building fault) = HasNoBuilding is_text fault
 IsBuildingFault is_text (Journal fault) = ⊥
@@ -135,7 +135,7 @@ IsBuildingFault is_text (Memory no_memory) = Unit {0}
 IsBuildingFault is_text Network = ⊥
 IsBuildingFault is_text Thread = ⊥
 
--- what the system's refusal comes to: want of memory where it said so, else the image's file
+-- what the system's refusal comes to: out of memory where it said so, else the image's file
 abbrev pub IsSystemFault : Error → Fault → Type 0
 IsSystemFault error fault = (error_kind error ≡ OutOfMemory → fault ≡ Memory tt)
     × (error_kind error ≢ OutOfMemory → fault ≡ File OfImage)
@@ -147,7 +147,7 @@ IsImageFault (NotAFile opener) fault = fault ≡ File OfImage
 IsImageFault (Unopened error) fault = IsSystemFault error fault
 IsImageFault (Stopped stopped) fault = IsSystemFault stopped.error fault
 
--- No image was had: that is told as its file, or as want of memory where the system told that.
+-- No image was had: that is told as its file, or as out of memory where the system told that.
 pub record HasNoImage {F O : Type 0} (is_refused : FileFault F O → Type 0) (fault : Fault)
     (cause : FileFault F O) : Type 0 where
   pub is_fault : (fault ≡ File OfImage) ⊎ (fault ≡ Memory tt)

@@ -50,7 +50,7 @@ pub enum Fault {
     Thread,
 }
 
-/// A building that is refused for want of memory is that.
+/// A building that is refused because memory ran out is that.
 impl From<BuildingFault> for Fault {
     ghost from_gives = { λ building fault. fault ≡ of_building building };
 

@@ -33,7 +33,7 @@ use std::convert::AsStr;
 use std::io::{Read, Write};
 use std::marker::PhantomData;
 
-/// The words behind the program's name, and what opens the files and the socket that they ask for.
+/// The words after the program's name, and what opens the files and the socket that they ask for.
 /// Nobody can take them apart: they can only be prepared, by a call that returns. So whoever waits
 /// with them has opened nothing, and nothing but what the words ask for can be opened by them. That
 /// a device fails is told to an `E`.
