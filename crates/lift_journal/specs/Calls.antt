@@ -63,7 +63,7 @@ abbrev pub checkpoint_calls : ℕ → List ℕ → List Batch → List Access
 checkpoint_calls start pick batches =
     draft_calls start 1 batches ++ (puts (start + used batches) unmarked ++ puts 0 pick)
 
--- This many calls of these were made, and not all.
+-- Some of these calls were made, from the first on, and not all.
 pub record StopsIn (calls : List Access) (old new : DiskState) : Type 0 where
   pub count : ℕ
   pub some_left : count < length calls

@@ -201,7 +201,7 @@ recovered_left is_text is_fresh state plan opened left before after fault has fr
       unwritten = r.reopens.writes;
     }
 
--- how the showing of a journal that is undone has left its image
+-- how the showing of a journal that fails has left its image
 shown_left : {D : Type 0} (is_text : List ℕ → Type 0) (is_fresh : D → Type 0) (state : D → DiskState) (plan : Plan) (opened left : D) (before after : Option (List ℕ)) (fault : Fault) → HasBuilding is_text plan
     → is_fresh opened → IsShowingFault fault
     → ((refusal : KeeperFault) → fault ≡ Journal refusal → RefusesReopening plan (state opened) (state left) refusal)
@@ -227,7 +227,7 @@ pub showing_left : {D : Type 0} (is_text : List ℕ → Type 0) (is_fresh : D �
 showing_left {D} is_text is_fresh state plan opened left told before after fault same has fresh is refused front =
     subst (λ (d : D). IsLeftAs is_text is_fresh state fault d) (sym same) (shown_left is_text is_fresh state plan opened left before after fault has fresh is refused front)
 
--- what was written of a journal on an image whose showing is undone
+-- what was written of a journal on an image whose showing fails
 pub showing_part : (files : CommandFiles) (path building : List ℕ) (plan : Plan) (opened left : files.image.Shown) (before after : Option (List ℕ)) (fault : Fault) → HasBuilding (files.is_text building) plan
     → files.image.is_to_be_shown path opened → IsShowingFault fault → IsReportOfFault fault before after
     → (IsFileFault Output fault → ShowsFront plan (files.image.shown_state opened) (files.image.shown_state left) before after) → ShowsPart files path building before after

@@ -87,7 +87,7 @@ line_at_once_in (Some (Memory no_memory)) = None
 line_at_once_in (Some Network) = None
 line_at_once_in (Some Thread) = None
 
--- and what else a serving is undone for at its end
+-- and what else a serving fails for at its end
 abbrev pub line_at_end_in : Option Fault → Option (List ℕ)
 line_at_end_in None = None
 line_at_end_in (Some (Building fault)) = told_line (Building fault)
@@ -135,7 +135,7 @@ abbrev pub IsFailureTold : {E : Type 0} → (contents : E → Option (List ℕ))
 IsFailureTold contents old new =
     IsWrittenOrFailed contents old new (fault_text (Journal (OfJournal Disk)) ++ 10 ∷ [])
 
--- what the work is undone for, if it is
+-- what the work fails for, if it does
 abbrev pub undone_for : {M S V F O : Type 0} → End M S V F O → Option Fault
 undone_for (Replayed verdict unused) = None
 undone_for (Formatted disk) = None
@@ -239,7 +239,7 @@ IsShowingUndone (NoBuilding fault unused) = Unit {0}
 IsShowingUndone (NoImageHad refused) = Unit {0}
 IsShowingUndone (Opened fault left) = IsShowingFault fault
 
--- what the serving itself may be undone for: a failed call of the device, and what it takes
+-- what the serving itself may fail for: a failed call of the device, and what it takes
 abbrev pub IsServingFault : Fault → Type 0
 IsServingFault (Building fault) = ⊥
 IsServingFault (Journal fault) = fault ≡ OfJournal Disk

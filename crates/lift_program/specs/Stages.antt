@@ -110,7 +110,7 @@ StopsOver plan old new (Memory no_memory) = HasRecovered plan old new
 StopsOver plan old new Network = HasRecovered plan old new
 StopsOver plan old new Thread = ⊥
 
--- A building was read, and an image opened as such a device. The command is undone for this, and has
+-- A building was read, and an image opened as such a device. The command fails for this, and has
 -- left the device so: nothing was written, and each image that a crash at any moment since the
 -- opening may leave is one that it might have left before. So what was kept is kept.
 pub record IsLeftAs {D : Type 0} (is_text : List ℕ → Type 0) (is_fresh : D → Type 0)
@@ -160,13 +160,13 @@ pub record IsNoImage {F O : Type 0} (is_text : List ℕ → Type 0)
   pub building : ReadsBuilding is_text
   pub unhad : HasNoImage is_refused fault cause
 
--- the fault that a command over an image is undone for
+-- the fault that a command over an image fails for
 abbrev pub fault_in : {D F O : Type 0} → Undone D F O → Fault
 fault_in (NoBuilding fault unused) = fault
 fault_in (NoImage refused) = refused.fault
 fault_in (Opened fault left) = fault
 
--- Why a command over an image is undone, and how it has left the image, its file or what was to open
+-- Why a command over an image fails, and how it has left the image, its file or what was to open
 -- it. The first of these that stands: no building was had; no image was had; or one was.
 abbrev pub IsUndone : {D F O : Type 0} → (is_text : List ℕ → Type 0) → (opener : O)
     → (is_fresh : D → Type 0) → (state : D → DiskState)

@@ -28,7 +28,7 @@ pub enum End<M, S, V, F: Drop, O: Drop> {
     /// The building was served on this port, over this image; a fault that did not end that is told.
     /// Where none is, this many connections have ended.
     Served(u16, Option<Fault>, Left<V>, Option<Ended>),
-    /// The work is undone, and nothing was asked of an image.
+    /// The work failed, and nothing was asked of an image.
     Failed(Fault, Left<O>),
     /// No image was had, for this.
     NoImage(Fault, Left<FileFault<F, O>>),

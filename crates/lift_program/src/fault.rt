@@ -1,4 +1,4 @@
-//! Why the program ends with its work undone, and the line that says so.
+//! Why the program ends without having done its work, and the line that says so.
 
 ghost use Rattle.std.specs.Prelude.{◌≡◌, ◌≤◌, ◌+◌, ◌++◌, ◌∷◌, [], Some, length};
 ghost use Rattle.std.specs.Fmt.{decimal};
@@ -33,7 +33,7 @@ pub enum Role {
     Output,
 }
 
-/// Why the program ends with its work undone.
+/// Why the program ends without having done its work.
 #[derive(Clone, Copy, Error)]
 pub enum Fault {
     /// The building's text is no building.

@@ -182,10 +182,10 @@ impl<'w, B: TextOpener, I: FileOpener, L: Listens, S: AsStr, E: Write + Drop> Gi
         // A good script was read to its end,
         ensures good { result ≡ Err (End.Replayed Good self.entry.files.image)
             → input.new.ended ≡ true }
-        // one that is undone for the standard input could not be read,
+        // one that fails for the standard input could not be read,
         ensures unread { result ≡ Err (End.Failed (Fault.File Input) self.entry.files.image)
             → IsUnread input.new }
-        // and one that is undone for the standard output was.
+        // and one that fails for the standard output was.
         ensures read { AskForRequest (map S.text self.entry.words.now) Replay
             → result ≡ Err (End.Failed (Fault.File Output) self.entry.files.image)
             → IsInputRead R.remaining input.old input.new }

@@ -39,7 +39,7 @@ pub struct Refused<F: Drop, O: Drop> {
     pub cause: Left<FileFault<F, O>>,
 }
 
-/// Why a command over an image is undone.
+/// Why a command over an image fails.
 #[derive(Drop)]
 pub enum Undone<D, F: Drop, O: Drop> {
     /// No building was had, and nothing was asked of an image: what opens that is left.

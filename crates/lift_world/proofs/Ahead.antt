@@ -1,4 +1,4 @@
--- The flusher works on in the midst of a scan.
+-- The flusher works on within a scan.
 use Rattle.std.proofs.Common.{ℕ, ◌≡◌, ◌≢◌, ◌+◌, ◌-◌, ◌≤◌, false, not, ◌&&◌, eqb, List, [], ◌∷◌, ◌++◌, length, map, take, drop, Option, Some, None, refl, sym, ap, subst, ◌∙◌, arith}
 use Rattle.std.specs.Prelude.{IsTrue, nat_lt, find, reverse, count_by, option_map, option_and_then}
 use Rattle.std.proofs.lemmas.Bool.{false≢true}

@@ -218,7 +218,7 @@ is_flushers (Answer terminal) = true
 is_flushers Fault = true
 is_flushers event = false
 
--- The flusher works on in the midst of a scan: after a decision its events are possible just where
+-- The flusher works on within a scan: after a decision its events are possible just where
 -- they are before it, and leave the same but for what was decided.
 abbrev pub FlusherPassesScans : World → Type 0
 FlusherPassesScans w = (command : Command) (decision : Decision) (event : Event) → IsQueueInOrder w
