@@ -114,9 +114,9 @@ stops_making unnamed gives fails sectors opened left =
 abbrev pub stands_in_the_way : (stands : Option Bool → Type 0) → Option Bool → Type 0
 stands_in_the_way stands told = stands told × (told ≡ Some false)
 
--- Why no device is had of what stands at a path. The system didn't tell what stands there, or no plain
--- file does: then nothing was opened, and what was to open it comes back. Or the system didn't open
--- it; or a file was opened, and stopped so.
+-- Why there is no device of what stands at a path. The system didn't tell what stands there, or no
+-- plain file does: then nothing was opened, and what was to open it comes back. Or the system
+-- didn't open it; or a file was opened, and stopped so.
 abbrev pub IsRefused : {F O : Type 0} → (opener : O) → (stands : Option Bool → Type 0)
     → (opens : Option F → Type 0) → (stops : F → F → Type 0) → FileFault F O → Type 0
 IsRefused opener stands opens stops (Untold error back) = stands None × (back ≡ opener)

@@ -38,7 +38,7 @@ zero_writes sectors zero = []
 zero_writes sectors (suc count) = zero_writes sectors count ++ zero_write sectors count ∷ []
 
 -- The calls by which a file of this many sectors of zeros is made: nothing is done before the lock
--- is had, and all of it is written, so that it has its room, and made safe.
+-- is taken, and all of it is written, so that it has its room, and made safe.
 abbrev pub making_calls : (sectors : ℕ) → List FileCall
 making_calls sectors =
     (Lock ∷ SetLength 0 ∷ SetLength (sectors * 512) ∷ [])

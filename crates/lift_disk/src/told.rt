@@ -32,7 +32,7 @@ pub trait ToldFile {
     /// What was written has reached the disk, or was given up.
     ghost is_written_back: { Self → Type 0 };
 
-    /// Takes the lock that one process has at a time, or fails at once. It is had until the file
+    /// Takes the lock that one process has at a time, or fails at once. It is held until the file
     /// is closed.
     fn lock_told(&mut self) -> io::Result<()>
         ensures one { IsOneCall gives fails result Lock self.old self.new }

@@ -136,7 +136,7 @@ impl<F: ToldFile + Drop> TracedFile<F> {
     }
 
     /// A file that was opened to be read and written, made into one of this many sectors of zeros,
-    /// where its lock is to be had. Each is written, so that the file has its room. Where a call
+    /// where its lock is free. Each is written, so that the file has its room. Where a call
     /// fails none is made after it, and the file comes back as it was left.
     pub fn zeroed(file: F, sectors: u32) -> Result<TracedFile<F>, Stopped<F>>
         ensures led { IfOk result (λ made.
@@ -187,7 +187,7 @@ impl<F: ToldFile + Drop> TracedFile<F> {
         self.measure()
     }
 
-    /// A file that was opened to be read and written, once its lock was had, and its length in
+    /// A file that was opened to be read and written, once its lock was taken, and its length in
     /// bytes. Where a call fails none is made after it, and the file comes back as it was left.
     pub fn locked(file: F) -> Result<(TracedFile<F>, u64), Stopped<F>>
         ensures told { IfOk result (λ opened. IsOpenedBy F.gives F.holds
