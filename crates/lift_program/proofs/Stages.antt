@@ -122,7 +122,7 @@ pub has_no_image : {F O : Type 0} (is_refused : FileFault F O → Type 0) (fault
 has_no_image {F} {O} is_refused fault given cause same is told refused =
     subst (λ (c : FileFault F O). HasNoImage is_refused fault c) (sym same) (record { is_fault = is; told = told; refused = refused })
 
--- no image was had for a building that was read
+-- no image could be opened for a building that was read
 pub no_image : {F O : Type 0} (is_text : List ℕ → Type 0) (is_refused : FileFault F O → Type 0) (plan : Plan) (fault : Fault) (cause : FileFault F O) → HasBuilding is_text plan → HasNoImage is_refused fault cause
     → IsNoImage is_text is_refused fault cause
 no_image is_text is_refused plan fault cause has unhad = record { building = (plan, has); unhad = unhad }

@@ -272,7 +272,7 @@ IsRequestFault files (Show image building) fault =
 IsRequestFault files (Serve image building port sessions policy) fault =
     IsBuildingFault (files.is_text building.now) fault
 
--- no image was had at the path that was named, for this
+-- no image could be opened at the path that was named, for this
 abbrev pub IsNoImageFor : (files : CommandFiles) → Request → Fault
     → FileFault files.image.File files.image.Opener → Type 0
 IsNoImageFor files Replay fault cause = ⊥
@@ -321,7 +321,7 @@ IsServedFor files gives (Serve image building asked sessions policy) port fault 
     (port ≡ asked)
     × IsServing files (gives asked) image.now building.now policy sessions fault left ended
 
--- a building is to be served so, and all that this takes was had
+-- a building is to be served so, and all that this takes is there
 abbrev pub IsReadyFor : (files : CommandFiles) → (gives : ℕ → Option Listener → Type 0) → Request
     → KeeperView files.image.Served → Listener → (port sessions : ℕ) → Shipped → Type 0
 IsReadyFor files gives Replay keeper listener port sessions policy = ⊥
@@ -391,8 +391,8 @@ IsEndOf files gives input words before after end =
     ⊎ ((request : Request) × AskForRequest words request × IsEndFor files gives request before after end
     × WritesFor files input request before after)
 
--- The words ask for a building to be served, all that this takes was had, and what was written says
--- that the port is served.
+-- The words ask for a building to be served, all that this takes is there, and what was written
+-- says that the port is served.
 abbrev pub AreReadyFor : (files : CommandFiles) → (gives : ℕ → Option Listener → Type 0) → List Text
     → (before after : Option (List ℕ)) → KeeperView files.image.Served → Listener
     → (port sessions : ℕ) → Shipped → Type 0

@@ -18,7 +18,7 @@ use Rattle.lift_program.specs.Unwritten.{unwritten_file_of}
 use Rattle.lift_program.specs.declared.unwritten.UnwrittenFile.{UnwrittenFile}
 
 -- What is said of the devices over the file of an image, by what opens that: of one that is made, one
--- that is served, and one that is shown; and why none is had.
+-- that is served, and one that is shown; and why there is none.
 pub record ImageFiles : Type 1 where
   pub File : Type 0
   pub Opener : Type 0
@@ -26,9 +26,9 @@ pub record ImageFiles : Type 1 where
   pub opener : Opener
   -- no image of this many sectors was made at this path, for this
   pub is_unmade : List ℕ → ℕ → FileFault File Opener → Type 0
-  -- no image to be served was had at this path, for this
+  -- no image to be served could be opened at this path, for this
   pub is_unserved : List ℕ → FileFault File Opener → Type 0
-  -- no image to be shown was had at this path, for this
+  -- no image to be shown could be opened at this path, for this
   pub is_unshown : List ℕ → FileFault File Opener → Type 0
   pub Made : Type 0
   pub made_state : Made → DiskState
@@ -36,7 +36,7 @@ pub record ImageFiles : Type 1 where
   pub is_just_made : List ℕ → ℕ → Made → Type 0
   pub Served : Type 0
   pub served_state : Served → DiskState
-  -- its image was opened at this path, its lock was had, and nothing else was done
+  -- its image was opened at this path, its lock was taken, and nothing else was done
   pub is_to_be_served : List ℕ → Served → Type 0
   pub Shown : Type 0
   pub shown_state : Shown → DiskState

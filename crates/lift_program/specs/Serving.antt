@@ -20,7 +20,7 @@ use Rattle.lift_program.specs.Stages.{HasBuilding, HasKeeperOf}
 use Rattle.lift_program.specs.declared.fault.Fault.{Fault}
 
 -- The recovery opened a journal on the file that was there at this path, of a building that the text
--- describes which was read from its file; and the socket that was asked for was had.
+-- describes which was read from its file; and the socket that was asked for was given.
 pub record IsReadyOver (files : CommandFiles) (gives : Option Listener → Type 0)
     (image building : List ℕ) (keeper : KeeperView files.image.Served)
     (listener : Listener) : Type 0 where
@@ -45,7 +45,7 @@ pub record IsServedOver {D : Type 0} (state : D → DiskState) (policy : Shipped
   pub ends : IfSome ended (AreEndedAt listener sessions)
   pub counted : fault ≡ None → IsSome ended
 
--- All that this takes was had, and the building was served.
+-- All that this takes was there, and the building was served.
 pub record IsServing (files : CommandFiles) (gives : Option Listener → Type 0)
     (image building : List ℕ) (policy : Shipped) (sessions : ℕ) (fault : Option Fault)
     (left : files.image.Served) (ended : Option EndedState) : Type 0 where

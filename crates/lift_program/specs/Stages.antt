@@ -123,7 +123,7 @@ pub record IsLeftAs {D : Type 0} (is_text : List ℕ → Type 0) (is_fresh : D �
   pub moments : LeavesOnly (state opened) (state left) (MayLeave (state opened))
   pub unwritten : (state left).writes ≡ (state opened).writes
 
--- what no building is had for: its file, out of memory, or its text's first fault
+-- why no building could be read: its file, out of memory, or its text's first fault
 abbrev pub IsBuildingFault : (is_text : List ℕ → Type 0) → Fault → Type 0
 IsBuildingFault is_text (Building fault) = HasNoBuilding is_text fault
 IsBuildingFault is_text (Journal fault) = ⊥
@@ -147,14 +147,15 @@ IsImageFault (NotAFile opener) fault = fault ≡ File OfImage
 IsImageFault (Unopened error) fault = IsSystemFault error fault
 IsImageFault (Stopped stopped) fault = IsSystemFault stopped.error fault
 
--- No image was had: that is told as its file, or as out of memory where the system told that.
+-- No image could be opened: that is told as its file, or as out of memory where the system told
+-- that.
 pub record HasNoImage {F O : Type 0} (is_refused : FileFault F O → Type 0) (fault : Fault)
     (cause : FileFault F O) : Type 0 where
   pub is_fault : (fault ≡ File OfImage) ⊎ (fault ≡ Memory tt)
   pub told : IsImageFault cause fault
   pub refused : is_refused cause
 
--- A building was read, and no image was had for it.
+-- A building was read, and no image could be opened for it.
 pub record IsNoImage {F O : Type 0} (is_text : List ℕ → Type 0)
     (is_refused : FileFault F O → Type 0) (fault : Fault) (cause : FileFault F O) : Type 0 where
   pub building : ReadsBuilding is_text
@@ -167,7 +168,8 @@ fault_in (NoImage refused) = refused.fault
 fault_in (Opened fault left) = fault
 
 -- Why a command over an image fails, and how it has left the image, its file or what was to open
--- it. The first of these that stands: no building was had; no image was had; or one was.
+-- it. The first of these that stands: no building could be read; no image could be opened; or one
+-- was.
 abbrev pub IsUndone : {D F O : Type 0} → (is_text : List ℕ → Type 0) → (opener : O)
     → (is_fresh : D → Type 0) → (state : D → DiskState)
     → (is_refused : FileFault F O → Type 0) → Undone D F O → Type 0
@@ -190,7 +192,7 @@ abbrev pub IsUndoneShowing : (files : CommandFiles) → (image building : List �
 IsUndoneShowing files image building = IsUndone (files.is_text building) files.image.opener
     (files.image.is_to_be_shown image) files.image.shown_state (files.image.is_unshown image)
 
--- What no keeper of this building is had for: no image was had, or the recovery was refused.
+-- Why there is no keeper of this building: no image could be opened, or the recovery was refused.
 abbrev pub IsUnkept : {D F O : Type 0} → (is_fresh : D → Type 0) → (state : D → DiskState)
     → (is_refused : FileFault F O → Type 0) → Plan → Undone D F O → Type 0
 IsUnkept is_fresh state is_refused plan (NoBuilding fault unused) = ⊥

@@ -30,7 +30,7 @@ pub enum End<M, S, V, F: Drop, O: Drop> {
     Served(u16, Option<Fault>, Left<V>, Option<Ended>),
     /// The work failed, and nothing was asked of an image.
     Failed(Fault, Left<O>),
-    /// No image was had, for this.
+    /// No image could be opened, for this.
     NoImage(Fault, Left<FileFault<F, O>>),
     /// The journal couldn't be made on this file.
     Unformatted(Fault, Left<M>),

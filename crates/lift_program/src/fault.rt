@@ -44,7 +44,7 @@ pub enum Fault {
     File(Role),
     /// A growth was refused.
     Memory(NoMemory),
-    /// The port couldn't be had, or failed.
+    /// The port couldn't be taken, or failed.
     Network,
     /// A thread couldn't be started.
     Thread,

@@ -118,7 +118,7 @@ fn refused<F: Drop, O: Drop>(cause: FileFault<F, O>) -> Refused<F, O>
     }
 }
 
-/// The file of a journal, made or made again, if its lock is to be had.
+/// The file of a journal, made or made again, if its lock is free.
 pub fn image_at<I: FileOpener>(
     opener: I,
     path: &str,
@@ -141,7 +141,7 @@ pub fn image_at<I: FileOpener>(
     }
 }
 
-/// The file of a journal that is there, if its lock is to be had. It is not made again.
+/// The file of a journal that is there, if its lock is free. It is not made again.
 pub fn image_in<I: FileOpener>(
     opener: I,
     path: &str,

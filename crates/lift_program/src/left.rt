@@ -32,7 +32,7 @@ impl<D> Left<D> {
     }
 }
 
-/// Why no image was had: what is told, and what that comes from.
+/// Why no image could be opened: what is told, and what that comes from.
 #[derive(Drop)]
 pub struct Refused<F: Drop, O: Drop> {
     pub fault: Fault,
@@ -42,9 +42,9 @@ pub struct Refused<F: Drop, O: Drop> {
 /// Why a command over an image fails.
 #[derive(Drop)]
 pub enum Undone<D, F: Drop, O: Drop> {
-    /// No building was had, and nothing was asked of an image: what opens that is left.
+    /// No building could be read, and nothing was asked of an image: what opens that is left.
     NoBuilding(Fault, Left<O>),
-    /// No image was had.
+    /// No image could be opened.
     NoImage(Refused<F, O>),
     /// One was, and was left so.
     Opened(Fault, Left<D>),

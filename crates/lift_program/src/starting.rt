@@ -47,7 +47,7 @@ pub fn not_given<E: Write + Drop>(
 }
 
 /// Does what the words after the program's name ask for, and answers how it ended. Only a serving
-/// waits, once all that it takes was had: whatever it waits for, and whether or not it ever ends,
+/// waits, once it has all that it takes: whatever it waits for, and whether or not it ever ends,
 /// nothing was opened but what the words asked for.
 #[inline(never)]
 fn carry_out<

@@ -209,7 +209,7 @@ fn a_file_is_made_with_its_sectors(rt: HostRuntime) {
     assert!(rt; notes.given.get() == 153_600 && notes.written.get() == 131_072);
 }
 
-/// One that is opened has to tell its length, and its lock has to be had.
+/// One that is opened has to tell its length, and its lock has to be free.
 #[test]
 fn a_file_is_opened_by_calls_that_succeed(rt: HostRuntime) {
     let notes = Notes::new();
