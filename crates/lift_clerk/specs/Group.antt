@@ -70,7 +70,7 @@ abbrev pub TakesAsks : {D : Type 0} → GroupState D → Terminals → Type 0
 TakesAsks group terminals = (terminal : ℕ)
     → IsPrefix (view_at group.seat terminal).taken (terminals terminal).asked
 
--- So it is with these commands after what was taken, which a word can spell.
+-- So it is with these commands behind what was taken, which a word can spell.
 pub record WereAsked {D : Type 0} (group : GroupState D) (terminals : Terminals)
     (commands : List Command) : Type 0 where
   pub in_range : All IsAsk (map ask_of commands)

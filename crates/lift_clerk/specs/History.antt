@@ -38,7 +38,7 @@ pub data History {D : Type 0} (base : RegisterState) : GroupState D → List Ent
   Began : {group : GroupState D} → IsBuilding group.keeper.writer.plan
       → IsOfBuilding group.keeper.writer.plan base → IsNewClerk group
       → group.keeper.writer.register ≡ base → History base group [] []
-  -- A batch is made safe after the rest, and its commands have their replies.
+  -- A batch is made safe behind the rest, and its commands have their replies.
   Turned : {before after : GroupState D} {safe : List Entry} {given : List Taken}
       → History base before safe given → (t : TurnMakesSafe before after)
       → History base after (safe ++ t.decided.batch) (given ++ with_replies t.commands t.replies)
@@ -47,7 +47,7 @@ pub data History {D : Type 0} (base : RegisterState) : GroupState D → List Ent
       → History base before safe given → (t : LeavesInDoubt before after)
       → History base after safe
       (given ++ with_replies t.may.commands (unknowns t.may.commands))
-  -- So were those that came after the fault.
+  -- So were those that came behind the fault.
   TurnedWhileBroken : {before after : GroupState D} {safe : List Entry} {given : List Taken}
       → History base before safe given → (t : AnswersUnknown before after)
       → History base after safe (given ++ with_replies t.commands (unknowns t.commands))

@@ -51,7 +51,7 @@ CrashesKeep D =
     → (doubt : IsInDoubt group.keeper.writer.plan group.keeper.writer.register batch left)
     → ImageKeeps D group.keeper.writer.plan base (kept_after safe batch doubt) given left
 
--- One call, whose device was so before it and is so after it, with at most this batch on its way.
+-- One call, whose device was so before it and is so behind it, with at most this batch on its way.
 -- Each image that a crash at any moment of it may leave keeps what was safe before it, or that with
 -- the batch, and all that was given before.
 abbrev pub KeepsThroughout : {D : Type 0} → (base : RegisterState) → (before : GroupState D) (safe : List Entry) (given : List Taken)
@@ -74,7 +74,7 @@ MomentsKeep D state =
     → MomentsStand before batch (state before.keeper.writer.device) (state device)
 
 -- One call leads from one group to another, with at most this batch on its way. So much more is safe
--- after it, and just these commands were answered in it. What was given before is kept at each
+-- behind it, and just these commands were answered in it. What was given before is kept at each
 -- moment of it, and all of it from its end on.
 pub record AdvancesFrom {D : Type 0} (base : RegisterState) (before : GroupState D) (safe : List Entry)
     (given : List Taken) (after : GroupState D) (batch more : List Entry) (told : List Taken)

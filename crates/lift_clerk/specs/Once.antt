@@ -51,8 +51,8 @@ pub record ReopensOnce {D P T : Type 0} (state : D → DiskState) (before after 
   pub kept : (after.desk ≡ before.desk) × (after.seat ≡ before.seat)
       × (after.policy ≡ before.policy)
 
--- What one turn adds, by what it answers: which batch is on its way in it, what is safe after it
--- and which commands it answers, and how.
+-- What one turn adds, by what it answers: which batch is on its way in it, what is safe behind it and
+-- which commands it answers, and how.
 pub data TurnAdds {D P : Type 0} (choice : Choice) (before after : ClerkState D P)
     : Result Counts KeeperFault → (batch more : List Entry) → List Taken → Type 0 where
   -- It makes its batch safe, and then gives its replies.
@@ -63,7 +63,7 @@ pub data TurnAdds {D P : Type 0} (choice : Choice) (before after : ClerkState D 
   InDoubt : (t : IsFailedTurn choice before after)
       → TurnAdds choice before after (Err (Journal Disk)) after.keeper.state.batch []
       (with_replies (commands_of 0 t.visits) (unknowns (commands_of 0 t.visits)))
-  -- After a fault there is what is in doubt.
+  -- Behind a fault there is what is in doubt.
   Unknown : (t : IsBrokenTurn before after)
       → TurnAdds choice before after (Err (Journal Broken)) before.keeper.writer.doubt []
       (with_replies (commands_of 0 t.visits) (unknowns (commands_of 0 t.visits)))

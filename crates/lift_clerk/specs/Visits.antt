@@ -51,7 +51,7 @@ with_reply view (Some ask) [] = view
 with_reply view (Some ask) (reply ∷ replies) =
     with_answer view (reply_word (length view.taken) ask.number reply)
 
--- the replies to the commands after a look
+-- the replies to the commands behind a look
 abbrev pub replies_behind : Option Ask → List Reply → List Reply
 replies_behind None replies = replies
 replies_behind (Some ask) [] = []

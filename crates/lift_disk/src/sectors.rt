@@ -43,7 +43,7 @@ impl<F: ToldFile + Drop> SectorFile<F> {
     ghost use Rattle.lift_disk.specs.Files.{calls_below, is_known_steady};
     ghost use Rattle.lift_disk.specs.Traced.{file_of};
 
-    /// This many sectors of a file that was not called yet. It makes no call of it.
+    /// So many sectors of a file that was not called yet. It makes no call of it.
     pub fn over(file: TracedFile<F>, sectors: u32) -> SectorFile<F>
         requires { traced_calls file ≡ [] }
         ensures same { file_below result ≡ file_of file }
@@ -54,7 +54,7 @@ impl<F: ToldFile + Drop> SectorFile<F> {
         ensures calls { (sector_file_state_of F.holds result).calls ≡ 0 }
         ensures writes { (sector_file_state_of F.holds result).writes ≡ 0 }
         ensures trace { (sector_file_state_of F.holds result).trace ≡ [] }
-        // It is honest exactly where the file is, and where it has this many whole sectors.
+        // It is honest exactly where the file is, and where it has so many whole sectors.
         ensures honest { (sector_file_state_of F.holds result).is_honest
             ↔ ((F.holds (file_of file)).is_honest × ((F.holds (file_of file)).size ≡ sectors)) }
         ensures image { (sector_file_state_of F.holds result).image ≡ (F.holds (file_of file)).image }
@@ -84,7 +84,7 @@ impl<F: ToldFile + Drop> Disk for SectorFile<F> {
 
     ghost write_gives = { λ old _ _ result new. KeepsKnown result old new };
 
-    // what is cached is dropped after a sync, unless it is known that this isn't needed
+    // what is cached is dropped behind a sync, unless it is known that this isn't needed
     ghost sync_gives = { λ old result new. SyncsByCalls result old new };
 
     ghost whole = { λ d honest. F.whole (file_of d.file) honest.0 ∙ honest.1 };
@@ -138,7 +138,7 @@ impl<F: ToldFile + Drop> RunDisk for SectorFile<F> {
 
     ghost has_given = { λ d. HasGiven (calls_below d) };
 
-    // its file was asked for this many sectors and no more
+    // its file was asked for so many sectors and no more
     ghost read_run_gives = { λ old sector count run result new.
         AsksForRun (calls_below old) sector count run result (calls_below new) };
 

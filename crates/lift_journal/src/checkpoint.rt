@@ -26,7 +26,7 @@ use lift_register::Register;
 
 const BATCH_RECORDS: usize = 63;
 
-/// How many batches this many records take.
+/// How many batches so many records take.
 pub fn batches_for(count: usize) -> usize
     requires { count ≤ 576 }
     ensures value { result ≡ batch_count count }
@@ -47,7 +47,7 @@ pub fn other_half(start: u32, half: u32) -> (u32, [u8; 512])
     }
 }
 
-/// The record at this place of a register's checkpoint of this many records, if there is one.
+/// The record at this place of a register's checkpoint of so many records, if there is one.
 fn record_at(register: &Register, count: usize, place: usize) -> Option<Record>
     requires { count ≡ length (base_records register.now) }
     ensures { result ≡ slice_get (base_records register.now) place }

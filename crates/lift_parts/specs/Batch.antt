@@ -21,7 +21,7 @@ pub record BatchState : Type 0 where
   pub commands : List Taken
   -- what was accepted of it
   pub entries : List Entry
-  -- the building that it was decided in, what decisions read before it and after it, and the desk
+  -- the building that it was decided in, what decisions read before it and behind it, and the desk
   -- that it was taken at
   pub building : Plan
   pub before : State
@@ -44,7 +44,7 @@ entries_of_batches batches = flat_map (λ (b : BatchState). b.entries) batches
 abbrev pub noted_in : List Taken → List ℕ
 noted_in taken = map (λ (t : Taken). t.note.word) taken
 
--- these commands are of the first this many terminals
+-- these commands are of the first so many terminals
 abbrev pub AreBelow : ℕ → List Command → Type 0
 AreBelow count commands = AllByRecursion (λ (c : Command). c.terminal < count) commands
 
@@ -81,7 +81,7 @@ AreNoted desk turns (taken ∷ commands) = IsNoted desk turns taken
 abbrev pub state_with_entries : BatchState → State
 state_with_entries batch = record batch.after { batch = batch.entries }
 
--- Its commands with their replies are a run of the rules from before it to after it, which
+-- Its commands with their replies are a run of the rules from before it to behind it, which
 -- accepted just its entries.
 pub record IsDecided (batch : BatchState) : Type 0 where
   pub run : Run batch.building any_eligible batch.before (commands_in batch.commands)

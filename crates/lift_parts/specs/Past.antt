@@ -21,7 +21,7 @@ use Rattle.lift_parts.specs.Turns.{IsFlush}
 use Rattle.lift_parts.specs.History.{group_behind, Adds}
 
 -- The events of a flusher's turn: those of a turn of the machine with the batch that it received,
--- of one that the device fails, or of one after a fault; and none where it received nothing.
+-- of one that the device fails, or of one behind a fault; and none where it received nothing.
 abbrev pub flush_events : List BatchState → Bool → Bool → List (Option ℕ) → ℕ → List Event
 flush_events [] is_safe was_broken letters folds = []
 flush_events (b ∷ batches) true was_broken letters folds =

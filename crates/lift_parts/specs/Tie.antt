@@ -57,7 +57,7 @@ queued_in queue = flat_map (λ (q : SealedBatch). map command_of q.commands) que
 abbrev pub on_way : World → ℕ → List Command
 on_way w terminal = filter (asks terminal) (queued_in w.queue)
 
--- the machine's queue has the commands of these batches, which are of this many terminals
+-- the machine's queue has the commands of these batches, which are of so many terminals
 abbrev pub AreQueued : ℕ → List BatchState → List SealedBatch → Type 0
 AreQueued count [] [] = Unit {0}
 AreQueued count (b ∷ batches) (q ∷ queue) = (map command_of q.commands ≡ commands_in b.commands)
@@ -194,7 +194,7 @@ pub record TakesAsked (asked : List Command) (terminal : ℕ) (view : ClerkView)
 abbrev pub AllTakesAsked : List Command → List ClerkPlace → Type 0
 AllTakesAsked asked places = (terminal : ℕ) → TakesAsked asked terminal (view_at places terminal)
 
--- The line holds at most four batches: of those that were sent at most this many weren't received.
+-- The line holds at most four batches: of those that were sent at most so many weren't received.
 abbrev pub HasRoom : {D P : Type 0} → AllocatorState P → FlusherState D → Type 0
 HasRoom a f = length a.end.sent ≤ length f.end.received + 4
 

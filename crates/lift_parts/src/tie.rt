@@ -86,7 +86,7 @@ pub fn parts_are_clerks<D: Disk, P: Policy>()
 
 /// Whatever turns a flusher has made by any moment, each image that a crash at any moment of one of
 /// them may leave keeps what was safe and all that was answered before it: what its group had given,
-/// and what the turns gave. So does each that a crash may leave now, after the last one. A clerk
+/// and what the turns gave. So does each that a crash may leave now, behind the last one. A clerk
 /// that begins over it goes on with just that.
 pub fn turns_keep_what_was_given<D: Disk>()
     ensures { TurnsKeep D D.state }

@@ -72,6 +72,6 @@ served_end files gives input words before after keeper listener port sessions po
       subst (λ (p : ℕ). SaysFront p before after) at (said_front port before after said),
     )
 
--- memory ran out for the words
+-- memory was wanting for the words
 pub unread_words : (files : CommandFiles) (gives : ℕ → Option Listener → Type 0) (input : Option (List ℕ)) (words : List Text) (written : Option (List ℕ)) → IsEndOf files gives input words written written (Failed (Memory tt) files.image.opener)
 unread_words files gives input words written = inl (refl, refl)

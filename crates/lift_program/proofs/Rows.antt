@@ -74,7 +74,7 @@ no_policy rows word same none (Format image building half) is = is
 no_policy rows word same none (Show image building) is = is
 no_policy rows word same none (Serve image building port sessions policy) is = none policy (subst (λ w. IsPolicy w policy) same is.3)
 
--- zero is no count
+-- nought is no count
 pub no_count : (most : ℕ) (word : Option Text) (text : Text) (number : ℕ) → most < 2 ^ 32 → word ≡ Some text → text ≡ decimal number → number < 1 → (count : ℕ) → IsCount most word count → ⊥
 no_count most word text number small same spelled none count is = go (subst (λ w. IsCount most w count) same is)
   where

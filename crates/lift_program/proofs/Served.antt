@@ -8,7 +8,7 @@ use Rattle.lift_serve.specs.declared.serving.ServeFault.TheVariants.{Network as 
 use Rattle.lift_program.specs.Faults.{served_fault}
 use Rattle.lift_program.specs.declared.fault.Fault.{Fault}
 
--- this many have ended, at the socket that was asked for,
+-- so many have ended, at the socket that was asked for,
 pub ended_of : (ended told : Option EndedState) (listener : Listener) (sessions : ℕ) → told ≡ ended → IfSome ended (AreEndedAt listener sessions) → IfSome told (AreEndedAt listener sessions)
 ended_of ended told listener sessions same are =
     subst (λ (e : Option EndedState). IfSome e (AreEndedAt listener sessions)) (sym same) are

@@ -103,7 +103,7 @@ is_unformatted files path building plan half image left told fault same has fres
 pub reads_building : (is_text : List ℕ → Type 0) (plan : Plan) → HasBuilding is_text plan → ReadsBuilding is_text
 reads_building is_text plan has = (plan, has)
 
--- the building's file, or out of memory
+-- the building's file, or want of memory
 pub file_refuses : (is_text : List ℕ → Type 0) (fault : Fault) → IsFileFault OfBuilding fault → IsBuildingFault is_text fault
 file_refuses is_text fault (inl is) = subst (IsBuildingFault is_text) (sym is) tt
 file_refuses is_text fault (inr is) = subst (IsBuildingFault is_text) (sym is) tt
@@ -122,7 +122,7 @@ pub has_no_image : {F O : Type 0} (is_refused : FileFault F O → Type 0) (fault
 has_no_image {F} {O} is_refused fault given cause same is told refused =
     subst (λ (c : FileFault F O). HasNoImage is_refused fault c) (sym same) (record { is_fault = is; told = told; refused = refused })
 
--- no image could be opened for a building that was read
+-- no image was had for a building that was read
 pub no_image : {F O : Type 0} (is_text : List ℕ → Type 0) (is_refused : FileFault F O → Type 0) (plan : Plan) (fault : Fault) (cause : FileFault F O) → HasBuilding is_text plan → HasNoImage is_refused fault cause
     → IsNoImage is_text is_refused fault cause
 no_image is_text is_refused plan fault cause has unhad = record { building = (plan, has); unhad = unhad }
@@ -158,7 +158,7 @@ keeper_undone is_text opener is_fresh state is_refused plan (Opened fault left) 
   unwritten = is.refused.writes;
 }
 
--- after the recovery
+-- behind the recovery
 kept_left : (is_text : List ℕ → Type 0) (files : ImageFiles) (path : List ℕ) (plan : Plan) (keeper : KeeperView files.Served) (left : files.Served) (fault : Fault) → HasBuilding is_text plan → HasKeeperOf files path plan keeper → left ≡ keeper.writer.device
     → ((old new : DiskState) → HasRecovered plan old new → StopsOver plan old new fault) → IsLeftAs is_text (files.is_to_be_served path) files.served_state fault left
 kept_left is_text files path plan keeper left fault has opened is stops =
@@ -178,7 +178,7 @@ pub port_left : (is_text : List ℕ → Type 0) (files : ImageFiles) (path : Lis
 port_left is_text files path plan keeper left fault has opened is network =
     kept_left is_text files path plan keeper left fault has opened is (λ old new recovered. subst (StopsOver plan old new) (sym network) recovered)
 
--- the standard output failed, or memory ran out
+-- the standard output failed, or memory was wanting
 pub output_left : (is_text : List ℕ → Type 0) (files : ImageFiles) (path : List ℕ) (plan : Plan) (keeper : KeeperView files.Served) (left : files.Served) (fault : Fault) → HasBuilding is_text plan → HasKeeperOf files path plan keeper → left ≡ keeper.writer.device
     → IsFileFault Output fault → IsLeftAs is_text (files.is_to_be_served path) files.served_state fault left
 output_left is_text files path plan keeper left fault has opened is (inl output) =
@@ -201,7 +201,7 @@ recovered_left is_text is_fresh state plan opened left before after fault has fr
       unwritten = r.reopens.writes;
     }
 
--- how the showing of a journal that fails has left its image
+-- how the showing of a journal that is undone has left its image
 shown_left : {D : Type 0} (is_text : List ℕ → Type 0) (is_fresh : D → Type 0) (state : D → DiskState) (plan : Plan) (opened left : D) (before after : Option (List ℕ)) (fault : Fault) → HasBuilding is_text plan
     → is_fresh opened → IsShowingFault fault
     → ((refusal : KeeperFault) → fault ≡ Journal refusal → RefusesReopening plan (state opened) (state left) refusal)
@@ -227,7 +227,7 @@ pub showing_left : {D : Type 0} (is_text : List ℕ → Type 0) (is_fresh : D �
 showing_left {D} is_text is_fresh state plan opened left told before after fault same has fresh is refused front =
     subst (λ (d : D). IsLeftAs is_text is_fresh state fault d) (sym same) (shown_left is_text is_fresh state plan opened left before after fault has fresh is refused front)
 
--- what was written of a journal on an image whose showing fails
+-- what was written of a journal on an image whose showing is undone
 pub showing_part : (files : CommandFiles) (path building : List ℕ) (plan : Plan) (opened left : files.image.Shown) (before after : Option (List ℕ)) (fault : Fault) → HasBuilding (files.is_text building) plan
     → files.image.is_to_be_shown path opened → IsShowingFault fault → IsReportOfFault fault before after
     → (IsFileFault Output fault → ShowsFront plan (files.image.shown_state opened) (files.image.shown_state left) before after) → ShowsPart files path building before after

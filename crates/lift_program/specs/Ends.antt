@@ -87,7 +87,7 @@ line_at_once_in (Some (Memory no_memory)) = None
 line_at_once_in (Some Network) = None
 line_at_once_in (Some Thread) = None
 
--- and what else a serving fails for at its end
+-- and what else a serving is undone for at its end
 abbrev pub line_at_end_in : Option Fault → Option (List ℕ)
 line_at_end_in None = None
 line_at_end_in (Some (Building fault)) = told_line (Building fault)
@@ -135,7 +135,7 @@ abbrev pub IsFailureTold : {E : Type 0} → (contents : E → Option (List ℕ))
 IsFailureTold contents old new =
     IsWrittenOrFailed contents old new (fault_text (Journal (OfJournal Disk)) ++ 10 ∷ [])
 
--- what the work fails for, if it does
+-- what the work is undone for, if it is
 abbrev pub undone_for : {M S V F O : Type 0} → End M S V F O → Option Fault
 undone_for (Replayed verdict unused) = None
 undone_for (Formatted disk) = None
@@ -153,10 +153,10 @@ abbrev pub EndOver : CommandFiles → Type 0
 EndOver files = End files.image.Made files.image.Shown files.image.Served files.image.File
     files.image.Opener
 
--- An empty journal with this many sectors in a half was made on the image that was made at this
--- path, of a building that was read: by five calls, three of them writes, of which none failed.
--- Where the image was honest it still is, and there a serving begins with nothing to lose: each
--- image that a crash may leave from now on keeps the answers of nobody, and no entry.
+-- An empty journal with so many sectors in a half was made on the image that was made at this path,
+-- of a building that was read: by five calls, three of them writes, of which none failed. Where the
+-- image was honest it still is, and there a serving begins with nothing to lose: each image that a
+-- crash may leave from now on keeps the answers of nobody, and no entry.
 pub record IsMadeWith (files : CommandFiles) (image building : List ℕ) (half : ℕ)
     (left : files.image.Made) : Type 0 where
   pub plan : Plan
@@ -180,11 +180,11 @@ IsMadeFor files (Format image building half) left =
 IsMadeFor files (Show image building) left = ⊥
 IsMadeFor files (Serve image building port sessions policy) left = ⊥
 
--- a file in this role, or out of memory
+-- a file in this role, or want of memory
 abbrev pub IsFileFault : Role → Fault → Type 0
 IsFileFault role fault = (fault ≡ File role) ⊎ (fault ≡ Memory tt)
 
--- the standard input, the standard output, or out of memory
+-- the standard input, the standard output, or want of memory
 abbrev pub IsReplayFault : Fault → Type 0
 IsReplayFault (Building fault) = ⊥
 IsReplayFault (Journal fault) = ⊥
@@ -221,7 +221,7 @@ IsUnmade files image building half (NoImageHad refused) =
 IsUnmade files image building half (Opened fault left) =
     IsUnformatted files image building half fault left
 
--- what an opening may be refused for, out of memory, or the standard output
+-- what an opening may be refused for, want of memory, or the standard output
 abbrev pub IsShowingFault : Fault → Type 0
 IsShowingFault (Building fault) = ⊥
 IsShowingFault (Journal fault) = IsOpeningFault fault
@@ -239,7 +239,7 @@ IsShowingUndone (NoBuilding fault unused) = Unit {0}
 IsShowingUndone (NoImageHad refused) = Unit {0}
 IsShowingUndone (Opened fault left) = IsShowingFault fault
 
--- what the serving itself may fail for: a failed call of the device, and what it takes
+-- what the serving itself may be undone for: a failed call of the device, and what it takes
 abbrev pub IsServingFault : Fault → Type 0
 IsServingFault (Building fault) = ⊥
 IsServingFault (Journal fault) = fault ≡ OfJournal Disk
@@ -272,7 +272,7 @@ IsRequestFault files (Show image building) fault =
 IsRequestFault files (Serve image building port sessions policy) fault =
     IsBuildingFault (files.is_text building.now) fault
 
--- no image could be opened at the path that was named, for this
+-- no image was had at the path that was named, for this
 abbrev pub IsNoImageFor : (files : CommandFiles) → Request → Fault
     → FileFault files.image.File files.image.Opener → Type 0
 IsNoImageFor files Replay fault cause = ⊥
@@ -310,7 +310,7 @@ IsUnshownFor files (Show image building) fault left = IsShowingFault fault
     files.image.shown_state fault left
 IsUnshownFor files (Serve image building port sessions policy) fault left = ⊥
 
--- A building was to be served on this port over the image at this path, until this many connections
+-- A building was to be served on this port over the image at this path, until so many connections
 -- had ended, and the serving came to this. A socket at a port gives this here, in all that follows.
 abbrev pub IsServedFor : (files : CommandFiles) → (gives : ℕ → Option Listener → Type 0) → Request
     → ℕ → Option Fault → files.image.Served → Option EndedState → Type 0
@@ -321,7 +321,7 @@ IsServedFor files gives (Serve image building asked sessions policy) port fault 
     (port ≡ asked)
     × IsServing files (gives asked) image.now building.now policy sessions fault left ended
 
--- a building is to be served so, and all that this takes is there
+-- a building is to be served so, and all that this takes was had
 abbrev pub IsReadyFor : (files : CommandFiles) → (gives : ℕ → Option Listener → Type 0) → Request
     → KeeperView files.image.Served → Listener → (port sessions : ℕ) → Shipped → Type 0
 IsReadyFor files gives Replay keeper listener port sessions policy = ⊥
@@ -380,7 +380,7 @@ WritesFor files input (Show image building) before after =
 WritesFor files input (Serve image building port sessions policy) before after =
     SaysFront port before after
 
--- What these words come to: an end of what they ask for; out of memory for them, with nothing
+-- What these words come to: an end of what they ask for; want of memory for them, with nothing
 -- written; or, where they ask for nothing, other words. In these two nothing was asked of an image.
 abbrev pub IsEndOf : (files : CommandFiles) → (gives : ℕ → Option Listener → Type 0) → (input : Option (List ℕ)) → List Text
     → (before after : Option (List ℕ)) → EndOver files → Type 0
@@ -391,8 +391,8 @@ IsEndOf files gives input words before after end =
     ⊎ ((request : Request) × AskForRequest words request × IsEndFor files gives request before after end
     × WritesFor files input request before after)
 
--- The words ask for a building to be served, all that this takes is there, and what was written
--- says that the port is served.
+-- The words ask for a building to be served, all that this takes was had, and what was written says
+-- that the port is served.
 abbrev pub AreReadyFor : (files : CommandFiles) → (gives : ℕ → Option Listener → Type 0) → List Text
     → (before after : Option (List ℕ)) → KeeperView files.image.Served → Listener
     → (port sessions : ℕ) → Shipped → Type 0

@@ -60,19 +60,19 @@ usage_text = codes "liftd: usage"
 abbrev pub help_text : List ℕ
 help_text = codes "liftd, the group controller of a lift group\n\n  liftd [replay]\n      carries out the script on standard input\n  liftd format <image> <building> [--half <n>]\n      makes an empty journal of two halves of n sectors, 64 to 1000000 (64)\n  liftd show <image> <building>\n      prints the open calls of a journal\n  liftd serve <image> <building> --port <p> --sessions <n>\n              [--policy etd|fewest|wait]\n      serves kiosks and cars at port p of this machine, until n connections\n      (1 to 1000000) have ended\n\nStatus 0: done. 1: a fault, told in a line on standard error, or a bad script.\n2: other words, as these are.\n"
 
--- a building that was refused because memory ran out is that
+-- a building that was refused for want of memory is that
 abbrev pub of_building : BuildingFault → Fault
 of_building (NoRoom no_memory) = Memory tt
 of_building fault = Building fault
 
--- a script whose reading failed fails for the standard input, one whose report could not be
+-- a script whose reading failed is undone for the standard input, one whose report could not be
 -- written for the standard output
 abbrev pub of_replay : ReplayFault → Fault
 of_replay (NoMemory no_memory) = Memory tt
 of_replay Read = File Input
 of_replay Write = File Output
 
--- what a serving fails for: a device that failed, whatever else there was, and else the first
+-- what a serving is undone for: a device that failed, whatever else there was, and else the first
 -- fault of the rest
 abbrev pub served_fault : (is_broken : Bool) → Option ServeFault → Option Fault
 served_fault true fault = Some (Journal (OfJournal Disk))

@@ -18,25 +18,25 @@ use Rattle.lift_program.specs.Unwritten.{unwritten_file_of}
 use Rattle.lift_program.specs.declared.unwritten.UnwrittenFile.{UnwrittenFile}
 
 -- What is said of the devices over the file of an image, by what opens that: of one that is made, one
--- that is served, and one that is shown; and why there is none.
+-- that is served, and one that is shown; and why none is had.
 pub record ImageFiles : Type 1 where
   pub File : Type 0
   pub Opener : Type 0
   -- what opens it
   pub opener : Opener
-  -- no image of this many sectors was made at this path, for this
+  -- no image of so many sectors was made at this path, for this
   pub is_unmade : List ℕ → ℕ → FileFault File Opener → Type 0
-  -- no image to be served could be opened at this path, for this
+  -- no image to be served was had at this path, for this
   pub is_unserved : List ℕ → FileFault File Opener → Type 0
-  -- no image to be shown could be opened at this path, for this
+  -- no image to be shown was had at this path, for this
   pub is_unshown : List ℕ → FileFault File Opener → Type 0
   pub Made : Type 0
   pub made_state : Made → DiskState
-  -- its image, of this many sectors, was made at this path, and nothing else was done
+  -- its image, of so many sectors, was made at this path, and nothing else was done
   pub is_just_made : List ℕ → ℕ → Made → Type 0
   pub Served : Type 0
   pub served_state : Served → DiskState
-  -- its image was opened at this path, its lock was taken, and nothing else was done
+  -- its image was opened at this path, its lock was had, and nothing else was done
   pub is_to_be_served : List ℕ → Served → Type 0
   pub Shown : Type 0
   pub shown_state : Shown → DiskState
@@ -71,9 +71,9 @@ pub record IsOpened {F : Type 0} {told : Told F}
   pub measured : IsMeasured (opens how path) gives holds first file
   pub honest : (holds measured.file).is_honest → image.is_honest
 
--- An image of this many sectors was made at this path: its file was opened there to be made, it has
--- its room, its folder names it for good, and no call of the image was made. It is honest where the
--- file is that was opened.
+-- An image of so many sectors was made at this path: its file was opened there to be made, it has its
+-- room, its folder names it for good, and no call of the image was made. It is honest where the file
+-- is that was opened.
 pub record IsJustMade {F : Type 0} {told : Told F}
     (opens : OpenOptions → List ℕ → Option F → Type 0) (names : List ℕ → F → Type 0)
     (gives : F → FileCall → F → Type 0) (holds : F → DiskState) (path : List ℕ) (sectors : ℕ)

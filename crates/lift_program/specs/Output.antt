@@ -8,7 +8,7 @@ use Rattle.lift_program.specs.declared.fault.Fault.{Fault}
 use Rattle.lift_program.specs.declared.fault.Fault.TheVariants.{File, Memory}
 use Rattle.lift_program.specs.declared.fault.Role.TheVariants.{Output}
 
--- All of these bytes were written, or the writer failed after a front of them.
+-- All of these bytes were written, or the writer failed behind a front of them.
 abbrev pub IsWrittenOrFailed : {W : Type 0} → (W → Option (List ℕ)) → (old new : OutputState W)
     → List ℕ
     → Type 0
@@ -29,14 +29,14 @@ WasTaken {W} gives flushes old new =
     (last : W) × TakesSomeEachCall gives old last × ((new ≡ last) ⊎ flushes last false new)
 
 -- The writer's last call failed, or took nothing; or each took a byte at least, and the flush
--- after them failed.
+-- behind them failed.
 abbrev pub WriterHasFailed : {W : Type 0} → (gives : W → List ℕ → Option ℕ → W → Type 0)
     → (flushes : W → Bool → W → Type 0) → (old new : W) → Type 0
 WriterHasFailed {W} gives flushes old new =
     FailsAtLast gives old new
     ⊎ ((last : W) × TakesSomeEachCall gives old last × flushes last false new)
 
--- How the standard output was called: what is written ends well only with a flush after it that
+-- How the standard output was called: what is written ends well only with a flush behind it that
 -- did not fail; the output is told as the fault only where it has failed, and memory only where no
 -- call failed but a flush.
 pub record IsOutputSettled {W : Type 0} (gives : W → List ℕ → Option ℕ → W → Type 0)

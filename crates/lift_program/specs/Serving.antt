@@ -20,7 +20,7 @@ use Rattle.lift_program.specs.Stages.{HasBuilding, HasKeeperOf}
 use Rattle.lift_program.specs.declared.fault.Fault.{Fault}
 
 -- The recovery opened a journal on the file that was there at this path, of a building that the text
--- describes which was read from its file; and the socket that was asked for was given.
+-- describes which was read from its file; and the socket that was asked for was had.
 pub record IsReadyOver (files : CommandFiles) (gives : Option Listener → Type 0)
     (image building : List ℕ) (keeper : KeeperView files.image.Served)
     (listener : Listener) : Type 0 where
@@ -31,9 +31,8 @@ pub record IsReadyOver (files : CommandFiles) (gives : Option Listener → Type 
   pub here : gives (Some listener)
 
 -- The keeper's building was served at this socket with this policy. What is told is that the device
--- failed, exactly where it did, and else what the serving told. Connections have ended only where
--- this many have at this socket, and where nothing is told they have. This is the device as it was
--- left.
+-- failed, exactly where it did, and else what the serving told. Connections have ended only where so
+-- many have at this socket, and where nothing is told they have. This is the device as it was left.
 pub record IsServedOver {D : Type 0} (state : D → DiskState) (policy : Shipped)
     (listener : Listener) (sessions : ℕ) (keeper : KeeperView D) (fault : Option Fault) (left : D)
     (ended : Option EndedState) : Type 0 where
@@ -45,7 +44,7 @@ pub record IsServedOver {D : Type 0} (state : D → DiskState) (policy : Shipped
   pub ends : IfSome ended (AreEndedAt listener sessions)
   pub counted : fault ≡ None → IsSome ended
 
--- All that this takes was there, and the building was served.
+-- All that this takes was had, and the building was served.
 pub record IsServing (files : CommandFiles) (gives : Option Listener → Type 0)
     (image building : List ℕ) (policy : Shipped) (sessions : ℕ) (fault : Option Fault)
     (left : files.image.Served) (ended : Option EndedState) : Type 0 where

@@ -30,11 +30,11 @@ use Rattle.lift_program.specs.declared.left.Undone.TheVariants.{NoBuilding, NoIm
 use Rattle.lift_program.specs.declared.fault.Role.TheVariants.{Building as OfBuilding}
 use Rattle.lift_program.specs.declared.fault.Role.TheVariants.{Image as OfImage, Input, Output}
 
--- a building's text has this many bytes at most
+-- a building's text has so many bytes at most
 abbrev pub most_text : ℕ
 most_text = 1048576
 
--- this many bytes were taken from the reader
+-- so many bytes were taken from the reader
 abbrev pub TakesBytes : {R : Type 0} → ℕ → (R → Option (List ℕ)) → (old new : R) → Type 0
 TakesBytes count remaining old new = (bytes : List ℕ) × (length bytes ≡ count)
     × Consumes (remaining old) (remaining new) bytes
@@ -110,7 +110,7 @@ StopsOver plan old new (Memory no_memory) = HasRecovered plan old new
 StopsOver plan old new Network = HasRecovered plan old new
 StopsOver plan old new Thread = ⊥
 
--- A building was read, and an image opened as such a device. The command fails for this, and has
+-- A building was read, and an image opened as such a device. The command is undone for this, and has
 -- left the device so: nothing was written, and each image that a crash at any moment since the
 -- opening may leave is one that it might have left before. So what was kept is kept.
 pub record IsLeftAs {D : Type 0} (is_text : List ℕ → Type 0) (is_fresh : D → Type 0)
@@ -123,7 +123,7 @@ pub record IsLeftAs {D : Type 0} (is_text : List ℕ → Type 0) (is_fresh : D �
   pub moments : LeavesOnly (state opened) (state left) (MayLeave (state opened))
   pub unwritten : (state left).writes ≡ (state opened).writes
 
--- why no building could be read: its file, out of memory, or its text's first fault
+-- what no building is had for: its file, want of memory, or its text's first fault
 abbrev pub IsBuildingFault : (is_text : List ℕ → Type 0) → Fault → Type 0
 IsBuildingFault is_text (Building fault) = HasNoBuilding is_text fault
 IsBuildingFault is_text (Journal fault) = ⊥
@@ -135,7 +135,7 @@ IsBuildingFault is_text (Memory no_memory) = Unit {0}
 IsBuildingFault is_text Network = ⊥
 IsBuildingFault is_text Thread = ⊥
 
--- what the system's refusal comes to: out of memory where it said so, else the image's file
+-- what the system's refusal comes to: want of memory where it said so, else the image's file
 abbrev pub IsSystemFault : Error → Fault → Type 0
 IsSystemFault error fault = (error_kind error ≡ OutOfMemory → fault ≡ Memory tt)
     × (error_kind error ≢ OutOfMemory → fault ≡ File OfImage)
@@ -147,29 +147,27 @@ IsImageFault (NotAFile opener) fault = fault ≡ File OfImage
 IsImageFault (Unopened error) fault = IsSystemFault error fault
 IsImageFault (Stopped stopped) fault = IsSystemFault stopped.error fault
 
--- No image could be opened: that is told as its file, or as out of memory where the system told
--- that.
+-- No image was had: that is told as its file, or as want of memory where the system told that.
 pub record HasNoImage {F O : Type 0} (is_refused : FileFault F O → Type 0) (fault : Fault)
     (cause : FileFault F O) : Type 0 where
   pub is_fault : (fault ≡ File OfImage) ⊎ (fault ≡ Memory tt)
   pub told : IsImageFault cause fault
   pub refused : is_refused cause
 
--- A building was read, and no image could be opened for it.
+-- A building was read, and no image was had for it.
 pub record IsNoImage {F O : Type 0} (is_text : List ℕ → Type 0)
     (is_refused : FileFault F O → Type 0) (fault : Fault) (cause : FileFault F O) : Type 0 where
   pub building : ReadsBuilding is_text
   pub unhad : HasNoImage is_refused fault cause
 
--- the fault that a command over an image fails for
+-- the fault that a command over an image is undone for
 abbrev pub fault_in : {D F O : Type 0} → Undone D F O → Fault
 fault_in (NoBuilding fault unused) = fault
 fault_in (NoImage refused) = refused.fault
 fault_in (Opened fault left) = fault
 
--- Why a command over an image fails, and how it has left the image, its file or what was to open
--- it. The first of these that stands: no building could be read; no image could be opened; or one
--- was.
+-- Why a command over an image is undone, and how it has left the image, its file or what was to open
+-- it. The first of these that stands: no building was had; no image was had; or one was.
 abbrev pub IsUndone : {D F O : Type 0} → (is_text : List ℕ → Type 0) → (opener : O)
     → (is_fresh : D → Type 0) → (state : D → DiskState)
     → (is_refused : FileFault F O → Type 0) → Undone D F O → Type 0
@@ -192,7 +190,7 @@ abbrev pub IsUndoneShowing : (files : CommandFiles) → (image building : List �
 IsUndoneShowing files image building = IsUndone (files.is_text building) files.image.opener
     (files.image.is_to_be_shown image) files.image.shown_state (files.image.is_unshown image)
 
--- Why there is no keeper of this building: no image could be opened, or the recovery was refused.
+-- What no keeper of this building is had for: no image was had, or the recovery was refused.
 abbrev pub IsUnkept : {D F O : Type 0} → (is_fresh : D → Type 0) → (state : D → DiskState)
     → (is_refused : FileFault F O → Type 0) → Plan → Undone D F O → Type 0
 IsUnkept is_fresh state is_refused plan (NoBuilding fault unused) = ⊥

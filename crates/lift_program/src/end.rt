@@ -26,11 +26,11 @@ pub enum End<M, S, V, F: Drop, O: Drop> {
     /// The open calls of the journal on this file were written.
     Shown(Left<S>),
     /// The building was served on this port, over this image; a fault that did not end that is told.
-    /// Where none is, this many connections have ended.
+    /// Where none is, so many connections have ended.
     Served(u16, Option<Fault>, Left<V>, Option<Ended>),
-    /// The work failed, and nothing was asked of an image.
+    /// The work is undone, and nothing was asked of an image.
     Failed(Fault, Left<O>),
-    /// No image could be opened, for this.
+    /// No image was had, for this.
     NoImage(Fault, Left<FileFault<F, O>>),
     /// The journal couldn't be made on this file.
     Unformatted(Fault, Left<M>),

@@ -1,4 +1,4 @@
-//! Why the program ends without having done its work, and the line that says so.
+//! Why the program ends with its work undone, and the line that says so.
 
 ghost use Rattle.std.specs.Prelude.{◌≡◌, ◌≤◌, ◌+◌, ◌++◌, ◌∷◌, [], Some, length};
 ghost use Rattle.std.specs.Fmt.{decimal};
@@ -33,7 +33,7 @@ pub enum Role {
     Output,
 }
 
-/// Why the program ends without having done its work.
+/// Why the program ends with its work undone.
 #[derive(Clone, Copy, Error)]
 pub enum Fault {
     /// The building's text is no building.
@@ -44,13 +44,13 @@ pub enum Fault {
     File(Role),
     /// A growth was refused.
     Memory(NoMemory),
-    /// The port couldn't be taken, or failed.
+    /// The port couldn't be had, or failed.
     Network,
     /// A thread couldn't be started.
     Thread,
 }
 
-/// A building that is refused because memory ran out is that.
+/// A building that is refused for want of memory is that.
 impl From<BuildingFault> for Fault {
     ghost from_gives = { λ building fault. fault ≡ of_building building };
 

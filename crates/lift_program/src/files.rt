@@ -27,10 +27,10 @@ use std::alloc::Global;
 use std::io::Read;
 use std::str;
 
-/// A building's text has this many bytes at most, as many as a script.
+/// A building's text has so many bytes at most, as many as a script.
 const MOST_BYTES: usize = 1_048_576;
 
-/// The file is read in this many calls at most.
+/// The file is read in so many calls at most.
 const MOST_CALLS: u32 = 2_097_152;
 
 /// What a building's file comes to that couldn't be read.
@@ -45,7 +45,7 @@ fn unread(fault: InputFault) -> Fault
     }
 }
 
-/// The bytes of a building's file. Reading stops after one byte more than there may be, and the
+/// The bytes of a building's file. Reading stops behind one byte more than there may be, and the
 /// file is refused then.
 fn bytes_of<R: Read + Drop>(alloc: Global, reader: &mut Counted<R>) -> Result<Vec<u8>, Fault>
     requires uncalled { IsUncalled reader.old }
@@ -118,7 +118,7 @@ fn refused<F: Drop, O: Drop>(cause: FileFault<F, O>) -> Refused<F, O>
     }
 }
 
-/// The file of a journal, made or made again, if its lock is free.
+/// The file of a journal, made or made anew, if its lock is to be had.
 pub fn image_at<I: FileOpener>(
     opener: I,
     path: &str,
@@ -141,7 +141,7 @@ pub fn image_at<I: FileOpener>(
     }
 }
 
-/// The file of a journal that is there, if its lock is free. It is not made again.
+/// The file of a journal that is there, if its lock is to be had. It is not made anew.
 pub fn image_in<I: FileOpener>(
     opener: I,
     path: &str,

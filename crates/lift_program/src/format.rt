@@ -12,7 +12,7 @@ use lift_journal::JournalFault;
 use lift_keeper::KeeperFault;
 use std::alloc::Global;
 
-/// Makes an empty journal in the file `image`, for the building in the file `building`, with this
+/// Makes an empty journal in the file `image`, for the building in the file `building`, with so
 /// many sectors in a half. Nothing is made for a building that is refused.
 #[inline(never)]
 #[tactic(auto, using(crate::proofs::Stages::no_image, crate::proofs::Stages::reads_building))]

@@ -33,7 +33,7 @@ use std::convert::AsStr;
 use std::io::{Read, Write};
 use std::marker::PhantomData;
 
-/// The words after the program's name, and what opens the files and the socket that they ask for.
+/// The words behind the program's name, and what opens the files and the socket that they ask for.
 /// Nobody can take them apart: they can only be prepared, by a call that returns. So whoever waits
 /// with them has opened nothing, and nothing but what the words ask for can be opened by them. That
 /// a device fails is told to an `E`.
@@ -182,10 +182,10 @@ impl<'w, B: TextOpener, I: FileOpener, L: Listens, S: AsStr, E: Write + Drop> Gi
         // A good script was read to its end,
         ensures good { result ≡ Err (End.Replayed Good self.entry.files.image)
             → input.new.ended ≡ true }
-        // one that fails for the standard input could not be read,
+        // one that is undone for the standard input could not be read,
         ensures unread { result ≡ Err (End.Failed (Fault.File Input) self.entry.files.image)
             → IsUnread input.new }
-        // and one that fails for the standard output was.
+        // and one that is undone for the standard output was.
         ensures read { AskForRequest (map S.text self.entry.words.now) Replay
             → result ≡ Err (End.Failed (Fault.File Output) self.entry.files.image)
             → IsInputRead R.remaining input.old input.new }

@@ -32,19 +32,19 @@ impl<D> Left<D> {
     }
 }
 
-/// Why no image could be opened: what is told, and what that comes from.
+/// Why no image was had: what is told, and what that comes from.
 #[derive(Drop)]
 pub struct Refused<F: Drop, O: Drop> {
     pub fault: Fault,
     pub cause: Left<FileFault<F, O>>,
 }
 
-/// Why a command over an image fails.
+/// Why a command over an image is undone.
 #[derive(Drop)]
 pub enum Undone<D, F: Drop, O: Drop> {
-    /// No building could be read, and nothing was asked of an image: what opens that is left.
+    /// No building was had, and nothing was asked of an image: what opens that is left.
     NoBuilding(Fault, Left<O>),
-    /// No image could be opened.
+    /// No image was had.
     NoImage(Refused<F, O>),
     /// One was, and was left so.
     Opened(Fault, Left<D>),

@@ -62,8 +62,8 @@ fn listen_here<L: Listens>(socket: L, port: u16) -> Result<Listening, Fault>
 }
 
 /// All that it takes to serve the building in the file `building` on a port of this machine, with
-/// the journal in the file `image`, until this many connections have ended. The building stands in
-/// `place`. That the port is served is said after all that can be refused here.
+/// the journal in the file `image`, until so many connections have ended. The building stands in
+/// `place`. That the port is served is said behind all that can be refused here.
 #[inline(never)]
 #[tactic(auto, using(crate::proofs::Stages::nothing_written, crate::proofs::Writing::nothing_said, crate::proofs::Writing::said_front))]
 pub(crate) fn ready_for<'b, B: TextOpener, I: FileOpener, L: Listens, W: Outflow, E: Write + Drop>(

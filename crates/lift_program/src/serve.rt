@@ -25,7 +25,7 @@ use std::sync::Wait;
 use std::thread::Threads;
 use std::time::Clock;
 
-/// What the serving failed for: a device that failed, and else the fault of the rest.
+/// What the serving was undone for: a device that failed, and else the fault of the rest.
 fn fault_of(is_broken: bool, fault: Option<Refusal>) -> Option<Fault>
     ensures { result ≡ served_fault is_broken fault }
 {
@@ -35,8 +35,8 @@ fn fault_of(is_broken: bool, fault: Option<Refusal>) -> Option<Fault>
     Some(Fault::from(fault?))
 }
 
-/// What a serving came to, the image as it was left, and that this many connections have ended,
-/// unless they have not.
+/// What a serving came to, the image as it was left, and that so many connections have ended, unless
+/// they have not.
 #[derive(Drop)]
 pub struct Serving<D> {
     pub fault: Option<Fault>,
@@ -103,8 +103,8 @@ where
     (errors, behind)
 }
 
-/// Serves until this many connections have ended. That the device failed is told in `errors` in the
-/// very turn in which it fails, and nothing else is.
+/// Serves until so many connections have ended. That the device failed is told in `errors` in the very
+/// turn in which it fails, and nothing else is.
 fn serve_telling<'b, R, D, E>(
     rt: &R,
     alloc: Global,
@@ -142,8 +142,8 @@ where
     )
 }
 
-/// Serves what is ready, until this many connections have ended. The answer tells the fault that
-/// did not end it, if there was one. That the device failed is told in `errors` when it does.
+/// Serves what is ready, until so many connections have ended. The answer tells the fault that did
+/// not end it, if there was one. That the device failed is told in `errors` when it does.
 #[inline(never)]
 pub(crate) fn serve<R: Threads + Wait + Clock + Sync, D: Disk + Drop, E: Write + Drop>(
     rt: &R,

@@ -28,7 +28,7 @@ use std::sync::Wait;
 use std::thread::Threads;
 use std::time::Clock;
 
-/// Why the words weren't given: memory ran out, or one of them is no text. Nothing that
+/// Why the words weren't given: for want of memory, or since one of them is no text. Nothing that
 /// opens a file or a socket was made yet.
 pub fn not_given<E: Write + Drop>(
     error: io::Error,
@@ -46,8 +46,8 @@ pub fn not_given<E: Write + Drop>(
     end
 }
 
-/// Does what the words after the program's name ask for, and answers how it ended. Only a serving
-/// waits, once it has all that it takes: whatever it waits for, and whether or not it ever ends,
+/// Does what the words behind the program's name ask for, and answers how it ended. Only a serving
+/// waits, once all that it takes was had: whatever it waits for, and whether or not it ever ends,
 /// nothing was opened but what the words asked for.
 #[inline(never)]
 fn carry_out<
@@ -92,7 +92,7 @@ fn carry_out<
     }
 }
 
-/// Does what the words after the program's name ask for, and answers the status: 0 where all was
+/// Does what the words behind the program's name ask for, and answers the status: 0 where all was
 /// done, 1 for a bad script or a fault, 2 for other words. A fault writes its line to `errors`, and
 /// so do other words; a request for help is told how the program is called. What opens the files and
 /// the socket is used up: nothing is opened twice, and no file or socket but these.

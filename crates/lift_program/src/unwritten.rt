@@ -72,7 +72,7 @@ impl<F: ToldFile + Drop> RunDisk for UnwrittenFile<F> {
 
     ghost has_given = { λ d. HasGiven (calls_below (unwritten_file_of d)) };
 
-    // the file was asked for this many sectors and no more
+    // the file was asked for so many sectors and no more
     ghost read_run_gives = { λ old sector count run result new.
         AsksForRun (calls_below (unwritten_file_of old)) sector count run result
         (calls_below (unwritten_file_of new)) };

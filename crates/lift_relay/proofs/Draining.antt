@@ -17,7 +17,7 @@ module _ {P : Type 0} where
         same = then.same ∙ ap (λ (s : AllocatorState P). record s { end = c.end; hand = [] }) first.same;
       }
 
-  -- the end alone tried, and was refused
+  -- the end alone tried in vain
   abbrev pub Waits : AllocatorState P → AllocatorState P → Type 0
   Waits a b = b ≡ record a { end = record a.end { tries = b.end.tries } }
 

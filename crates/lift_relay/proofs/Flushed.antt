@@ -127,7 +127,7 @@ answered_more is_safe places mid next commands n taken visit inside is before la
 pub answered_all : (is_safe : Bool) (places next : List ClerkPlace) (commands : List Taken) (n : ℕ) → length commands ≤ n → Answered is_safe places (take n commands) next → Answered is_safe places commands next
 answered_all is_safe places next commands n all is = subst (λ (l : List Taken). Answered is_safe places l next) (take_all n commands all) is
 
--- the command after these, with its note
+-- the command behind these, with its note
 pub noted_at : (desk : List TableId) (turns : List ℕ) (commands : List Taken) (n : ℕ) (d : Taken) → n < length commands → AreNoted desk turns commands → IsNoted desk (turns_after turns (take n commands)) (get_or commands n d)
 noted_at desk turns [] n d inside all = absurd (omega arith)
 noted_at desk turns (t ∷ commands) zero d inside all = all.0

@@ -27,7 +27,7 @@ pub record SettlesBatch {D : Type 0} (state : D
   pub answered : Answered (is_ok answer) old.seat batch.commands new.seat
   pub counts : (counts : FlushCounts) → answer ≡ Ok counts
       → (counts.batches ≡ 1) × (counts.answers ≡ length batch.commands)
-  -- where nothing has failed, what is safe is the register after the batch
+  -- where nothing has failed, what is safe is the register behind the batch
   pub leads : new.writer.is_broken ≡ false → new.writer.register ≡ batch.after.register
   pub settled : IsSettled new.seat (turns_behind batch)
   pub seated : IsClerkOf new.desk new.seat

@@ -177,7 +177,7 @@ module _ {D P : Type 0} (chooses : P → Choice) (choice : Choice) (state : D �
       let joined : last.joined.keeper.writer.is_broken ≡ true = ap (λ (w : WriterView D). w.is_broken) last.rejoined.writer ∙ was in
       ap (λ (w : WriterView D). w.is_broken) (last.turn.commits.is.rests joined) ∙ joined
 
-  -- of a run and of the last turn after it
+  -- of a run and of the last turn behind it
   pub heard_behind : {V : Type 0} (hears : V → V → Type 0) (before after : ClerkState D P) (fault : Option RunFault) (u v w : V) → AreParts before a f → HaveRunOn choice state a b f g fault
       → IsLastTurn chooses state b g after → FailureHeard hears f.writer.is_broken g.writer.is_broken u v → FailureHeard hears g.writer.is_broken after.keeper.writer.is_broken v w
       → FailureHeard hears before.keeper.writer.is_broken after.keeper.writer.is_broken u w
@@ -235,7 +235,7 @@ pub tells_spawn : (over : Result EndedState (Unit {0})) (first is_told : Option 
 tells_spawn (Ok ended) first is_told says given_up = absurd (cc)
 tells_spawn (Err given_up) first is_told says over = says
 
--- that connections have ended is told where this many have,
+-- that connections have ended is told where so many have,
 pub ended_so : (over : Result EndedState (Unit {0})) (ended : Option EndedState) (listener : Listener) (sessions : ℕ) → IsEndAt listener sessions over → ended ≡ ended_in over → IfSome ended (AreEndedAt listener sessions)
 ended_so (Ok over) ended listener sessions at_end is = subst (λ (e : Option EndedState). IfSome e (AreEndedAt listener sessions)) (sym is) at_end
 ended_so (Err given_up) ended listener sessions at_end is = subst (λ (e : Option EndedState). IfSome e (AreEndedAt listener sessions)) (sym is) tt

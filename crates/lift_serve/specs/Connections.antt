@@ -46,8 +46,8 @@ pub record NamesNone (cars kiosks : ℕ) (before after : Source) : Type 0 where
   pub few : CallsUpTo first_reads before after
   pub none : (terminal : ℕ) → SpeaksFor cars kiosks (strip_carriage_return line) terminal → ⊥
 
--- Reading ended without a line, within this many calls, and for this reason: the end was found, or
--- a call failed, or all of the calls were used.
+-- Reading ended without a line, within so many calls, and for this reason: the end was found, or a
+-- call failed, or all of the calls were used.
 abbrev pub EndsWithoutLine : (calls : ℕ) → LineMissing → (before after : Source) → Type 0
 EndsWithoutLine calls AtEnd before after = (part : List ℕ) × (mid : Source)
     × GivesPart part before mid × FindsEnd mid after × CallsUpTo calls before after

@@ -3,7 +3,7 @@ use Rattle.std.specs.Prelude.{ℕ, ◌≡◌, ◌<◌, ◌≤◌, ◌+◌, ◌�
 use Rattle.std.specs.Fmt.{decimal}
 use Rattle.lift_base.specs.Text.{AreWords, letter_text}
 
--- the terminal of a kiosk, 16 after the kiosk's number
+-- the terminal of a kiosk, 16 behind the kiosk's number
 abbrev pub IsKioskWord : (kiosks : ℕ) → List ℕ → (terminal : ℕ) → Type 0
 IsKioskWord kiosks word terminal = (kiosk : ℕ) × (word ≡ decimal kiosk) × (kiosk < kiosks)
     × (terminal ≡ 16 + kiosk)
@@ -18,7 +18,7 @@ AreTerminalWords cars kiosks words terminal =
     ((word : List ℕ) × (words ≡ codes "KIOSK" ∷ word ∷ []) × IsKioskWord kiosks word terminal)
     ⊎ ((word : List ℕ) × (words ≡ codes "CAR" ∷ word ∷ []) × IsCarWord cars word terminal)
 
--- a line of at most 64 bytes that names a terminal of a building with this many cars and kiosks
+-- a line of at most 64 bytes that names a terminal of a building with so many cars and kiosks
 pub record SpeaksFor (cars kiosks : ℕ) (line : List ℕ) (terminal : ℕ) : Type 0 where
   pub short : length line ≤ 64
   pub words : List (List ℕ)

@@ -21,7 +21,7 @@ pub data KeptServing {D P : Type 0} (chooses : P → Choice) (state : D
     : ComesTo chooses state policy keeper last fault → List Entry → List Taken → List Entry
     → List Taken → Type 0 where
   -- At each moment of each turn all is kept that was safe and given before it. What the turns make
-  -- safe and answer is added at the end.
+  -- safe and answer is added behind.
   Served : {safe : List Entry} {given : List Taken}
       (served : IsServedKeeper chooses state policy keeper last fault)
       → (k : KeptRelay chooses state served.relayed.relayed.allocator'

@@ -6,7 +6,7 @@ use Rattle.lift_serve.specs.declared.serving.ServeFault.{ServeFault}
 use Rattle.lift_serve.specs.declared.serving.ServeFault.TheVariants.{Thread}
 
 -- the numbers of the open connections, the next number, how many have ended, whether all were given
--- up, and what was refused first
+-- up, and what was wanting first
 pub record OpenState : Type 0 where
   pub numbers : List ℕ
   pub next : ℕ
@@ -14,24 +14,24 @@ pub record OpenState : Type 0 where
   pub given_up : Option (Unit {0})
   pub lacked : Option ServeFault
 
--- at this socket, this many connections
+-- at this socket, so many connections
 pub record EndedState : Type 0 where
   pub listener : Listener
   pub sessions : ℕ
 
--- one more, up to this many
+-- one more, up to so many
 abbrev pub one_more : (most count : ℕ) → ℕ
 one_more most count = if nat_lt count most then suc count else count
 
--- this many have ended, or all were given up
+-- so many have ended, or all were given up
 abbrev pub AreOver : ℕ → OpenState → Type 0
 AreOver sessions state = (sessions ≤ state.ended) ⊎ IsSome state.given_up
 
--- they are this many, at this socket
+-- they are so many, at this socket
 abbrev pub AreEndedAt : Listener → ℕ → EndedState → Type 0
 AreEndedAt listener sessions ended = ended ≡ record { listener = listener; sessions = sessions }
 
--- The accepting is over: this many connections at this socket have ended, unless all were given up.
+-- The accepting is over: so many connections at this socket have ended, unless all were given up.
 abbrev pub IsEndAt : Listener → ℕ → Result EndedState (Unit {0}) → Type 0
 IsEndAt listener sessions over = IfOk over (AreEndedAt listener sessions)
 
@@ -46,7 +46,7 @@ first_told None behind = behind
 first_told (Some lack) behind = Some lack
 
 -- what is told of a serving whose accepting was over so: that no thread could be had for the serving
--- itself, and else what was refused first
+-- itself, and else what was wanting first
 abbrev pub told_behind : Result EndedState (Unit {0}) → (first : Option ServeFault) → Option ServeFault
 told_behind (Ok ended) first = first
 told_behind (Err given_up) first = Some Thread

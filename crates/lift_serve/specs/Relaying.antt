@@ -51,7 +51,7 @@ pub record HaveRunOn {D P : Type 0} (choice : Choice) (state : D
   pub same : IsSameAllocator a b
   pub of_one : AreOfOne b g
 
--- The clerk of both parts, after one turn more, by which its group's history goes on and all that
+-- The clerk of both parts, behind one turn more, by which its group's history goes on and all that
 -- was answered is kept.
 pub record IsLastTurn {D P : Type 0} (chooses : P → Choice) (state : D
     → DiskState) (a : AllocatorState P) (f : FlusherState D)
@@ -118,7 +118,7 @@ pub record IsRelayedKeeper {D P : Type 0} (chooses : P → Choice) (state : D
 
 -- The keeper was relayed to this at a desk with a seat for each terminal that its building may
 -- have, 16 cars and its kiosks. Where no thread could be made for the accepting or for the parts,
--- that is told, whatever else there was; and after the beginning the socket is no fault.
+-- that is told, whatever else there was; and behind the beginning the socket is no fault.
 pub record IsServedKeeper {D P : Type 0} (chooses : P → Choice) (state : D
     → DiskState) (policy : P) (keeper keeper' : KeeperView D)
     (fault : Option ServeFault) : Type 0 where
@@ -127,7 +127,7 @@ pub record IsServedKeeper {D P : Type 0} (chooses : P → Choice) (state : D
   pub tells : relayed.fault ≡ Some (Spawn tt) → fault ≡ Some Thread
   pub begun : fault ≢ Some Network
 
--- Nobody was served: the keeper is as it was, and that the socket failed or that memory ran out
+-- Nobody was served: the keeper is as it was, and that the socket failed or that memory was wanting
 -- is told.
 pub record IsUnserved {D : Type 0} (keeper keeper' : KeeperView D)
     (fault : Option ServeFault) : Type 0 where

@@ -40,7 +40,7 @@ pub record SessionVisit : Type 0 where
   pub before : Standing
   pub after : Standing
 
--- a port that is made again over the same seat
+-- a port that is made anew over the same seat
 abbrev pub unrested : PortView → PortView
 unrested port = record port { rests = 0 }
 

@@ -138,7 +138,7 @@ impl Model for Left {
     ghost view = { λ l. l.number };
 }
 
-/// That this many connections at this socket have ended. Only `Connections` makes one, which has
+/// That so many connections at this socket have ended. Only `Connections` makes one, which has
 /// counted them.
 #[derive(Drop)]
 pub struct Ended {
@@ -179,9 +179,9 @@ impl Reading {
     }
 }
 
-/// The connections that are open, how many have ended, and what was refused first. Contracts see
-/// the numbers of those that are open, the next number, how many have ended, whether all were given
-/// up, and what was refused. They can't be let go: what comes of the serving tells it.
+/// The connections that are open, how many have ended, and what was wanting first. Contracts see the
+/// numbers of those that are open, the next number, how many have ended, whether all were given up,
+/// and what was wanting. They can't be let go: what comes of the serving tells it.
 pub struct Connections {
     open: Vec<Open>,
     next: u64,
@@ -227,7 +227,7 @@ impl Connections {
         }
     }
 
-    /// Whether this many have ended at this socket, or all were given up.
+    /// Whether so many have ended at this socket, or all were given up.
     pub(crate) fn is_over(&self, listener: &Listening, sessions: u32) -> Option<Over>
         ensures over { IsSome result ↔ AreOver sessions self.now }
         ensures ended { IfSome result (IsEndAt listener.now sessions) }
@@ -241,7 +241,7 @@ impl Connections {
         }
     }
 
-    /// This many have ended.
+    /// So many have ended.
     fn all_ended(&self, listener: &Listening, sessions: u32) -> Ended
         requires { sessions ≤ self.now.ended }
         ensures { result ≡ record { listener = listener.now; sessions = sessions } }
@@ -261,8 +261,8 @@ impl Connections {
     }
 
     /// Somebody who came is let in: a connection is open from now on, by the number of its ticket.
-    /// Nobody is where this many have ended, or all were given up; and where memory runs out for
-    /// it, that is noted, and the connection has ended.
+    /// Nobody is where so many have ended, or all were given up; and where memory is wanting for it,
+    /// that is noted, and the connection has ended.
     pub(crate) fn enter(
         &mut self,
         alloc: Global,
@@ -336,7 +336,7 @@ impl Connections {
         self.remove(sessions, reading, number)
     }
 
-    /// The connection of this number has ended, for which this was refused.
+    /// The connection of this number has ended, for which this was wanting.
     pub(crate) fn leave_unattended(
         &mut self,
         sessions: u32,
@@ -412,7 +412,7 @@ impl Connections {
         self.shut(Shutdown::Both);
     }
 
-    /// What was refused.
+    /// What was wanting.
     pub(crate) fn into_lacks(self) -> Lacks
         ensures { result ≡ self.lacked }
     {

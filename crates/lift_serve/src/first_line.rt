@@ -9,7 +9,7 @@ use lift_base::Terminal;
 use lift_base::text::{letter_of_word, number_up_to};
 use lift_kiosk::{Line, without_return, words_in};
 
-/// The kiosk of a building with this many that a word names.
+/// The kiosk of a building with so many that a word names.
 fn kiosk_named(word: &str, kiosks: u8) -> Option<Terminal>
     requires { kiosks ≤ 47 }
     ensures some { IfSome result (λ terminal. IsKioskWord kiosks word.now terminal) }
@@ -22,7 +22,7 @@ fn kiosk_named(word: &str, kiosks: u8) -> Option<Terminal>
     Terminal::of_kiosk(index as u8)
 }
 
-/// The car of a building with this many that a word names.
+/// The car of a building with so many that a word names.
 fn car_named(word: &str, cars: u8) -> Option<Terminal>
     requires { cars ≤ 16 }
     ensures some { IfSome result (λ terminal. IsCarWord cars word.now terminal) }
@@ -58,8 +58,8 @@ fn named_by(words: &[&str], cars: u8, kiosks: u8) -> Option<Terminal>
     }
 }
 
-/// The terminal, of a building with this many cars and kiosks, that a first line names; none where
-/// it is malformed, or where the building lacks it.
+/// The terminal, of a building with so many cars and kiosks, that a first line names; none where it
+/// is malformed, or where the building lacks it.
 pub fn terminal_of(line: &Line, cars: u8, kiosks: u8) -> Option<Terminal>
     requires cars { cars ≤ 16 }
     requires kiosks { kiosks ≤ 47 }

@@ -1,4 +1,4 @@
-//! What a serving can't have: it is known only from the call that was refused it.
+//! What is wanting in a serving: it is known only from the call that was refused it.
 
 ghost use Rattle.std.specs.Prelude.{◌≡◌, ◌≢◌, ◌≤◌, ◌++◌, ◌∷◌, [], None, Some, OnOk, OnErr};
 ghost use Rattle.std.specs.Prelude.{IfOk, IfErr, IsSome, List, Result, length, ◌↔◌};
@@ -62,9 +62,9 @@ impl Refusal {
     }
 }
 
-/// That a thread or memory was refused. Only the calls below that were refused it make one, of
-/// which none asks for more than the serving has a use for. It can't be let go: it is noted, or it
-/// is told and nobody is served.
+/// That a thread or memory is wanting. Only the calls below that were refused it make one, of which
+/// none asks for more than the serving has a use for. It can't be let go: it is noted, or it is told
+/// and nobody is served.
 pub struct Lacking {
     refusal: Refusal,
     ghost begun: { refusal ≢ ServeFault.Network },
@@ -138,7 +138,7 @@ impl GivenUp {
     }
 }
 
-/// The first of what was refused to a serving, if anything was. Only `note` adds to it. It can't be
+/// The first of what was wanting to a serving, if anything was. Only `note` adds to it. It can't be
 /// let go: what comes of the serving ends it, which takes the keeper and tells it.
 pub struct Lacks {
     first: Option<Refusal>,
@@ -155,7 +155,7 @@ impl Model for Lacks {
 }
 
 impl Lacks {
-    /// Nothing was refused.
+    /// Nothing was wanting.
     pub(crate) fn new() -> Self
         ensures { result ≡ None }
     {
@@ -173,8 +173,8 @@ impl Lacks {
     }
 
     /// What came of a serving with this keeper, whose accepting was over so. Told is that all were
-    /// given up, and else the first that was refused. Where nothing was, all have ended that were
-    /// to end.
+    /// given up, and else the first that was wanting. Where nothing was, all have ended that were to
+    /// end.
     pub(crate) fn behind<'b, D: Disk + Drop, K: Drop, V: Witness + Drop>(
         self,
         over: Over,
@@ -265,8 +265,8 @@ pub(crate) fn push<T: Drop>(values: &mut Vec<T>, value: T) -> Result<(), Lacking
     }
 }
 
-/// What a thread for the accepting promises: that it returns once this many connections have ended
-/// at this socket, or all were given up.
+/// What a thread for the accepting promises: that it returns once so many connections have ended at
+/// this socket, or all were given up.
 #[derive(Drop)]
 pub(crate) struct EndAt {
     listener: Snapshot<Listening>,
@@ -345,7 +345,7 @@ pub(crate) fn closer_of(listening: &Listening) -> Result<ListeningCloser, Refusa
     }
 }
 
-/// A desk of this many terminals, with all its seats.
+/// A desk of so many terminals, with all its seats.
 pub(crate) fn open_desk(alloc: Global, terminals: usize) -> Result<DeskParts, Lacking>
     requires { (1 ≤ terminals) × (terminals ≤ 63) }
     ensures count { IfOk result (λ parts. length parts.desk ≡ terminals) }
@@ -362,7 +362,7 @@ pub(crate) fn open_desk(alloc: Global, terminals: usize) -> Result<DeskParts, La
     }
 }
 
-/// Both parts of a clerk, which comes back where memory ran out for them.
+/// Both parts of a clerk, which comes back where memory was wanting for them.
 pub(crate) fn part<'d, 'b, D: Disk, P: Policy + Drop, K: Drop>(
     alloc: Global,
     clerk: HeldClerk<'d, 'b, D, P, K>,

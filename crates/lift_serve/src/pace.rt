@@ -11,17 +11,17 @@ use std::sync::atomic::{AtomicBool, AtomicU64, Ordering};
 use std::thread::Parker;
 use std::time::Duration;
 
-/// This many ms after the flusher took a batch in hand the next one is decided, where it isn't done
+/// So many ms after the flusher took a batch in hand the next one is decided, where it isn't done
 /// with it before.
 const AHEAD_MS: u64 = 1;
 
-/// This many sessions the flusher wakes after a batch. Each wakes another after what it writes.
+/// So many sessions the flusher wakes behind a batch. Each wakes another behind what it writes.
 const FIRST_WOKEN: u64 = 2;
 
 /// The allocator doesn't wait for asks.
 const NOT_WAITING: u64 = u64::MAX;
 
-/// What is rung after each ask. It wakes the allocator once as many have asked as that waits for.
+/// What is rung behind each ask. It wakes the allocator once as many have asked as that waits for.
 #[derive(Drop)]
 pub struct AskBell {
     parker: Parker,
@@ -70,7 +70,7 @@ impl AskBell {
         self.asked.store(0, Ordering::SeqCst);
     }
 
-    /// From here on this many asks wake the allocator. Whether they are still to come.
+    /// From here on so many asks wake the allocator. Whether they are still to come.
     fn wants(&self, enough: u64) -> bool {
         self.enough.store(enough, Ordering::SeqCst);
         self.asked.load(Ordering::SeqCst) < enough
@@ -131,7 +131,7 @@ impl<'s> Bells<'s> {
         }
     }
 
-    /// To be rung after each ask.
+    /// To be rung behind each ask.
     pub fn asks(&self) -> &AskBell {
         &self.asks
     }
@@ -203,7 +203,7 @@ impl<'s> Pace<'s> {
         }
     }
 
-    /// Whether no more than this many batches are still to be flushed.
+    /// Whether no more than so many batches are still to be flushed.
     fn is_behind(&self, sent: u64, batches: u64) -> bool {
         sent <= self
             .bells

@@ -96,8 +96,8 @@ impl Pager {
         self.goes_on(ASKED, batch.saturating_add(IN_BATCH))
     }
 
-    /// This many batches are flushed: all that was in them is answered. A session that rests for
-    /// its answer wakes. Whether this woke it.
+    /// So many batches are flushed: all that was in them is answered. A session that rests for its
+    /// answer wakes. Whether this woke it.
     pub fn is_flushed(&self, batches: u64) -> bool {
         let stage = self.stage.load(Ordering::SeqCst);
         let is_answered = stage > IN_BATCH

@@ -45,7 +45,7 @@ pub(crate) fn unrun<'d, 'b, D: Disk + Drop, P: Policy + Drop, K: Drop, V: Witnes
     parts
 }
 
-/// Both parts run while the gate goes on, the flusher on this thread, and are given back after the
+/// Both parts run while the gate goes on, the flusher on this thread, and are given back behind the
 /// last batch.
 #[tactic(auto, using(crate::proofs::Relayings::come_on))]
 pub fn run_parts<'d, 'b, R, G, D, P, K, V>(
@@ -83,7 +83,7 @@ where
     }
 }
 
-/// The clerk of both parts, between which nothing is on its way, after one turn more: it finds
+/// The clerk of both parts, between which nothing is on its way, behind one turn more: it finds
 /// what was asked at last.
 pub fn turn_rejoined<'d, 'b, D: Disk, P: Policy + Drop, K: HeardBy<V> + Drop, V: Witness>(
     allocator: Allocator<'d, 'b, P>,

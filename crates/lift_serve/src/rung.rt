@@ -32,7 +32,7 @@ impl<'d> Model for Rung<'d> {
 }
 
 impl<'d> Rung<'d> {
-    /// Those of the sessions before, at a port that is made again.
+    /// Those of the sessions before, at a port that is made anew.
     pub(crate) fn of(port: &DeskPort<'d>) -> Self
         ensures { result ≡ record {
           begun = asks_at port.now;

@@ -58,7 +58,7 @@ pub struct Prepared<'b, D: Disk + Drop, P, K: Drop> {
 }
 
 impl<'b, D: Disk + Drop, P, K: Drop> Prepared<'b, D, P, K> {
-    /// The keeper's building is to be served with this policy at this socket, until this many
+    /// The keeper's building is to be served with this policy at this socket, until so many
     /// connections have ended.
     ///
     /// It stays a call: built into its caller, the copies of a keeper take the compiler ten minutes.
@@ -82,13 +82,13 @@ impl<'b, D: Disk + Drop, P, K: Drop> Prepared<'b, D, P, K> {
 /// What came of the serving.
 #[derive(Drop)]
 pub struct Served<'b, D: Disk + Drop, K: Drop, V: Witness + Drop> {
-    /// The keeper after the last turn, or as it was where none was made. It is broken where a call
+    /// The keeper behind the last turn, or as it was where none was made. It is broken where a call
     /// of the device failed.
     pub keeper: HeldKeeper<'b, D, K>,
     /// That no thread could be had for the serving itself, and else the first that was refused to
     /// the rest.
     pub fault: Option<Refusal>,
-    /// That this many connections have ended at the socket, unless all were given up.
+    /// That so many connections have ended at the socket, unless all were given up.
     pub ended: Option<Ended>,
     /// Who has heard where the device failed.
     pub witness: V,
@@ -97,8 +97,8 @@ pub struct Served<'b, D: Disk + Drop, K: Drop, V: Witness + Drop> {
 /// How long the accepting of connections rests where it failed, ms.
 const REST_MS: u64 = 10;
 
-/// A connection's thread, after which the connection is counted as ended: it was attended to, or
-/// what was refused for that is noted.
+/// A connection's thread, behind which the connection is counted as ended: it was attended to, or
+/// what was wanting for that is noted.
 fn attend_connection<R: Wait + Clock>(
     rt: &R,
     alloc: Global,
@@ -235,8 +235,8 @@ where
     )
 }
 
-/// The clerk's work is done in two parts while connections are accepted. It turns once more after
-/// them. Where memory ran out for the parts the clerk comes back as it was.
+/// The clerk's work is done in two parts while connections are accepted. It turns once more behind
+/// them. Where memory was wanting for the parts the clerk comes back as it was.
 #[tactic(auto, using(crate::proofs::Relayings::of_one, crate::proofs::Relayings::come_first, crate::proofs::Relayings::relayed_on, crate::proofs::Relayings::none_in_hand, crate::proofs::Relayings::all_received))]
 fn run<'d, 'b, R, D, P, K, V>(
     rt: &R,
@@ -411,10 +411,10 @@ where
     )
 }
 
-/// Serves the keeper's building on a listening socket until this many connections have ended, those
+/// Serves the keeper's building on a listening socket until so many connections have ended, those
 /// that were refused included: each has a thread of its own, beside the allocator's and the
 /// flusher's. A fault of the device ends nothing: what is asked from then on is answered Unknown.
-/// The keeper always comes back; where nobody could be served because memory ran out or the
+/// The keeper always comes back; where nobody could be served for want of memory, or since the
 /// socket failed, it is as it was.
 ///
 /// The keeper is held for whoever has a `K`. So nothing that waits here can call its device, or answer
@@ -441,8 +441,8 @@ where
     // else it is as it was.
     ensures heard { FailureHeard V.hears prepared.entry.keeper.writer.is_broken
         result.keeper.writer.is_broken witness result.witness }
-    // It tells that connections have ended only where this many have at this socket, and tells no
-    // fault only where it tells that.
+    // It tells that connections have ended only where so many have at this socket, and tells no fault
+    // only where it tells that.
     ensures ended { IfSome result.ended (AreEndedAt prepared.entry.listening prepared.entry.sessions) }
     ensures counted { result.fault ≡ None → IsSome result.ended }
 {

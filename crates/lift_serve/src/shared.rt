@@ -54,7 +54,7 @@ impl<'a, 'd> Shared<'a, 'd> {
         unreachable!()
     }
 
-    /// Nobody is let in where all connections have ended that were to end, or memory runs out for
+    /// Nobody is let in where all connections have ended that were to end, or memory is wanting for
     /// it: the connection has ended then.
     pub(crate) fn enter<R: Wait>(
         self,
@@ -84,7 +84,7 @@ impl<'a, 'd> Shared<'a, 'd> {
             .leave(self.sessions, self.reading, number, attended)
     }
 
-    /// The connection of this number has ended, for which this was refused.
+    /// The connection of this number has ended, for which this was wanting.
     pub(crate) fn leave_unattended<R: Wait>(self, rt: &R, number: u64, lacking: Lacking) -> Left
         ensures { result ≡ number }
     {

@@ -64,7 +64,7 @@ impl ListeningCloser {
     }
 }
 
-/// That a connection was accepted. It can't be let go: it is let in, or memory ran out for that,
+/// That a connection was accepted. It can't be let go: it is let in, or memory was wanting for that,
 /// or no more are.
 pub(crate) struct Arrival {
     stream: TcpStream,

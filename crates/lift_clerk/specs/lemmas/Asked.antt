@@ -28,7 +28,7 @@ use Rattle.lift_clerk.specs.Machine.{IsReached, LooksAgree}
 use Rattle.lift_clerk.specs.Laws.{Laws}
 use Rattle.lift_clerk.specs.lemmas.Standing.{fresh, Splits, fresh_answered, all_found}
 
--- a list of possible events, and one after it
+-- a list of possible events, and one behind it
 by_next : (xs ys : List Event) (v : World) (o : Option World)
     → ((u : World) → goes xs u ≡ Some v → goes (xs ++ ys) u ≡ goes ys v)
     → option_and_then (goes xs) o ≡ Some v → option_and_then (goes (xs ++ ys)) o ≡ goes ys v

@@ -51,7 +51,7 @@ none_stored view None replies e = refl
 none_stored view (Some ask) [] e = refl
 none_stored view (Some ask) (r ∷ replies) e = absurd (cc)
 
--- a look after those that were made
+-- a look behind those that were made
 pub looked-more : (places : List ClerkPlace) (visits : List Visit) (replies : List Reply) (n : ℕ)
     (v : Visit) → replies ≡ [] → n ≡ length visits → n < length places
     → clerk_with (served places visits replies) n
@@ -68,7 +68,7 @@ looked-more (p ∷ places) (u ∷ visits) replies (suc n) v none e h =
     (looked-more places visits (replies_behind u.found replies) n v
     (none_behind u.found replies none) (omega arith) (omega arith))
 
--- the places after these looks are as they were
+-- the places behind these looks are as they were
 pub untouched : (places : List ClerkPlace) (visits : List Visit) (replies : List Reply) (n : ℕ)
     (d : ClerkPlace) → length visits ≤ n
     → get_or (served places visits replies) n d ≡ get_or places n d
@@ -148,7 +148,7 @@ answered-first first p places word ask visits reply terminal finds at =
           is ∙ ap (λ m. with_answer view (reply_word (length view.taken) m reply)) number);
     }
 
--- the next one is after this place
+-- the next one is behind this place
 answered-behind : (first : ℕ) (p : ClerkPlace) (places : List ClerkPlace) (u : Visit)
     (visits : List Visit) (replies rest : List Reply) (reply : Reply) (terminal : ℕ)
     → replies_behind u.found replies ≡ rest
