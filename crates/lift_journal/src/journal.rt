@@ -178,10 +178,13 @@ impl<D: Disk> Journal<D> {
         ensures becomes { self.old.is_broken ≡ false → (D.state self.old.device).is_honest
             → Becomes D.state self.old self.old.is_second
             (λ batches. batches ++ new_batch batch.now.items ∷ []) self.new result }
+        // At Ok the next batch goes after this one, else where this one would have gone.
         ensures goes { GoesTo self.old self.old.is_second
             (self.old.used + bodies (length batch.now.items) + 1) (self.old.number + 1) self.new
             result }
+        // A call of the device that fails breaks it; a broken journal rests.
         ensures breaks { BreaksByFault D.state self.old self.new result }
+        // Full just where there is no room, and then nothing is changed.
         ensures refuses { RefusesForRoom self.old (length batch.now.items) self.new result }
         // The body and the next gate, a sync, the gate, a sync.
         ensures calls { CallsDevice result
