@@ -89,7 +89,7 @@ pub fn crash_shows_letters<D: Disk, P: Policy + Drop>(clerk: &Clerk<'_, '_, D, P
     let _safe = clerk.keeper().safe_register();
 }
 
-/// One turn. Whatever has happened before it, its batch is safe behind the rest where it answers
+/// One turn. Whatever has happened before it, its batch is safe after the rest where it answers
 /// Ok, and just its commands were answered. Each image that a crash at any moment of the call may
 /// leave keeps what was given until then: it is of what was safe, or of that with the turn's batch.
 /// From its end on each keeps what the turn answers too.

@@ -112,7 +112,7 @@ impl<'b> Decider<'b> {
         &self.group.batch
     }
 
-    /// The batch begins anew. The register and the positions stay.
+    /// The batch begins again. The register and the positions stay.
     pub fn clear_batch(&mut self)
         ensures { self.new ≡ record {
           plan = self.old.plan;

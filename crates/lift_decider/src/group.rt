@@ -102,7 +102,7 @@ impl Group {
         self.batch.take()
     }
 
-    /// The batch begins anew.
+    /// The batch begins again.
     pub fn clear_batch(&mut self)
         ensures { self.new ≡ record self.old { batch = [] } }
     {

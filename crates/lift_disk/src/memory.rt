@@ -42,7 +42,7 @@ pub struct MemDisk {
 impl MemDisk {
     ghost use Rattle.lift_disk.specs.Outcomes.{state_of, SpoilsAt, IsLeftBy, IsCut};
 
-    /// So many sectors of zeros, all of them on the disk. Refused only for want of memory.
+    /// This many sectors of zeros, all of them on the disk. Refused only where memory runs out.
     pub fn new(alloc: Global, sectors: u32) -> Result<MemDisk, Memory>
         ensures zeros { IfOk result (λ disk.
             (state_of disk).image ≡ replicate sectors (replicate 512 0)) }
@@ -87,7 +87,7 @@ impl MemDisk {
         }
     }
 
-    /// The image becomes what a cut leaves, and time begins anew.
+    /// The image becomes what a cut leaves, and time begins again.
     fn lose(&mut self, outcome: Outcome)
         ensures image { IsLeftBy outcome (state_of self.old) (state_of self.new).image }
         ensures cut { IsCut (state_of self.old) (state_of self.new) }

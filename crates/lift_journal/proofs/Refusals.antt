@@ -21,7 +21,7 @@ use Rattle.lift_journal.specs.lemmas.Orders.{fall_front, order_front}
 use Rattle.lift_journal.specs.lemmas.Unique.{body_unique, stamp_unique}
 use Rattle.lift_journal.proofs.Walks.{from_here}
 
--- what a chain holds behind its front
+-- what a chain holds after its front
 record Behind (batches others : List Batch) (number : ℕ) (sectors : Image) : Type 0 where
   pub rest : List Batch
   pub joined : others ≡ batches ++ rest

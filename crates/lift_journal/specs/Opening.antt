@@ -13,7 +13,7 @@ use Rattle.lift_journal.specs.Steps.{SavesAsRead}
 use Rattle.lift_journal.specs.Told.{NoneFails, FailsBy}
 use Rattle.lift_journal.specs.Journal.{StandsFor}
 
--- It has opened: this is the shape, and so many sectors of the picked half are used.
+-- It has opened: this is the shape, and this many sectors of the picked half are used.
 pub record Opens (old new : DiskState) (shape : Shape) (taken : ℕ) : Type 0 where
   -- a crash at any moment leaves what one before it might have left
   pub moments : LeavesOnly old new (MayLeave old)

@@ -125,7 +125,7 @@ module _ {D : Type 0} (plan : Plan) (journal : JournalView D) (register : Regist
     reopened_one new found half is_second taken opens honest =
         ⊎_elim (λ is. inl (sym (opens.only honest register is))) (λ is. inr (sym (opens.only honest (register_of register doubt) is))) (doubt_of honest new.image (opens.seen honest))
 
-    -- a device that was told anew which calls to fail
+    -- a device that was told again which calls to fail
     pub armed_writer : (after : JournalView D) (new : DiskState) → after.shape ≡ journal.shape → after.is_second ≡ journal.is_second → after.used ≡ journal.used → after.is_broken ≡ journal.is_broken → IsUnchanged disk new
         → IsWriter plan after register doubt opened is_broken new
     armed_writer after new shape second taken broken same = record {

@@ -14,8 +14,8 @@ use Rattle.lift_keeper.specs.Images.{IsImageOf, IsImageIn}
 use Rattle.lift_keeper.specs.Recovery.{IsFirstMisfit}
 use Rattle.lift_keeper.specs.Writer.{WriterView}
 
--- It has opened: this is the register, in a half of so many sectors; this half is picked, and so
--- many of its sectors are used.
+-- It has opened: this is the register, in a half of this many sectors; this half is picked, and
+-- this many of its sectors are used.
 pub record Reopens (plan : Plan) (old new : DiskState) (register : RegisterState) (half : ℕ)
     (is_second : Bool) (taken : ℕ) : Type 0 where
   -- a crash at any moment leaves what one before it might have left

@@ -167,8 +167,10 @@ impl<'b, D: Disk> Keeper<'b, D> {
 
     /// Makes the batch safe, and begins another.
     pub fn commit(&mut self) -> Result<(), KeeperFault>
+        // What a crash may leave at each moment of it, why it fails, and what stays.
         ensures commits { Commits
             D.state self.old.writer self.old.state.batch self.new.writer result }
+        // How many calls the device gets, and what a commit that it stopped leaves.
         ensures calls { CommitCalls
             D.state self.old.writer (length self.old.state.batch) self.new.writer result }
         // What is safe at Ok is what it shows.
@@ -240,7 +242,7 @@ impl<'b, D: Disk> Keeper<'b, D> {
 impl<'b, D: Arm> Keeper<'b, D> {
     ghost use Rattle.lift_disk.specs.Disk.{IsUnchanged, IsTold};
 
-    /// Tells the device anew which calls to fail. It changes no image.
+    /// Tells the device again which calls to fail. It changes no image.
     pub fn arm(&mut self, calls: u32)
         ensures same { IsUnchanged (D.state self.old.writer.device)
             (D.state self.new.writer.device) }

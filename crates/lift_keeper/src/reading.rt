@@ -18,7 +18,7 @@ const MOST_RECORDS: u32 = 4_000_000_000;
 #[derive(Drop)]
 pub struct Reading<'b> {
     recovery: Recovery<'b>,
-    /// A record didn't fit: none behind it is taken.
+    /// A record didn't fit: none after it is taken.
     is_over: bool,
 }
 

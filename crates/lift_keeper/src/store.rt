@@ -23,7 +23,7 @@ use lift_disk::Disk;
 use lift_journal::{Journal, JournalFault};
 use lift_register::Register;
 
-/// Makes room for a batch of so many records, by a checkpoint of the register where the journal
+/// Makes room for a batch of this many records, by a checkpoint of the register where the journal
 /// lacks it.
 fn make_room<D: Disk>(
     journal: &mut Journal<D>,
@@ -68,7 +68,7 @@ fn make_room<D: Disk>(
     journal.replace(register)
 }
 
-/// Makes a batch safe behind what the journal holds. A crash at any moment leaves the register from
+/// Makes a batch safe after what the journal holds. A crash at any moment leaves the register from
 /// before, or the one with the batch.
 pub fn store<D: Disk>(
     journal: &mut Journal<D>,

@@ -14,7 +14,7 @@ use std::marker::Model;
 use std::snapshot::Snapshot;
 
 /// What one scan took and decided. Contracts also see in which building it was decided, what
-/// decisions read before it and behind it, at which desk it was taken, and the turn of the last ask
+/// decisions read before it and after it, at which desk it was taken, and the turn of the last ask
 /// that was taken before, of each terminal.
 #[derive(Drop)]
 pub struct Batch {

@@ -42,7 +42,7 @@ pub enum RunFault {
     Spawn(NoThread),
 }
 
-/// Tells the gate what a turn of the allocator did, before which so many batches had been sent.
+/// Tells the gate what a turn of the allocator did, before which this many batches had been sent.
 fn tell_of_allocator<R: Wait, G: Gate, P: Policy + Drop>(
     rt: &R,
     allocator: &Allocator<'_, '_, P>,
@@ -81,7 +81,7 @@ fn allocate<'d, 'b, R: Wait, G: Gate, P: Policy + Drop>(
     unreachable!()
 }
 
-/// Tells the gate what a turn of the flusher did, before which so many batches had been received.
+/// Tells the gate what a turn of the flusher did, before which this many batches had been received.
 fn tell_of_flusher<R: Wait, G: Gate, D: Disk, K>(
     rt: &R,
     flusher: &Flusher<'_, '_, D, K>,
@@ -320,7 +320,7 @@ where
 }
 
 /// Runs both parts of one `split` while the gate goes on: the allocator's turns on a thread of its
-/// own, the flusher's on this one. Each tells the gate behind its turns how far it is, and waits
+/// own, the flusher's on this one. Each tells the gate after its turns how far it is, and waits
 /// there. Once both have stopped, what is in hand is sent, and all that was sent is received and
 /// made safe.
 ///

@@ -15,7 +15,7 @@ use lift_replay::{ScriptLine, Terminals, Verdict, parse};
 use std::alloc::Global;
 use std::sync::Wait;
 
-/// What comes behind a line.
+/// What comes after a line.
 #[derive(Drop)]
 pub(crate) enum Next<'d, 'b> {
     /// Further lines, of this group.

@@ -4,7 +4,7 @@ use Rattle.std.specs.Prelude.{List, [], ◌++◌, length}
 use Rattle.std.specs.Io.KnownBytes.{Consumes, IsAtEnd}
 use Rattle.lift_base.specs.Input.{InputState}
 
--- a script has so many bytes at most
+-- a script has this many bytes at most
 abbrev pub most_bytes : ℕ
 most_bytes = 1048576
 
@@ -15,7 +15,7 @@ IsInputRead remaining old new = ((new.ended ≡ true) × IsAtEnd (remaining new.
     ⊎ ((bytes : List ℕ) × (length bytes ≡ most_bytes + 1)
     × Consumes (remaining old.reader) (remaining new.reader) bytes)
 
--- no more than so many bytes were taken from the reader
+-- no more than this many bytes were taken from the reader
 abbrev pub TakesUpTo : {R : Type 0} → ℕ → (R → Option (List ℕ)) → (old new : R) → Type 0
 TakesUpTo most remaining old new = (bytes : List ℕ) × (length bytes ≤ most)
     × Consumes (remaining old) (remaining new) bytes
@@ -26,7 +26,7 @@ abbrev pub ReaderGives : {R : Type 0} → (R → Option (List ℕ)) → List ℕ
 ReaderGives remaining bytes old new = (new.calls ≡ old.calls + 1)
     × Consumes (remaining old.reader) (remaining new.reader) bytes
 
--- So many calls of the reader gave these bytes, one behind the other, and each gave one at least.
+-- This many calls of the reader gave these bytes, one after the other, and each gave one at least.
 abbrev pub GiveEach : {R : Type 0} → (R → Option (List ℕ)) → (calls : ℕ) → List ℕ
     → (old new : InputState R) → Type 0
 GiveEach remaining zero bytes old new = (bytes ≡ []) × (new ≡ old)
@@ -39,7 +39,7 @@ GiveEach {R} remaining (suc calls) bytes old new =
 abbrev pub IsOfUse : {R : Type 0} → List ℕ → InputState R → Type 0
 IsOfUse bytes new = (0 < length bytes) ⊎ ((new.ended ≡ true) ⊎ (new.failed ≡ true))
 
--- One call more, behind these bytes: it gave some, up to one byte more than there may be, or found
+-- One call more, after these bytes: it gave some, up to one byte more than there may be, or found
 -- the end, or failed.
 abbrev pub IsLastCall : {R : Type 0} → ℕ → (R → Option (List ℕ)) → List ℕ → (old new : InputState R)
     → Type 0
@@ -47,7 +47,7 @@ IsLastCall most remaining bytes old new = (more : List ℕ) × ReaderGives remai
     × IsOfUse more new × (length bytes + length more ≤ most + 1)
 
 -- Each call of the reader but the last gave a byte at least, and all of these no more than there
--- may be. So none was made behind the end, behind a failed one, or once a byte too many had come.
+-- may be. So none was made after the end, after a failed one, or once a byte too many had come.
 abbrev pub TakesByEach : {R : Type 0} → ℕ → (R → Option (List ℕ)) → (old new : InputState R)
     → Type 0
 TakesByEach {R} most remaining old new =

@@ -19,7 +19,7 @@ pub enum InputFault {
     Memory(NoMemory),
 }
 
-/// A call of the reader is for so many bytes at most.
+/// A call of the reader is for this many bytes at most.
 const CHUNK: usize = 16_384;
 
 /// One call of the reader, which adds what it gives to the bytes, as long as these are no more than
@@ -63,7 +63,7 @@ fn read_some<R: Read + Drop>(
 }
 
 /// All bytes of a reader that was not called yet. Reading stops once more than `most` have come;
-/// that the end was not found in so many calls is a fault.
+/// that the end was not found in this many calls is a fault.
 pub fn read_all<R: Read + Drop>(
     alloc: Global,
     input: &mut Counted<R>,

@@ -40,7 +40,7 @@ pub enum ScriptLine {
     },
     /// The open calls.
     Rows,
-    /// After so many device calls, at most 1,000,000, every call fails.
+    /// After this many device calls, at most 1,000,000, every call fails.
     Fuse {
         calls: u32,
     },

@@ -156,7 +156,7 @@ fn cut_of(words: &[&str]) -> Option<ScriptLine>
     Some(ScriptLine::Cut { outcome })
 }
 
-/// A line that no words may stand behind.
+/// A line that no words may stand after.
 fn alone(words: &[&str], line: ScriptLine) -> Option<ScriptLine>
     ensures some { IfSome result (λ wanted. (wanted ≡ line) × (words.now ≡ [])) }
     ensures none { IfNone result (words.now ≢ []) }

@@ -79,7 +79,7 @@ pub(crate) fn empty_piece(alloc: Global) -> Result<String, NoMemory>
     }
 }
 
-/// A device in memory of so many sectors of zeros.
+/// A device in memory of this many sectors of zeros.
 pub(crate) fn empty_disk(alloc: Global, sectors: u32) -> Result<MemDisk, NoMemory>
     requires { sectors ≤ 130 }
     ensures zeros { IfOk result (λ disk.
@@ -101,7 +101,7 @@ pub(crate) fn empty_disk(alloc: Global, sectors: u32) -> Result<MemDisk, NoMemor
     }
 }
 
-/// A desk of so many terminals, with all its seats.
+/// A desk of this many terminals, with all its seats.
 pub(crate) fn new_desk(alloc: Global, terminals: usize) -> Result<DeskParts, NoMemory>
     requires { (1 ≤ terminals) × (terminals ≤ 63) }
     ensures count { IfOk result (λ parts. (length parts.desk ≡ terminals)

@@ -65,7 +65,7 @@ impl From<WriteFault> for ReplayFault {
     }
 }
 
-/// A script has so many bytes at most.
+/// A script has this many bytes at most.
 pub const MOST_BYTES: usize = 1_048_576;
 
 /// The reader is called so often at most.

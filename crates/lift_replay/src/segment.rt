@@ -29,7 +29,7 @@ use std::alloc::Global;
 pub enum SegmentEnd<'b> {
     /// With the run.
     Run(Verdict),
-    /// By a power cut, behind which this keeper goes on.
+    /// By a power cut, after which this keeper goes on.
     Cut(Keeper<'b, FuseDisk>),
 }
 

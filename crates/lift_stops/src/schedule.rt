@@ -74,7 +74,8 @@ fn position_at(stop: &Stop) -> Position
 }
 
 /// Whether a car that goes from one position to another makes each of its calls in the pass in which
-/// it made it before, since it goes on in its direction and leaves no halt of its first pass behind.
+/// it made it before, because it goes on in its direction and leaves no halt of its first pass
+/// after.
 fn keeps_passes(halts: &[Halt], position: &Position, next: &Position) -> bool
     ensures { (rows : List RowValue) → halts.now ≡ stop_list rows position.now
         → All HasFloors rows → IsTrue result → KeepsPasses rows position.now next.now }

@@ -106,7 +106,7 @@ pub struct Split<'h> {
     pub before: &'h [Halt],
     /// Whether the halt is in the list.
     pub is_there: bool,
-    /// The halts behind it.
+    /// The halts after it.
     pub behind: &'h [Halt],
 }
 

@@ -164,7 +164,7 @@ impl<'b> World<'b> {
     ghost use Rattle.lift_world.specs.Replays.{Moves, MovesTo, Steps};
     ghost use Rattle.lift_world.specs.declared.event.Event.{Event};
 
-    /// A fresh group over an empty journal, with so many sectors in each of its halves. A
+    /// A fresh group over an empty journal, with this many sectors in each of its halves. A
     /// checkpoint makes room wherever a half has none, so no event depends on that number. It takes
     /// no memory yet, so it never answers `Memory`.
     pub fn new(alloc: Global, building: &'b Building, half: u32) -> Result<World<'b>, Memory>
@@ -224,7 +224,7 @@ impl<'b> World<'b> {
         self.power
     }
 
-    /// How many sealed batches wait behind the one in flight.
+    /// How many sealed batches wait after the one in flight.
     pub fn queued(&self) -> usize
         ensures { result ≡ length self.now.queue }
     {
@@ -605,9 +605,9 @@ impl<'b> World<'b> {
         Ok(true)
     }
 
-    /// One event. False where it isn't possible, and then, as for want of memory, nothing changed.
-    /// Memory is wanted neither by the device's calls before the second sync nor by a cut, and by
-    /// others only where they are possible.
+    /// One event. False where it isn't possible, and then, as where memory runs out, nothing
+    /// changed. Memory is needed neither by the device's calls before the second sync nor by a cut,
+    /// and by others only where they are possible.
     pub fn step(&mut self, event: &Event) -> Result<bool, Memory>
         ensures { Steps self.old event.now result self.new }
     {
