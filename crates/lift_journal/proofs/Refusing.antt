@@ -8,7 +8,7 @@ use Rattle.lift_journal.specs.Fronts.{IsOfChain, IsOfStamp}
 use Rattle.lift_journal.specs.Layout.{IsStamped, start_of}
 use Rattle.lift_journal.specs.Steps.{HasItsCause, ReadsOnly, ReadsWell, IsSyncedAt}
 use Rattle.lift_journal.specs.Walk.{IsDamagedAt}
-use Rattle.lift_journal.specs.Opening.{RefusedFor, IsSettled}
+use Rattle.lift_journal.specs.Opening.{RefusedFor, FixesImage}
 
 module _ (fault : JournalFault) (old mid new : DiskState) (only : ReadsOnly old mid) (failures : mid.failures ≡ old.failures) (synced : old.is_honest → IsSynced mid) (cause : HasItsCause fault mid new) where
   -- what is read at the end
@@ -53,7 +53,7 @@ module _ (fault : JournalFault) (old mid new : DiskState) (only : ReadsOnly old 
       by_fault Broken same cause is = absurd is
 
 -- behind a sync that succeeded, reads leave nothing in doubt, also where one fails
-pub settled_behind : (old mid new : DiskState) → ReadsOnly old mid → ReadsOnly mid new → (old.is_honest → IsSynced mid) → ReadsOnly old new → old.is_honest → IsSettled old new
+pub settled_behind : (old mid new : DiskState) → ReadsOnly old mid → ReadsOnly mid new → (old.is_honest → IsSynced mid) → ReadsOnly old new → old.is_honest → FixesImage old new
 settled_behind old mid new first second synced only honest =
     let honest_mid = first.runs.honest.1 honest in
     record {

@@ -55,7 +55,7 @@ RefusedFor Broken old new = ⊥
 
 -- Nothing is in doubt any more: from now on every crash leaves what is read, and that is what one
 -- before might have left.
-pub record IsSettled (old new : DiskState) : Type 0 where
+pub record FixesImage (old new : DiskState) : Type 0 where
   pub none_loose : (i : ℕ) → ¬ new.is_loose i
   pub seen : MayLeave old new.image
 
@@ -68,7 +68,7 @@ pub record Refuses (old new : DiskState) (fault : JournalFault) : Type 0 where
   pub saved : SavesAsRead old new
   pub cause : RefusedFor fault old new
   -- its sync failed, so that no call succeeded; or no crash gives another image any more
-  pub settled : (new.trace ≡ old.trace) ⊎ (old.is_honest → IsSettled old new)
+  pub settled : (new.trace ≡ old.trace) ⊎ (old.is_honest → FixesImage old new)
   pub told : FailsBy fault old new
   -- an image that holds batches is refused for a failed call alone
   pub good : old.is_honest → (shape : Shape) (batches : List Batch) → Holds shape batches new.image

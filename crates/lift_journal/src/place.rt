@@ -8,7 +8,7 @@ ghost use Rattle.lift_journal.specs.Layout.{Batch, Holds, IsStamped, start_of};
 ghost use Rattle.lift_journal.specs.Journal.{HasNextPlace, StandsAt};
 ghost use Rattle.lift_journal.specs.Steps.{Examines, ReadsOnly, HasItsCause};
 ghost use Rattle.lift_journal.specs.Walk.{IsDamagedAt};
-ghost use Rattle.lift_journal.specs.Opening.{RefusedFor, IsSettled};
+ghost use Rattle.lift_journal.specs.Opening.{RefusedFor, FixesImage};
 ghost use Rattle.lift_journal.specs.Fronts.{IsOfChain, IsOfStamp};
 ghost use Rattle.lift_journal.specs.Told.{NoneFails};
 ghost use Rattle.lift_journal.specs.Visits.{TakesAll, HasTaken, TakesBefore, ShownBefore};
@@ -132,7 +132,7 @@ pub fn find_place<D: Disk, V: Visitor>(disk: &mut D, visitor: &mut V) -> Result<
     ensures refused { IfErr result (λ fault.
         RefusedFor fault (D.state disk.old) (D.state disk.new)) }
     ensures fixed { OnErr result (((D.state disk.new).trace ≡ (D.state disk.old).trace)
-        ⊎ ((D.state disk.old).is_honest → IsSettled (D.state disk.old) (D.state disk.new))) }
+        ⊎ ((D.state disk.old).is_honest → FixesImage (D.state disk.old) (D.state disk.new))) }
     ensures cause { IfErr result (λ fault.
         HasItsCause fault (D.state disk.old) (D.state disk.new)) }
     ensures read { IfOk result (λ place.

@@ -4,7 +4,7 @@ use Rattle.lift_journal.specs.declared.fault.JournalFault.{JournalFault}
 use Rattle.lift_journal.specs.Fronts.{IsOfChain}
 use Rattle.lift_journal.specs.Layout.{Holds, IsStamped}
 use Rattle.lift_journal.specs.Steps.{ReadsOnly, ReadsWell, HasItsCause}
-use Rattle.lift_journal.specs.Opening.{RefusedFor, IsSettled}
+use Rattle.lift_journal.specs.Opening.{RefusedFor, FixesImage}
 use Rattle.lift_journal.specs.lemmas.Looking.{reads_then, well_then, ok_weaker, err_any, cause_then, if_err_weaker, if_err_both, open_ok, open_err}
 use Rattle.lift_journal.proofs.Refusing.{refused_stamp, refused_chain, settled_behind}
 use Rattle.lift_journal.specs.Told.{NoneFails}
@@ -208,5 +208,5 @@ returns-clause-fixed g c =
     let first = c.settle.ensures.looks.only in
     let second = reads_then mid read new c.read_shape.ensures.examines.only c.place_of.ensures.examines.only in
     let safe : old.is_honest → IsSynced mid = open_ok c.settle.result (old.is_honest → IsSynced mid) (sym c.is_err.ensures.value ∙ c.if-is_err.false) c.settle.ensures.synced in
-    err_any c.place_of.result ((new.trace ≡ old.trace) ⊎ (old.is_honest → IsSettled old new))
+    err_any c.place_of.result ((new.trace ≡ old.trace) ⊎ (old.is_honest → FixesImage old new))
     (inr (settled_behind old mid new first second safe (reads_then old mid new first second)))
