@@ -1,6 +1,6 @@
 //! Where a formatted device goes on. This reads and writes nothing.
 ghost use Rattle.std.specs.Prelude.{ℕ, ◌≡◌, ◌⊎◌, ◌≤◌, ◌<◌, ◌+◌, ◌-◌, ◌*◌, ◌++◌, [], ◌∷◌, IsErrOf};
-ghost use Rattle.std.specs.Prelude.{IfOk, IfErr, OnOk, List};
+ghost use Rattle.std.specs.Prelude.{IfOk, IfErr, OnOk, OnErr, List};
 ghost use Rattle.lift_base.specs.declared.history.Shape.{Shape as ShapeValue};
 ghost use Rattle.lift_base.specs.History.{IsWithinLimits};
 ghost use Rattle.lift_disk.specs.Disk.{IsSynced, Image, MayLeave};
@@ -8,7 +8,7 @@ ghost use Rattle.lift_journal.specs.Layout.{Batch, Holds, IsStamped, start_of};
 ghost use Rattle.lift_journal.specs.Journal.{HasNextPlace, StandsAt};
 ghost use Rattle.lift_journal.specs.Steps.{Examines, ReadsOnly, HasItsCause};
 ghost use Rattle.lift_journal.specs.Walk.{IsDamagedAt};
-ghost use Rattle.lift_journal.specs.Opening.{RefusedFor};
+ghost use Rattle.lift_journal.specs.Opening.{RefusedFor, FixesImage};
 ghost use Rattle.lift_journal.specs.Fronts.{IsOfChain, IsOfStamp};
 ghost use Rattle.lift_journal.specs.Told.{NoneFails};
 ghost use Rattle.lift_journal.specs.Visits.{TakesAll, HasTaken, TakesBefore, ShownBefore};
@@ -131,6 +131,8 @@ pub fn find_place<D: Disk, V: Visitor>(disk: &mut D, visitor: &mut V) -> Result<
         → StandsAt place.shape place.start place.gate place.number (D.state disk.new)) }
     ensures refused { IfErr result (λ fault.
         RefusedFor fault (D.state disk.old) (D.state disk.new)) }
+    ensures fixed { OnErr result (((D.state disk.new).trace ≡ (D.state disk.old).trace)
+        ⊎ ((D.state disk.old).is_honest → FixesImage (D.state disk.old) (D.state disk.new))) }
     ensures cause { IfErr result (λ fault.
         HasItsCause fault (D.state disk.old) (D.state disk.new)) }
     ensures read { IfOk result (λ place.

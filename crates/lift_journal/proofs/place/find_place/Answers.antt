@@ -4,11 +4,11 @@ use Rattle.lift_journal.specs.declared.fault.JournalFault.{JournalFault}
 use Rattle.lift_journal.specs.Fronts.{IsOfChain}
 use Rattle.lift_journal.specs.Layout.{Holds, IsStamped}
 use Rattle.lift_journal.specs.Steps.{ReadsOnly, ReadsWell, HasItsCause}
-use Rattle.lift_journal.specs.Opening.{RefusedFor}
-use Rattle.lift_journal.specs.lemmas.Looking.{reads_then, well_then, ok_weaker, cause_then, if_err_weaker, if_err_both, open_ok, open_err}
-use Rattle.lift_journal.proofs.Refusing.{refused_stamp, refused_chain}
+use Rattle.lift_journal.specs.Opening.{RefusedFor, FixesImage}
+use Rattle.lift_journal.specs.lemmas.Looking.{reads_then, well_then, ok_weaker, err_any, cause_then, if_err_weaker, if_err_both, open_ok, open_err}
+use Rattle.lift_journal.proofs.Refusing.{refused_stamp, refused_chain, settled_behind}
 use Rattle.lift_journal.specs.Told.{NoneFails}
-use Rattle.std.proofs.Common.{[], ◌∷◌, inl, arith}
+use Rattle.std.proofs.Common.{[], ◌∷◌, inl, inr, ◌⊎◌, arith}
 use Rattle.lift_disk.specs.Trace.Access.{Read, Sync}
 use Rattle.lift_journal.specs.Behind.{RefusedBehind}
 use Rattle.lift_journal.proofs.Following.{all_then, if_ok_weaker}
@@ -182,3 +182,31 @@ returns-clause-shown_before g c =
     let kept = c.in-Ok.ensures.examines.ok.kept honest_mid (safe honest) in
     (second.runs.honest.1 honest_mid, kept.synced, subst (λ (l : Image). IsStamped c.in-Ok.shape l) (sym kept.same) (c.in-Ok.ensures.stamped.2 honest_mid (safe honest))))) both.1)
     (if_err_both c.place_of.result IsOfChain _ c.place_of.ensures.causes c.place_of.ensures.shown_before)
+
+pub returns-then-is_err-clause-fixed : goal.returns-then-is_err-clause-fixed
+returns-then-is_err-clause-fixed g c =
+    let old = g.D.Disk.state c.args.disk.now in
+    let new = g.D.Disk.state c.settle.new.disk in
+    inl (open_err c.settle.result (new.trace ≡ old.trace) (sym c.is_err.ensures.value ∙ c.if-is_err.true) c.settle.ensures.recorded.err)
+
+pub returns-in-Err-clause-fixed : goal.returns-in-Err-clause-fixed
+returns-in-Err-clause-fixed g c =
+    let old = g.D.Disk.state c.args.disk.now in
+    let mid = g.D.Disk.state c.settle.new.disk in
+    let new = g.D.Disk.state c.read_shape.new.disk in
+    let first = c.settle.ensures.looks.only in
+    let second = c.read_shape.ensures.examines.only in
+    let safe : old.is_honest → IsSynced mid = open_ok c.settle.result (old.is_honest → IsSynced mid) (sym c.is_err.ensures.value ∙ c.if-is_err.false) c.settle.ensures.synced in
+    inr (settled_behind old mid new first second safe (reads_then old mid new first second))
+
+pub returns-clause-fixed : goal.returns-clause-fixed
+returns-clause-fixed g c =
+    let old = g.D.Disk.state c.args.disk.now in
+    let mid = g.D.Disk.state c.settle.new.disk in
+    let read = g.D.Disk.state c.read_shape.new.disk in
+    let new = g.D.Disk.state c.place_of.new.disk in
+    let first = c.settle.ensures.looks.only in
+    let second = reads_then mid read new c.read_shape.ensures.examines.only c.place_of.ensures.examines.only in
+    let safe : old.is_honest → IsSynced mid = open_ok c.settle.result (old.is_honest → IsSynced mid) (sym c.is_err.ensures.value ∙ c.if-is_err.false) c.settle.ensures.synced in
+    err_any c.place_of.result ((new.trace ≡ old.trace) ⊎ (old.is_honest → FixesImage old new))
+    (inr (settled_behind old mid new first second safe (reads_then old mid new first second)))

@@ -24,4 +24,4 @@ pub returns-in-Err-clause-refused : goal.returns-in-Err-clause-refused
 returns-in-Err-clause-refused g c =
     let old = g.D.Disk.state c.args.disk in
     let new = g.D.Disk.state c.find_place.new.disk in
-    refused_at c.in-Err.fault old new c.find_place.ensures.only c.in-Err.ensures.refused c.in-Err.ensures.cause c.in-Err.ensures.behind
+    refused_at c.in-Err.fault old new c.find_place.ensures.only c.in-Err.ensures.refused c.in-Err.ensures.fixed c.in-Err.ensures.cause c.in-Err.ensures.behind

@@ -30,7 +30,7 @@ returns-after-is_of_disk-clause-reopens g c =
     let was = g.D.Disk.state c.args.self.now.device in
     let new = g.D.Disk.state c.find_place.new.disk in
     let seen : RefusesAt was new fault = subst (λ (v : JournalView g.row.D.Denot). RefusesAt (g.D.Disk.state v.device) new fault) c.self.view_is
-    (refused_at fault (g.D.Disk.state c.self.inside.device) new c.find_place.ensures.only c.in-Err.ensures.refused c.in-Err.ensures.cause c.in-Err.ensures.behind) in
+    (refused_at fault (g.D.Disk.state c.self.inside.device) new c.find_place.ensures.only c.in-Err.ensures.refused c.in-Err.ensures.fixed c.in-Err.ensures.cause c.in-Err.ensures.behind) in
     let after : (v : JournalView g.row.D.Denot) → c.if-is_of_disk.self ≡ v → v.device ≡ c.find_place.new.disk → RefusesAt was (g.D.Disk.state c.if-is_of_disk.self.device) fault =
     λ v is same. subst (λ (d : g.row.D.Denot). RefusesAt was (g.D.Disk.state d) fault) (sym (ap (λ (w : JournalView g.row.D.Denot). w.device) is ∙ same)) seen in
     let refused : RefusesAt was (g.D.Disk.state c.if-is_of_disk.self.device) fault =
