@@ -1,7 +1,7 @@
 //! The stop list of a car, kept while its position and its calls change.
 
 ghost use Rattle.std.specs.Prelude.{◌≡◌, ◌≢◌, ◌+◌, ◌<◌, ◌≤◌, List, [], ◌∷◌, ◌++◌, length, Contains};
-ghost use Rattle.std.specs.Prelude.{All, IsTrue};
+ghost use Rattle.std.specs.Prelude.{All, IsTrue, false};
 ghost use Rattle.std.specs.List.{flat_map};
 ghost use Rattle.lift_base.specs.declared.history.Row.{Row as RowValue};
 ghost use Rattle.lift_base.specs.History.{row_after};
@@ -27,15 +27,20 @@ fn copy_of(halts: &[Halt]) -> ArrayVec<Halt, 66>
 }
 
 /// Takes a stop into the calls of a car that is there: those that are open still stay in their
-/// order, and those who leave are counted no more. Those that it doesn't change aren't written.
-fn serve_rows(rows: &mut ArrayVec<Row, 33>, leaving: &mut Leaving, stop: &Stop)
+/// order, and those who leave are counted no more. The answer is whether it changes any; the others
+/// aren't written.
+fn serve_rows(rows: &mut ArrayVec<Row, 33>, leaving: &mut Leaving, stop: &Stop) -> bool
     ensures rows { rows.new.items ≡ flat_map (row_after stop.now) rows.old.items }
     ensures leaving { AreCounted rows.old.items (position_after stop.now) leaving.old
         → AreCounted (flat_map (row_after stop.now) rows.old.items) (position_after stop.now)
         leaving.new }
+    ensures unchanged { result ≡ false → rows.new.items ≡ rows.old.items }
 {
     let position = &position_at(stop);
     let mut index = count_unchanged(rows, stop);
+    if index == rows.len() {
+        return false;
+    }
     while index < rows.len() {
         match rows[index].after(*stop) {
             Some(row) => {
@@ -46,6 +51,7 @@ fn serve_rows(rows: &mut ArrayVec<Row, 33>, leaving: &mut Leaving, stop: &Stop)
         }
         index += count_unchanged(&rows[index..], stop);
     }
+    true
 }
 
 /// Where a car is that makes a stop.
@@ -141,7 +147,9 @@ impl Schedule {
           rows = flat_map (row_after stop.now) self.old.rows;
         } }
     {
-        serve_rows(&mut self.rows, &mut self.leaving, stop);
+        if !serve_rows(&mut self.rows, &mut self.leaving, stop) {
+            return;
+        }
         drop_halts(&mut self.halts, &self.rows, &self.position);
     }
 
