@@ -1,6 +1,6 @@
 //! The open calls of each car.
 ghost use Rattle.std.specs.Prelude.{◌≡◌, ◌↔◌, IsTrue, ◌+◌, ◌<◌, ◌≤◌, [], ◌∷◌, ◌++◌, length};
-ghost use Rattle.std.specs.Prelude.{slice_index_or, slice_set, take};
+ghost use Rattle.std.specs.Prelude.{slice_index_or, slice_set};
 ghost use Rattle.std.specs.List.{flat_map};
 ghost use Rattle.lift_base.specs.History.{row_after};
 ghost use Rattle.lift_register.specs.Rows.{row_lists};
@@ -8,21 +8,24 @@ ghost use Rattle.lift_register.specs.Rows.{row_lists};
 use arrayvec::ArrayVec;
 use lift_base::{Last, Letter, Row, Stop, count_unchanged};
 
-/// Takes a stop of a car into the car's rows, moves those that are open still to the front in their
-/// order, and answers how many these are.
-fn keep_open(rows: &mut [Row], stop: &Stop) -> usize
-    ensures rows { take result rows.new ≡ flat_map (row_after stop.now) rows.old }
-    ensures kept { result ≤ length rows.old }
+/// Takes a stop of a car into the car's rows. Those that it doesn't change aren't written.
+fn keep_open(rows: &mut ArrayVec<Row, 32>, stop: &Stop)
+    ensures rows { rows.new.items ≡ flat_map (row_after stop.now) rows.old.items }
+    ensures fewer { length rows.new.items ≤ length rows.old.items }
 {
-    let first = count_unchanged(rows, stop);
-    let mut kept = first;
-    for index in first..rows.len() {
-        if let Some(row) = rows[index].after(*stop) {
-            rows[kept] = row;
-            kept += 1;
+    let mut index = count_unchanged(rows, stop);
+    while index < rows.len() {
+        match rows[index].after(*stop) {
+            Some(row) => {
+                rows[index] = row;
+                index += 1;
+            }
+            None => {
+                rows.remove(index);
+            }
         }
+        index += count_unchanged(&rows[index..], stop);
     }
-    kept
 }
 
 /// Takes a stop of a car into the car's rows, and answers how many calls it ends.
@@ -32,9 +35,8 @@ fn serve(rows: &mut ArrayVec<Row, 32>, stop: Stop) -> u32
     ensures limit { length rows.old.items ≤ 32 }
 {
     let count = rows.len();
-    let kept = keep_open(rows.as_mut_slice(), &stop);
-    rows.truncate(kept);
-    (count - kept) as u32
+    keep_open(rows, &stop);
+    (count - rows.len()) as u32
 }
 
 /// Adds an open call to the rows of its car.
