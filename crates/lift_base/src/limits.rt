@@ -14,3 +14,9 @@ pub const MOST_KIOSKS: usize = 47;
 
 /// A building has so many floors at most.
 pub const MOST_FLOORS: usize = 64;
+
+/// So many calls of a car are open at most.
+pub const MOST_ROWS: usize = 32;
+
+/// A car has so many halts at most: two for each open call and for one more.
+pub const MOST_HALTS: usize = 66;
