@@ -20,11 +20,9 @@ ghost use Rattle.lift_journal.specs.Calls.{checkpoint_calls};
 use crate::body::{body_count, put_body, sectors_of};
 use crate::device::{mark, write_sectors};
 use arrayvec::ArrayVec;
-use lift_base::{Record, push_some};
+use lift_base::{MOST_ENTRIES, Record, push_some};
 use lift_disk::{Disk, DiskFault};
 use lift_register::Register;
-
-const BATCH_RECORDS: usize = 63;
 
 /// How many batches so many records take.
 pub fn batches_for(count: usize) -> usize
@@ -32,7 +30,7 @@ pub fn batches_for(count: usize) -> usize
     ensures value { result ≡ batch_count count }
     ensures limit { result ≤ 10 }
 {
-    (count + BATCH_RECORDS - 1) / BATCH_RECORDS
+    (count + MOST_ENTRIES - 1) / MOST_ENTRIES
 }
 
 /// Where the half that isn't picked begins, and the sector that picks it.
@@ -60,13 +58,13 @@ fn record_at(register: &Register, count: usize, place: usize) -> Option<Record>
 }
 
 /// One batch of a register's checkpoint: 63 records from this place on, or those that are left.
-fn base_batch(register: &Register, from: usize) -> ArrayVec<Record, 63>
+fn base_batch(register: &Register, from: usize) -> ArrayVec<Record, MOST_ENTRIES>
     requires { from ≤ 576 }
     ensures { result.items ≡ take 63 (drop from (base_records register.now)) }
 {
     let count = register.base_len();
     let mut batch = ArrayVec::new();
-    for place in 0..BATCH_RECORDS {
+    for place in 0..MOST_ENTRIES {
         push_some(&mut batch, record_at(register, count, from + place));
     }
     batch
@@ -119,7 +117,7 @@ fn write_batches<D: Disk>(disk: &mut D, register: &Register, start: u32) -> Resu
 {
     let mut gate = start;
     for index in 0..batches_for(register.base_len()) {
-        let batch = base_batch(register, BATCH_RECORDS * index);
+        let batch = base_batch(register, MOST_ENTRIES * index);
         let bodies = body_count(batch.len());
         let mut text = [0; 1024];
         put_body(&mut text, &batch, index as u32 + 1);
