@@ -26,7 +26,7 @@ use crate::place::{Place, find_place};
 use crate::reads::{AtGate, look};
 use crate::visitor::{Nobody, Visitor};
 use arrayvec::ArrayVec;
-use lift_base::{Record, Shape};
+use lift_base::{MOST_ENTRIES, Record, Shape};
 use lift_disk::{Arm, Disk, DiskFault};
 use lift_register::Register;
 use std::marker::Model;
@@ -170,7 +170,7 @@ impl<D: Disk> Journal<D> {
 
     /// Adds a batch after those that the journal holds. At `Ok` it is safe: from then on each crash
     /// leaves an image that has it.
-    pub fn append(&mut self, batch: &ArrayVec<Record, 63>) -> Result<(), JournalFault>
+    pub fn append(&mut self, batch: &ArrayVec<Record, MOST_ENTRIES>) -> Result<(), JournalFault>
         requires some { 1 ≤ length batch.now.items }
         requires lawful { All IsLawful batch.now.items }
         requires entries { All IsEntry batch.now.items }
@@ -287,7 +287,7 @@ impl<D: Disk> Journal<D> {
     pub fn next(
         &mut self,
         cursor: &mut Cursor,
-    ) -> Result<Option<ArrayVec<Record, 63>>, JournalFault>
+    ) -> Result<Option<ArrayVec<Record, MOST_ENTRIES>>, JournalFault>
         ensures gives { (D.state self.old.device).is_honest → (batches : List Batch)
             → Holds self.old.shape batches (D.state self.old.device).image
             → IsCursorIn batches cursor.old → GivesNext batches cursor.old cursor.new result }
