@@ -1,22 +1,22 @@
 //! The limits of an installation, each of which an array or a list has room for.
 
-/// A desk has so many terminals at most: 16 cars and 47 kiosks.
+/// The most terminals of a desk: 16 cars and 47 kiosks.
 pub const MOST_TERMINALS: usize = 63;
 
-/// A batch has so many entries at most, and so many records: one for each terminal.
+/// The most entries of a batch, and records: one for each terminal.
 pub const MOST_ENTRIES: usize = 63;
 
-/// A building has so many cars at most.
+/// The most cars of a building.
 pub const MOST_CARS: usize = 16;
 
-/// A building has so many kiosks at most.
+/// The most kiosks of a building.
 pub const MOST_KIOSKS: usize = 47;
 
-/// A building has so many floors at most.
+/// The most floors of a building.
 pub const MOST_FLOORS: usize = 64;
 
-/// So many calls of a car are open at most.
+/// The most open calls of a car.
 pub const MOST_ROWS: usize = 32;
 
-/// A car has so many halts at most: two for each open call and for one more.
+/// The most halts of a stop list: two for each open call and for one more.
 pub const MOST_HALTS: usize = 66;
