@@ -12,6 +12,7 @@ ghost use Rattle.lift_clerk.specs.Turn.{IsTurn, IsFailedTurn, IsBrokenTurn, entr
 use crate::counts::Counts;
 use crate::scan::{Answer, answer_all, scan};
 use arrayvec::ArrayVec;
+use lift_base::MOST_ENTRIES;
 use lift_desk::{ClerkSeat, Desk, Seat};
 use lift_disk::{Arm, Disk};
 use lift_journal::JournalFault;
@@ -28,7 +29,7 @@ pub struct Clerk<'d, 'b, D: Disk, P: Policy + Drop> {
     keeper: Keeper<'b, D>,
     policy: P,
     /// Room for the answers of a turn, so that none is made for each.
-    answers: ArrayVec<Answer, 63>,
+    answers: ArrayVec<Answer, MOST_ENTRIES>,
 }
 
 impl<'d, 'b, D: Disk, P: Policy + Drop> Model for Clerk<'d, 'b, D, P> {

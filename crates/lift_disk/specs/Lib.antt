@@ -11,5 +11,5 @@ pub mod Files
 pub mod Runs
 pub mod Holding
 pub mod Below
-pub mod Fresh
+pub mod Blank
 pub mod lemmas

@@ -4,7 +4,7 @@ ghost use Rattle.std.specs.Prelude.{◌≡◌, ◌≤◌, ◌<◌, ◌+◌, ◌^
 ghost use Rattle.std.specs.Prelude.{true, false, refl, OnOk, OnErr, IfOk, IfSome, ⊤};
 ghost use Rattle.std.proofs.Common.{inl};
 ghost use Rattle.lift_disk.specs.Disk.{ChangesWithin};
-ghost use Rattle.lift_disk.specs.Fresh.{IsFresh};
+ghost use Rattle.lift_disk.specs.Blank.{IsBlankDisk};
 ghost use Rattle.lift_disk.specs.Memory.{IsFlagged, IsWithin, image_after, no_other};
 
 use crate::call::ProofHistory;
@@ -45,7 +45,7 @@ impl MemDisk {
 
     /// This many sectors of zeros, all of them on the disk. Refused only where memory runs out.
     pub fn new(alloc: Global, sectors: u32) -> Result<MemDisk, Memory>
-        ensures fresh { IfOk result (λ disk. IsFresh sectors (state_of disk)) }
+        ensures blank { IfOk result (λ disk. IsBlankDisk sectors (state_of disk)) }
     {
         let image = zeros(alloc, sectors)?;
         Ok(MemDisk {

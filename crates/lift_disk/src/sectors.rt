@@ -3,7 +3,7 @@ ghost use Rattle.std.specs.Prelude.{◌≡◌, ◌↔◌, ◌*◌, ◌++◌, [],
 ghost use Rattle.std.proofs.Common.{◌∙◌};
 ghost use Rattle.lift_disk.specs.FileCalls.FileCall.{Read as ReadBytes};
 ghost use Rattle.lift_disk.specs.FileCalls.{in_bytes, without_given};
-ghost use Rattle.lift_disk.specs.Fresh.{IsUncalledDisk};
+ghost use Rattle.lift_disk.specs.Blank.{IsUncalledDisk};
 ghost use Rattle.lift_disk.specs.Holding.{IsKnownSteady};
 ghost use Rattle.lift_disk.specs.Traced.{traced_calls, failures_of, making_of};
 

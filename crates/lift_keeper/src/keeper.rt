@@ -14,7 +14,7 @@ ghost use Rattle.lift_keeper.specs.Prelude.{OpensByCalls, RefusedCalls, Reopenin
 use crate::copies::copy_of;
 use crate::fault::KeeperFault;
 use crate::writer::Writer;
-use lift_base::{Body, Number, Reply, Terminal};
+use lift_base::{Body, MOST_CARS, Number, Reply, Terminal};
 use lift_building::Building;
 use lift_decider::Decider;
 use lift_disk::{Arm, Disk};
@@ -123,7 +123,7 @@ impl<'b, D: Disk> Keeper<'b, D> {
 
     /// The schedules of the cars that have told where they are, each with its car's open calls:
     /// their positions, and where they stop.
-    pub fn positions(&self) -> &[Option<Schedule>; 16]
+    pub fn positions(&self) -> &[Option<Schedule>; MOST_CARS]
         ensures positions { positions_of result.now ≡ self.now.state.positions }
         ensures own { AreSchedulesOf self.now.state.register result.now }
     {

@@ -18,7 +18,7 @@ ghost use Rattle.lift_keeper.specs.Writer.{Keeps, Guards, StopsFolding, StopsCom
 ghost use Rattle.lift_keeper.specs.Writer.{room_writes, room_used, room_second};
 
 use arrayvec::ArrayVec;
-use lift_base::Record;
+use lift_base::{MOST_ENTRIES, Record};
 use lift_disk::Disk;
 use lift_journal::{Journal, JournalFault};
 use lift_register::Register;
@@ -73,7 +73,7 @@ fn make_room<D: Disk>(
 pub fn store<D: Disk>(
     journal: &mut Journal<D>,
     register: &Register,
-    records: &ArrayVec<Record, 63>,
+    records: &ArrayVec<Record, MOST_ENTRIES>,
 ) -> Result<(), JournalFault>
     requires whole { journal.old.is_broken ≡ false }
     requires some { 1 ≤ length records.now.items }

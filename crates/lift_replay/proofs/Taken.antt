@@ -4,20 +4,17 @@ use Rattle.std.specs.Prelude.{Option, Some, None, IfSome}
 use Rattle.std.specs.Io.KnownBytes.{Consumes}
 use Rattle.std.proofs.KnownBytes.{Consumes-trans}
 use Rattle.lift_base.specs.Input.{InputState}
-use Rattle.lift_replay.specs.Reading.{GiveEach, IsInput, IsOfUse, TakesByEach}
+use Rattle.lift_replay.specs.Reading.{GiveEach, IsInput, IsLastCall, TakesByEach, TakesUpTo}
 
--- one call more
-pub taken_more : {R : Type 0} (state : InputState R) (most n : ℕ) (old mid new : Option (List ℕ)) (items : List ℕ) → length items ≡ n → Consumes old mid items
-    → (more : List ℕ) × (n + length more ≤ most) × Consumes mid new more × IsOfUse more state → (all : List ℕ) × (length all ≤ most) × Consumes old new all
-taken_more state most n old mid new items is first (more, few, second, of_use) =
-    (items ++ more, omega (arith, is, few, length-append items more), Consumes-trans old mid new items more first second)
+module _ {R : Type 0} (remaining : R → Option (List ℕ)) (most : ℕ) (old mid new : InputState R) (items : List ℕ) where
+  -- one call more
+  pub taken_more : Consumes (remaining old.reader) (remaining mid.reader) items → IsLastCall most remaining items mid new → TakesUpTo (most + 1) remaining old.reader new.reader
+  taken_more first (more, (one, second), of_use, few) =
+      (items ++ more, omega (arith, few, length-append items more), Consumes-trans _ _ _ items more first second)
 
--- calls that gave a byte at least each, and one that was of use
-pub each_more : {R : Type 0} (remaining : R → Option (List ℕ)) (most n : ℕ) (old mid new : InputState R) (items : List ℕ) → length items ≡ n → n ≤ most
-    → (calls : ℕ) × GiveEach remaining calls items old mid → new.calls ≡ mid.calls + 1
-    → (more : List ℕ) × (n + length more ≤ most + 1) × Consumes (remaining mid.reader) (remaining new.reader) more × IsOfUse more new → TakesByEach most remaining old new
-each_more remaining most n old mid new items is room (calls, each) one (more, few, second, of_use) =
-    (calls, items, mid, each, omega (arith, is, room), inr (more, (one, second), of_use, omega (arith, is, few)))
+  -- calls that gave a byte at least each, and one that was of use
+  pub each_more : length items ≤ most → (calls : ℕ) × GiveEach remaining calls items old mid → IsLastCall most remaining items mid new → TakesByEach most remaining old new
+  each_more room (calls, each) last = (calls, items, mid, each, room, inr last)
 
 -- a call more that gave a byte at least
 pub each_on : {R : Type 0} (remaining : R → Option (List ℕ)) (n m : ℕ) (old mid new : InputState R) (items next : List ℕ) → length items ≡ n → length next ≡ m → n < m

@@ -1,12 +1,16 @@
 -- How far a script was read.
-use Rattle.std.specs.Prelude.{ℕ, zero, suc, ◌≡◌, ◌⊎◌, ◌+◌, ◌≤◌, ◌<◌, true, Option, Some, None}
-use Rattle.std.specs.Prelude.{List, [], ◌++◌, length}
+use Rattle.std.specs.Prelude.{ℕ, zero, suc, ◌≡◌, ◌⊎◌, ◌+◌, ◌≤◌, ◌<◌, true, false, Option, Some, None}
+use Rattle.std.specs.Prelude.{List, [], ◌++◌, length, IfSome}
 use Rattle.std.specs.Io.KnownBytes.{Consumes, IsAtEnd}
 use Rattle.lift_base.specs.Input.{InputState}
 
 -- a script has this many bytes at most
 abbrev pub most_bytes : ℕ
 most_bytes = 1048576
+
+-- and is read in so many calls at most
+abbrev pub most_calls : ℕ
+most_calls = 2097152
 
 -- Its end was found, and the reader has nothing left; or one byte more than a script may have was
 -- taken.
@@ -54,6 +58,31 @@ TakesByEach {R} most remaining old new =
     (calls : ℕ) × (bytes : List ℕ) × (last : InputState R) × GiveEach remaining calls bytes old last
     × (length bytes ≤ most)
     × ((new ≡ last) ⊎ IsLastCall most remaining bytes last new)
+
+-- These bytes came of a reader, in a call or more of which none failed: all that it gives, or one
+-- byte more than there may be.
+pub record GivesInput {R : Type 0} (most : ℕ) (remaining : R → Option (List ℕ))
+    (old new : InputState R) (bytes : List ℕ) : Type 0 where
+  pub front : Consumes (remaining old.reader) (remaining new.reader) bytes
+  pub few : length bytes ≤ most + 1
+  pub whole : length bytes ≤ most → IfSome (remaining old.reader) (λ all. bytes ≡ all)
+  pub ended : length bytes ≤ most → (new.ended ≡ true) × IsAtEnd (remaining new.reader)
+  pub unfailed : new.failed ≡ false
+
+-- A reader was read as far as it is looked at: to one byte more than there may be, in so many calls
+-- at most.
+pub record ReadsUpTo {R : Type 0} (most calls : ℕ) (remaining : R → Option (List ℕ))
+    (old new : InputState R) : Type 0 where
+  pub taken : TakesUpTo (most + 1) remaining old.reader new.reader
+  pub each_call : TakesByEach most remaining old new
+  pub few_calls : new.calls ≤ calls
+
+-- A reader couldn't be read: a call failed, or all were used and the end was not found. No byte
+-- too many had come.
+pub record LeavesUnread {R : Type 0} (most calls : ℕ) (remaining : R → Option (List ℕ))
+    (old new : InputState R) : Type 0 where
+  pub cause : (new.failed ≡ true) ⊎ ((new.calls ≡ calls) × (new.ended ≡ false))
+  pub taken : TakesUpTo most remaining old.reader new.reader
 
 -- These bytes are the input of a reader that has so much left; of one that doesn't tell, they may
 -- be any.

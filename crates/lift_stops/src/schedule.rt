@@ -14,10 +14,10 @@ use crate::leaving::Leaving;
 use crate::marks::write_halts;
 use crate::stops::{drop_halts, insert_row, is_ahead, pass_of, stop_of};
 use arrayvec::ArrayVec;
-use lift_base::{Halt, Pass, Position, Row, Stop, count_unchanged};
+use lift_base::{Halt, MOST_HALTS, Pass, Position, Row, Stop, count_unchanged};
 use std::marker::Model;
 
-fn copy_of(halts: &[Halt]) -> ArrayVec<Halt, 66>
+fn copy_of(halts: &[Halt]) -> ArrayVec<Halt, MOST_HALTS>
     requires { length halts.now ≤ 66 }
     ensures { result.items ≡ halts.now }
 {
@@ -91,7 +91,7 @@ fn keeps_passes(halts: &[Halt], position: &Position, next: &Position) -> bool
 pub struct Schedule {
     position: Position,
     rows: ArrayVec<Row, 33>,
-    halts: ArrayVec<Halt, 66>,
+    halts: ArrayVec<Halt, MOST_HALTS>,
     leaving: Leaving,
 }
 
@@ -189,7 +189,7 @@ impl Schedule {
     }
 
     /// The halts with one call more.
-    pub fn halts_with(&self, row: &Row) -> ArrayVec<Halt, 66>
+    pub fn halts_with(&self, row: &Row) -> ArrayVec<Halt, MOST_HALTS>
         requires { length self.now.rows ≤ 32 }
         ensures { result.items ≡ stop_list (self.now.rows ++ row.now ∷ []) self.now.position }
     {

@@ -18,7 +18,9 @@ use crate::lists::{
     add_due, add_unknown, answer_after, count_answers, count_asks, drop_taken, is_taken, last_ask,
     reserve_both, taken_of,
 };
-use lift_base::{Body, Entry, Letter, Memory, Number, Position, Terminal, push, reserve_one};
+use lift_base::{
+    Body, Entry, Letter, MOST_CARS, Memory, Number, Position, Terminal, push, reserve_one,
+};
 use lift_building::Building;
 use lift_policy::Command;
 use lift_register::Register;
@@ -71,7 +73,7 @@ pub struct World<'b> {
     phase: Phase,
     queue: Vec<Sealed>,
     power: Power,
-    positions: [Option<Position>; 16],
+    positions: [Option<Position>; MOST_CARS],
     taken: Vec<Taken>,
     due: Vec<Taken>,
     asked: Vec<Command>,
@@ -95,10 +97,10 @@ impl<'b> Model for World<'b> {
 }
 
 /// No car has told its position.
-fn unplaced() -> [Option<Position>; 16]
+fn unplaced() -> [Option<Position>; MOST_CARS]
     ensures { result ≡ unplaced }
 {
-    [None; 16]
+    [None; MOST_CARS]
 }
 
 /// The sectors that a batch's body takes.
@@ -186,7 +188,7 @@ impl<'b> World<'b> {
             phase: Phase::Idle,
             queue: Vec::new(alloc),
             power: Power::Running,
-            positions: [None; 16],
+            positions: [None; MOST_CARS],
             taken: Vec::new(alloc),
             due: Vec::new(alloc),
             asked: Vec::new(alloc),

@@ -24,7 +24,7 @@ invariant_of-result c =
 
 pub returns : goal.returns
 returns c = record {
-  fresh = record {
+  blank = record {
     zeros = search rules;
     synced = record {
       steady = refl;

@@ -9,7 +9,7 @@ pub record IsUncalledDisk (disk : DiskState) : Type 0 where
   pub trace : disk.trace ≡ []
 
 -- So many sectors of zeros, all of them safe, on an honest device that fails no call by itself.
-pub record IsFresh (sectors : ℕ) (disk : DiskState) : Type 0 where
+pub record IsBlankDisk (sectors : ℕ) (disk : DiskState) : Type 0 where
   pub zeros : disk.image ≡ replicate sectors (replicate 512 0)
   pub synced : IsSynced disk
   pub same : disk.synced ≡ disk.image
