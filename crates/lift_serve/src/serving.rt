@@ -11,8 +11,8 @@ ghost use Rattle.lift_relay.specs.declared.pair.RunFault.{RunFault as Fault};
 ghost use Rattle.lift_serve.specs.Open.{AreEndedAt, IsEndAt};
 ghost use Rattle.lift_serve.specs.Relaying.{ComesTo, HaveRunOn, Relayed};
 
-use crate::connections::{Connection, Connections, Ended, Left, Over, Reading};
-use crate::lacks::{EndAt, GivenUp, Lacking, Refusal, part, start_accepting, start_session};
+use crate::connections::{Connection, Connections, Left, Over, Reading};
+use crate::lacks::{EndAt, GivenUp, Lacking, Refusal, ServingEnd, part, start_accepting, start_session};
 use crate::lobby::Lobby;
 use crate::opened::{Opened, open};
 use crate::pace::{Bells, Closing, Pace};
@@ -82,11 +82,9 @@ pub struct Served<'b, D: Disk + Drop, K: Drop, V: Witness + Drop> {
     /// The keeper behind the last turn, or as it was where none was made. It is broken where a call
     /// of the device failed.
     pub keeper: HeldKeeper<'b, D, K>,
-    /// That no thread could be had for the serving itself, and else the first that was refused to
-    /// the rest.
-    pub fault: Option<Refusal>,
-    /// That so many connections have ended at the socket, unless all were given up.
-    pub ended: Option<Ended>,
+    /// What was refused, and that so many connections have ended at the socket, unless all were given
+    /// up.
+    pub end: ServingEnd,
     /// Who has heard where the device failed.
     pub witness: V,
 }
@@ -293,13 +291,12 @@ pub(crate) fn unserved<'b, D: Disk + Drop, K: Drop, V: Witness + Drop>(
     ensures keeper { result.keeper ≡ keeper.entry }
     ensures heard { FailureHeard V.hears keeper.entry.writer.is_broken result.keeper.writer.is_broken
         witness result.witness }
-    ensures fault { result.fault ≡ Some refusal }
-    ensures ended { result.ended ≡ None }
+    ensures fault { result.end.fault ≡ Some refusal }
+    ensures ended { result.end.ended ≡ None }
 {
     Served {
         keeper,
-        fault: Some(refusal),
-        ended: None,
+        end: ServingEnd::unserved(refusal),
         witness,
     }
 }
@@ -329,15 +326,15 @@ where
     // What the keeper has at the end came to it by the turns of the two parts of a clerk with this
     // policy, and by its last one; or it is as it was, and why is told.
     ensures comes { ComesTo P.chooses D.state prepared.entry.policy prepared.entry.keeper result.keeper
-        result.fault }
+        result.end.fault }
     // The witness has heard that the device failed, once, where the keeper is broken that wasn't;
     // else it is as it was.
     ensures heard { FailureHeard V.hears prepared.entry.keeper.writer.is_broken
         result.keeper.writer.is_broken witness result.witness }
     // It tells that connections have ended only where so many have at this socket, and tells no fault
     // only where it tells that.
-    ensures ended { IfSome result.ended (AreEndedAt prepared.entry.listening prepared.entry.sessions) }
-    ensures counted { result.fault ≡ None → IsSome result.ended }
+    ensures ended { IfSome result.end.ended (AreEndedAt prepared.entry.listening prepared.entry.sessions) }
+    ensures counted { result.end.fault ≡ None → IsSome result.end.ended }
 {
     let Prepared {
         listening,
