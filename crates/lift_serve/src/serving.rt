@@ -12,7 +12,9 @@ ghost use Rattle.lift_serve.specs.Open.{AreEndedAt, IsEndAt};
 ghost use Rattle.lift_serve.specs.Relaying.{ComesTo, HaveRunOn, Relayed};
 
 use crate::connections::{Connection, Connections, Left, Over, Reading};
-use crate::lacks::{EndAt, GivenUp, Lacking, Refusal, ServingEnd, part, start_accepting, start_session};
+use crate::lacks::{
+    EndAt, GivenUp, Lacking, Refusal, ServingEnd, part, start_accepting, start_session,
+};
 use crate::lobby::Lobby;
 use crate::opened::{Opened, open};
 use crate::pace::{Bells, Closing, Pace};
