@@ -1,15 +1,14 @@
 -- What words come to.
 use Rattle.std.proofs.Common.{◌≡◌, ℕ, Option, List, false, refl, inl, inr, subst}
-use Rattle.std.specs.Prelude.{IfSome}
 use Rattle.std.specs.declared.net.tcp.TcpListener.{TcpListener as Listener}
 use Rattle.clap.specs.Words.{Text}
 use Rattle.lift_keeper.specs.Keeper.{KeeperView}
 use Rattle.lift_policy.specs.Choices.{IsShipped}
 use Rattle.lift_policy.specs.declared.shipped.Shipped.{Shipped}
-use Rattle.lift_serve.specs.Open.{EndedState}
+use Rattle.lift_serve.specs.Open.{ServingEndState}
 use Rattle.lift_serve.specs.lemmas.Opened.{keeps_over}
 use Rattle.lift_program.proofs.Writing.{said_front}
-use Rattle.lift_program.specs.Ends.{AreReadyFor, EndOver, IsEndFor, IsEndOf, IsServingFault, SaysFront, WritesFor}
+use Rattle.lift_program.specs.Ends.{AreReadyFor, EndOver, IsEndFor, IsEndOf, SaysFront, WritesFor}
 use Rattle.lift_program.specs.Serving.{IsServedOver, IsServing}
 use Rattle.lift_program.specs.declared.fault.Fault.{Fault}
 use Rattle.lift_program.specs.declared.words.Request.TheVariants.{Replay, Format, Show, Serve}
@@ -25,7 +24,7 @@ pub asked_end : (files : CommandFiles) (gives : ℕ → Option Listener → Type
 asked_end files gives input words before after (Replayed verdict unused) request asks is writes = inr (request, asks, is, writes)
 asked_end files gives input words before after (Formatted disk) request asks is writes = inr (request, asks, is, writes)
 asked_end files gives input words before after (Shown disk) request asks is writes = inr (request, asks, is, writes)
-asked_end files gives input words before after (Served port fault left ended) request asks is writes = inr (request, asks, is, writes)
+asked_end files gives input words before after (Served port fault left ending) request asks is writes = inr (request, asks, is, writes)
 asked_end files gives input words before after (Failed fault unused) request asks is writes = inr (request, asks, is, writes)
 asked_end files gives input words before after (NoImage fault cause) request asks is writes = inr (request, asks, is, writes)
 asked_end files gives input words before after (Unformatted fault left) request asks is writes = inr (request, asks, is, writes)
@@ -43,31 +42,28 @@ ready_whole files gives words before after keeper listener port sessions policy 
 
 -- what was ready was served
 pub served_end : (files : CommandFiles) (gives : ℕ → Option Listener → Type 0) (input : Option (List ℕ)) (words : List Text) (before after : Option (List ℕ)) (keeper : KeeperView files.image.Served) (listener : Listener) (port sessions : ℕ) (policy : Shipped)
-    (fault : Option Fault) (left : files.image.Served) (ended : Option EndedState) → AreReadyFor files gives words before after keeper listener port sessions policy
-    → IsServedOver files.image.served_state policy listener sessions keeper fault left ended → IfSome fault IsServingFault → IsEndOf files gives input words before after (Served port fault left ended)
-served_end files gives input words before after keeper listener port sessions policy fault left ended (Replay, asks, never, said) served is = absurd never
-served_end files gives input words before after keeper listener port sessions policy fault left ended (Format image building half, asks, never, said) served is = absurd never
-served_end files gives input words before after keeper listener port sessions policy fault left ended (Show image building, asks, never, said) served is = absurd never
-served_end files gives input words before after keeper listener port sessions policy fault left ended (Serve image building asked count named, asks, (at, many, by_policy, ready), said) served is =
-    let serving : IsServing files (gives asked) image.now building.now policy sessions fault left ended = record {
+    (fault : Option Fault) (left : files.image.Served) (ending : ServingEndState) → AreReadyFor files gives words before after keeper listener port sessions policy
+    → IsServedOver files.image.served_state policy listener sessions keeper fault left ending → IsEndOf files gives input words before after (Served port fault left ending)
+served_end files gives input words before after keeper listener port sessions policy fault left ending (Replay, asks, never, said) served = absurd never
+served_end files gives input words before after keeper listener port sessions policy fault left ending (Format image building half, asks, never, said) served = absurd never
+served_end files gives input words before after keeper listener port sessions policy fault left ending (Show image building, asks, never, said) served = absurd never
+served_end files gives input words before after keeper listener port sessions policy fault left ending (Serve image building asked count named, asks, (at, many, by_policy, ready), said) served =
+    let serving : IsServing files (gives asked) image.now building.now policy sessions fault left ending = record {
       keeper = keeper;
       listener = listener;
       ready = ready;
       served = served;
       keeps = λ honest base accepted given found.
           keeps_over IsShipped files.image.served_state ready.plan ready.has.opened keeper ready.has.recovers ready.has.starts ready.has.whole ready.has.no_doubt ready.has.own honest base accepted given found
-          policy served.last served.other served.comes;
+          policy served.last ending.fault served.comes;
     } in
     inr (
       Serve image building asked count named,
       asks,
       (
-        (
-          at,
-          subst (λ (n : ℕ). IsServing files (gives asked) image.now building.now named n fault left ended) many
-              (subst (λ (p : Shipped). IsServing files (gives asked) image.now building.now p sessions fault left ended) by_policy serving),
-        ),
-        is,
+        at,
+        subst (λ (n : ℕ). IsServing files (gives asked) image.now building.now named n fault left ending) many
+            (subst (λ (p : Shipped). IsServing files (gives asked) image.now building.now p sessions fault left ending) by_policy serving),
       ),
       subst (λ (p : ℕ). SaysFront p before after) at (said_front port before after said),
     )

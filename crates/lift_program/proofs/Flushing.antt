@@ -7,7 +7,7 @@ use Rattle.lift_base.specs.declared.text.output.WriteFault.{WriteFault}
 use Rattle.lift_replay.specs.Writing.{TakesSomeEachCall}
 use Rattle.lift_replay.specs.lemmas.Writes.{fails_of, takes_of}
 use Rattle.lift_building.specs.Plan.{Plan}
-use Rattle.lift_program.specs.Ends.{IsFileFault, IsServingFault, IsShowingFault}
+use Rattle.lift_program.specs.Ends.{IsFileFault, IsShowingFault}
 use Rattle.lift_program.specs.Output.{WriterHasFailed}
 use Rattle.lift_disk.specs.Disk.{DiskState}
 use Rattle.lift_disk.specs.declared.file.FileFault.{FileFault}
@@ -68,7 +68,7 @@ output_no_network fault (inl is) same = subst IsShowingFault (sym is ∙ same) t
 output_no_network fault (inr is) same = subst IsOfBuilding (sym is ∙ same) tt
 
 pub network_no_output : (fault : Fault) → fault ≡ Network → fault ≡ File Output → ⊥
-network_no_output fault is same = subst IsServingFault (sym is ∙ same) tt
+network_no_output fault is same = absurd (let other = sym is ∙ same in cc)
 
 pub err_same : {T E : Type 0} (told wanted : E) → ◌≡◌ {A = Result T E} (Err told) (Err wanted) → told ≡ wanted
 err_same {T} {E} told wanted same = subst (λ (r : Result T E). IfErr r (λ other. told ≡ other)) same refl

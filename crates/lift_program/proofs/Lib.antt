@@ -2,7 +2,6 @@ mod Asked
 mod Commands
 mod Flushing
 mod Rows
-mod Served
 mod Telling
 mod Stages
 mod Writing

@@ -38,33 +38,20 @@ module _ {E : Type 0} (contents : E → Option (List ℕ)) (a b c : OutputState 
 -- what is told before the end, and then at it, is one line
 module _ {M S V F O E : Type 0} (contents : E → Option (List ℕ)) (a b c : OutputState E) where
   pub told_once : (end : End M S V F O) → TellsLine contents (line_at_once end) a b → IfSome (line_at_end end) (IsWrittenOrFailed contents b c) → (line_at_end end ≡ None → c ≡ b)
-      → IfSome (line_of end) (IsWrittenOrFailed contents a c)
-  told_once (Replayed verdict unused) first last quiet = tt
-  told_once (Formatted disk) first last quiet = tt
-  told_once (Shown disk) first last quiet = tt
-  told_once (Served port None left ended) first last quiet = tt
-  told_once (Served port (Some (Building fault)) left ended) first last quiet = last_so contents a b c _ first last
-  told_once (Served port (Some (Journal fault)) left ended) first last quiet = first_so contents a b c _ first (quiet refl)
-  told_once (Served port (Some (File role)) left ended) first last quiet = last_so contents a b c _ first last
-  told_once (Served port (Some (Memory no_memory)) left ended) first last quiet = last_so contents a b c _ first last
-  told_once (Served port (Some Network) left ended) first last quiet = last_so contents a b c _ first last
-  told_once (Served port (Some Thread) left ended) first last quiet = last_so contents a b c _ first last
+      → TellsLine contents (line_of end) a c
+  told_once (Replayed verdict unused) first last quiet = quiet refl ∙ first
+  told_once (Formatted disk) first last quiet = quiet refl ∙ first
+  told_once (Shown disk) first last quiet = quiet refl ∙ first
+  told_once (Served port None left ending) first last quiet = quiet refl ∙ first
+  told_once (Served port (Some (Building fault)) left ending) first last quiet = last_so contents a b c _ first last
+  told_once (Served port (Some (Journal fault)) left ending) first last quiet = first_so contents a b c _ first (quiet refl)
+  told_once (Served port (Some (File role)) left ending) first last quiet = last_so contents a b c _ first last
+  told_once (Served port (Some (Memory no_memory)) left ending) first last quiet = last_so contents a b c _ first last
+  told_once (Served port (Some Network) left ending) first last quiet = last_so contents a b c _ first last
+  told_once (Served port (Some Thread) left ending) first last quiet = last_so contents a b c _ first last
   told_once (Failed fault unused) first last quiet = last_so contents a b c _ first last
   told_once (NoImage fault cause) first last quiet = last_so contents a b c _ first last
   told_once (Unformatted fault left) first last quiet = last_so contents a b c _ first last
   told_once (Unshown fault left) first last quiet = last_so contents a b c _ first last
   told_once (Unserved fault left) first last quiet = last_so contents a b c _ first last
   told_once (OtherWords unused) first last quiet = last_so contents a b c _ first last
-
-  pub quiet_so : (end : End M S V F O) → TellsLine contents (line_at_once end) a b → (line_at_end end ≡ None → c ≡ b) → line_of end ≡ None → c ≡ a
-  quiet_so (Replayed verdict unused) first quiet none = quiet refl ∙ first
-  quiet_so (Formatted disk) first quiet none = quiet refl ∙ first
-  quiet_so (Shown disk) first quiet none = quiet refl ∙ first
-  quiet_so (Served port None left ended) first quiet none = quiet refl ∙ first
-  quiet_so (Served port (Some fault) left ended) first quiet none = absurd (cc)
-  quiet_so (Failed fault unused) first quiet none = absurd (cc)
-  quiet_so (NoImage fault cause) first quiet none = absurd (cc)
-  quiet_so (Unformatted fault left) first quiet none = absurd (cc)
-  quiet_so (Unshown fault left) first quiet none = absurd (cc)
-  quiet_so (Unserved fault left) first quiet none = absurd (cc)
-  quiet_so (OtherWords unused) first quiet none = absurd (cc)

@@ -1,6 +1,6 @@
 -- How the program ends, and what it says of it.
 use Rattle.std.specs.Prelude.{ℕ, ◌≡◌, ◌⊎◌, ◌<◌, ◌+◌, ◌*◌, List, [], ◌∷◌, ◌++◌, Option, Some, None}
-use Rattle.std.specs.Prelude.{IfSome, Result, Ok, Err, true, false, codes, take}
+use Rattle.std.specs.Prelude.{Result, Ok, Err, true, false, codes, take}
 use Rattle.std.specs.Fmt.{decimal}
 use Rattle.std.specs.Io.KnownBytes.{Appends}
 use Rattle.std.specs.declared.net.tcp.TcpListener.{TcpListener as Listener}
@@ -20,7 +20,7 @@ use Rattle.lift_clerk.specs.Keeping.{KeepsFront}
 use Rattle.lift_replay.specs.declared.lines.Verdict.{Verdict}
 use Rattle.lift_replay.specs.declared.lines.Verdict.TheVariants.{Good, Bad}
 use Rattle.lift_replay.specs.Replaying.{ReportsFront, ReportsInput}
-use Rattle.lift_serve.specs.Open.{EndedState}
+use Rattle.lift_serve.specs.Open.{ServingEndState}
 use Rattle.lift_program.specs.Faults.{fault_text, help_text, usage_text}
 use Rattle.lift_program.specs.Output.{IsWrittenOrFailed, SaysText}
 use Rattle.lift_program.specs.Serving.{IsReadyOver, IsServing}
@@ -50,8 +50,8 @@ exit_status_of (Replayed Good unused) = 0
 exit_status_of (Replayed Bad unused) = 1
 exit_status_of (Formatted disk) = 0
 exit_status_of (Shown disk) = 0
-exit_status_of (Served port None left ended) = 0
-exit_status_of (Served port (Some fault) left ended) = 1
+exit_status_of (Served port None left ending) = 0
+exit_status_of (Served port (Some fault) left ending) = 1
 exit_status_of (Failed fault unused) = 1
 exit_status_of (NoImage fault cause) = 1
 exit_status_of (Unformatted fault left) = 1
@@ -68,8 +68,8 @@ abbrev pub line_of : {M S V F O : Type 0} → End M S V F O → Option (List ℕ
 line_of (Replayed verdict unused) = None
 line_of (Formatted disk) = None
 line_of (Shown disk) = None
-line_of (Served port None left ended) = None
-line_of (Served port (Some fault) left ended) = told_line fault
+line_of (Served port None left ending) = None
+line_of (Served port (Some fault) left ending) = told_line fault
 line_of (Failed fault unused) = told_line fault
 line_of (NoImage fault cause) = told_line fault
 line_of (Unformatted fault left) = told_line fault
@@ -102,7 +102,7 @@ abbrev pub line_at_once : {M S V F O : Type 0} → End M S V F O → Option (Lis
 line_at_once (Replayed verdict unused) = None
 line_at_once (Formatted disk) = None
 line_at_once (Shown disk) = None
-line_at_once (Served port fault left ended) = line_at_once_in fault
+line_at_once (Served port fault left ending) = line_at_once_in fault
 line_at_once (Failed fault unused) = None
 line_at_once (NoImage fault cause) = None
 line_at_once (Unformatted fault left) = None
@@ -115,7 +115,7 @@ abbrev pub line_at_end : {M S V F O : Type 0} → End M S V F O → Option (List
 line_at_end (Replayed verdict unused) = None
 line_at_end (Formatted disk) = None
 line_at_end (Shown disk) = None
-line_at_end (Served port fault left ended) = line_at_end_in fault
+line_at_end (Served port fault left ending) = line_at_end_in fault
 line_at_end (Failed fault unused) = told_line fault
 line_at_end (NoImage fault cause) = told_line fault
 line_at_end (Unformatted fault left) = told_line fault
@@ -140,7 +140,7 @@ abbrev pub undone_for : {M S V F O : Type 0} → End M S V F O → Option Fault
 undone_for (Replayed verdict unused) = None
 undone_for (Formatted disk) = None
 undone_for (Shown disk) = None
-undone_for (Served port fault left ended) = None
+undone_for (Served port fault left ending) = None
 undone_for (Failed fault unused) = Some fault
 undone_for (NoImage fault cause) = Some fault
 undone_for (Unformatted fault left) = Some fault
@@ -239,15 +239,6 @@ IsShowingUndone (NoBuilding fault unused) = Unit {0}
 IsShowingUndone (NoImageHad refused) = Unit {0}
 IsShowingUndone (Opened fault left) = IsShowingFault fault
 
--- what the serving itself may be undone for: a failed call of the device, and what it takes
-abbrev pub IsServingFault : Fault → Type 0
-IsServingFault (Building fault) = ⊥
-IsServingFault (Journal fault) = fault ≡ OfJournal Disk
-IsServingFault (File role) = ⊥
-IsServingFault (Memory no_memory) = Unit {0}
-IsServingFault Network = Unit {0}
-IsServingFault Thread = Unit {0}
-
 -- no call of the reader was made yet
 abbrev pub IsUncalled : {R : Type 0} → InputState R → Type 0
 IsUncalled old = (old.calls ≡ 0) × (old.failed ≡ false) × (old.ended ≡ false)
@@ -313,13 +304,13 @@ IsUnshownFor files (Serve image building port sessions policy) fault left = ⊥
 -- A building was to be served on this port over the image at this path, until so many connections
 -- had ended, and the serving came to this. A socket at a port gives this here, in all that follows.
 abbrev pub IsServedFor : (files : CommandFiles) → (gives : ℕ → Option Listener → Type 0) → Request
-    → ℕ → Option Fault → files.image.Served → Option EndedState → Type 0
-IsServedFor files gives Replay port fault left ended = ⊥
-IsServedFor files gives (Format image building half) port fault left ended = ⊥
-IsServedFor files gives (Show image building) port fault left ended = ⊥
-IsServedFor files gives (Serve image building asked sessions policy) port fault left ended =
+    → ℕ → Option Fault → files.image.Served → ServingEndState → Type 0
+IsServedFor files gives Replay port fault left ending = ⊥
+IsServedFor files gives (Format image building half) port fault left ending = ⊥
+IsServedFor files gives (Show image building) port fault left ending = ⊥
+IsServedFor files gives (Serve image building asked sessions policy) port fault left ending =
     (port ≡ asked)
-    × IsServing files (gives asked) image.now building.now policy sessions fault left ended
+    × IsServing files (gives asked) image.now building.now policy sessions fault left ending
 
 -- a building is to be served so, and all that this takes was had
 abbrev pub IsReadyFor : (files : CommandFiles) → (gives : ℕ → Option Listener → Type 0) → Request
@@ -349,8 +340,8 @@ IsEndFor files gives request before after (Replayed verdict unused) =
     (request ≡ Replay) × (unused ≡ files.image.opener)
 IsEndFor files gives request before after (Formatted left) = IsMadeFor files request left
 IsEndFor files gives request before after (Shown disk) = IsShownFor files request disk before after
-IsEndFor files gives request before after (Served port fault left ended) =
-    IsServedFor files gives request port fault left ended × IfSome fault IsServingFault
+IsEndFor files gives request before after (Served port fault left ending) =
+    IsServedFor files gives request port fault left ending
 IsEndFor files gives request before after (Failed fault unused) =
     IsRequestFault files request fault × (unused ≡ files.image.opener)
 IsEndFor files gives request before after (NoImage fault cause) = IsNoImageFor files request fault cause
@@ -420,7 +411,7 @@ abbrev pub IsReportOfEnd : {M S V F O : Type 0} → (input : Option (List ℕ)) 
 IsReportOfEnd input (Replayed verdict unused) before after = ReportsInput input before after verdict
 IsReportOfEnd input (Formatted disk) before after = after ≡ before
 IsReportOfEnd input (Shown disk) before after = Unit {0}
-IsReportOfEnd input (Served port fault left ended) before after =
+IsReportOfEnd input (Served port fault left ending) before after =
     Appends before after (serving_text port)
 IsReportOfEnd input (Failed fault unused) before after = IsReportOfFault fault before after
 IsReportOfEnd input (NoImage fault cause) before after = IsReportOfFault fault before after
@@ -435,17 +426,3 @@ pub record IsAnswered (words : List Text) (has_failed : Type 0)
     (before after : Option (List ℕ)) : Type 0 where
   pub help : AsksForHelp words → SaysText help_text has_failed before after
   pub quiet : ¬ AsksForHelp words → after ≡ before
-
--- The status of an end that these words come to over this input, with its report, and whose line was
--- told, if it has one. It is a fault of the standard output only where that has failed.
-pub record IsStatusFor (files : CommandFiles) (gives : ℕ → Option Listener → Type 0) {E : Type 0}
-    (contents : E → Option (List ℕ)) (words : List Text) (input before after : Option (List ℕ))
-    (has_failed : Type 0) (old new : OutputState E) (status : ℕ) : Type 0 where
-  pub end : EndOver files
-  pub is_end : IsEndOf files gives input words before after end
-  pub reported : IsReportOfEnd input end before after
-  pub answered : end ≡ OtherWords files.image.opener → IsAnswered words has_failed before after
-  pub unwritten : undone_for end ≡ Some (File Output) → has_failed
-  pub is_status : status ≡ exit_status_of end
-  pub told : IfSome (line_of end) (IsWrittenOrFailed contents old new)
-  pub quiet : line_of end ≡ None → new ≡ old

@@ -12,9 +12,8 @@ use Rattle.lift_policy.specs.declared.shipped.Shipped.{Shipped}
 use Rattle.lift_world.specs.declared.event.Taken.{Taken}
 use Rattle.lift_clerk.specs.Keeping.{KeepsFront}
 use Rattle.lift_serve.specs.Keeping.{KeepsOver}
-use Rattle.lift_serve.specs.Open.{AreEndedAt, EndedState}
+use Rattle.lift_serve.specs.Open.{AreEndedAt, ServingEndState}
 use Rattle.lift_serve.specs.Relaying.{ComesTo}
-use Rattle.lift_serve.specs.declared.serving.ServeFault.{ServeFault}
 use Rattle.lift_program.specs.Faults.{served_fault}
 use Rattle.lift_program.specs.Stages.{HasBuilding, HasKeeperOf}
 use Rattle.lift_program.specs.declared.fault.Fault.{Fault}
@@ -30,28 +29,28 @@ pub record IsReadyOver (files : CommandFiles) (gives : Option Listener → Type 
   pub settled : keeper.state.batch ≡ []
   pub here : gives (Some listener)
 
--- The keeper's building was served at this socket with this policy. What is told is that the device
--- failed, exactly where it did, and else what the serving told. Connections have ended only where so
--- many have at this socket, and where nothing is told they have. This is the device as it was left.
+-- The keeper's building was served at this socket with this policy, and the serving ended so. What is
+-- told is that the device failed, exactly where it did, and else what the serving was refused.
+-- Connections have ended only where so many have at this socket, and where nothing was refused they
+-- have. This is the device as it was left.
 pub record IsServedOver {D : Type 0} (state : D → DiskState) (policy : Shipped)
     (listener : Listener) (sessions : ℕ) (keeper : KeeperView D) (fault : Option Fault) (left : D)
-    (ended : Option EndedState) : Type 0 where
+    (ending : ServingEndState) : Type 0 where
   pub last : KeeperView D
   pub is_left : last.writer.device ≡ left
-  pub other : Option ServeFault
-  pub comes : ComesTo IsShipped state policy keeper last other
-  pub told : fault ≡ served_fault last.writer.is_broken other
-  pub ends : IfSome ended (AreEndedAt listener sessions)
-  pub counted : fault ≡ None → IsSome ended
+  pub comes : ComesTo IsShipped state policy keeper last ending.fault
+  pub told : fault ≡ served_fault last.writer.is_broken ending.fault
+  pub ends : IfSome ending.ended (AreEndedAt listener sessions)
+  pub counted : ending.fault ≡ None → IsSome ending.ended
 
 -- All that this takes was had, and the building was served.
 pub record IsServing (files : CommandFiles) (gives : Option Listener → Type 0)
     (image building : List ℕ) (policy : Shipped) (sessions : ℕ) (fault : Option Fault)
-    (left : files.image.Served) (ended : Option EndedState) : Type 0 where
+    (left : files.image.Served) (ending : ServingEndState) : Type 0 where
   pub keeper : KeeperView files.image.Served
   pub listener : Listener
   pub ready : IsReadyOver files gives image building keeper listener
-  pub served : IsServedOver files.image.served_state policy listener sessions keeper fault left ended
+  pub served : IsServedOver files.image.served_state policy listener sessions keeper fault left ending
   -- Every letter is kept over power cuts, if the file is an honest device: where each image that the
   -- recovery may have found keeps a front of what was accepted, over whatever register the journal
   -- began with, and these answers, a crash at any moment until the end leaves what keeps such a
@@ -61,4 +60,4 @@ pub record IsServing (files : CommandFiles) (gives : Option Listener → Type 0)
       → LeavesNow (files.image.served_state ready.has.opened)
       (KeepsFront files.image.Served ready.plan base accepted given)
       → KeepsOver IsShipped files.image.served_state ready.plan ready.has.opened policy keeper
-      served.last served.other served.comes base accepted given
+      served.last ending.fault served.comes base accepted given

@@ -11,7 +11,7 @@ use crate::unwritten::ShownImage;
 use lift_base::text::Watched;
 use lift_disk::{BufferedFile, FileFault, SectorFile};
 use lift_replay::Verdict;
-use lift_serve::Ended;
+use lift_serve::ServingEnd;
 use std::io::Write;
 
 /// How the program ends, over the devices that it makes, shows and serves, the files of images that are
@@ -25,9 +25,9 @@ pub enum End<M, S, V, F: Drop, O: Drop> {
     Formatted(Left<M>),
     /// The open calls of the journal on this file were written.
     Shown(Left<S>),
-    /// The building was served on this port, over this image; a fault that did not end that is told.
-    /// Where none is, so many connections have ended.
-    Served(u16, Option<Fault>, Left<V>, Option<Ended>),
+    /// The building was served on this port, over this image, and the serving ended so: only a serving
+    /// makes that. What is told of it is a fault of the device, and else what it was refused.
+    Served(u16, Option<Fault>, Left<V>, ServingEnd),
     /// The work is undone, and nothing was asked of an image.
     Failed(Fault, Left<O>),
     /// No image was had, for this.
@@ -43,7 +43,7 @@ pub enum End<M, S, V, F: Drop, O: Drop> {
 }
 
 /// How a command ends over files that this opens.
-pub(crate) type EndBy<I, T> = End<SectorFile<T>, ShownImage<T>, BufferedFile<T>, T, I>;
+pub type EndBy<I, T> = End<SectorFile<T>, ShownImage<T>, BufferedFile<T>, T, I>;
 
 /// Writes the line of a fault of a serving at its end: but that a device failed was told when it did.
 fn tell_at_end<E: Write + Drop>(fault: &Fault, errors: &mut Watched<E>)

@@ -24,7 +24,7 @@ mod starting;
 mod unwritten;
 mod words;
 
-pub use end::End;
+pub use end::{End, EndBy};
 pub use fault::{Fault, Role};
 pub use given::Given;
 pub use left::Left;

@@ -5,8 +5,7 @@ ghost use Rattle.lift_policy.specs.Choices.{IsShipped};
 ghost use Rattle.lift_relay.specs.Heard.{FailureHeard};
 ghost use Rattle.lift_serve.specs.Open.{AreEndedAt};
 ghost use Rattle.lift_serve.specs.Relaying.{ComesTo};
-ghost use Rattle.lift_program.specs.Ends.{IsFailureTold, IsServingFault, TellsLine};
-ghost use Rattle.lift_program.specs.Ends.{line_at_once_in};
+ghost use Rattle.lift_program.specs.Ends.{IsFailureTold, TellsLine, line_at_once_in};
 ghost use Rattle.lift_program.specs.Faults.{served_fault};
 ghost use Rattle.lift_program.specs.Serving.{IsServedOver};
 
@@ -18,7 +17,7 @@ use core::mem::replace_with;
 use lift_base::text::Watched;
 use lift_disk::Disk;
 use lift_policy::Shipped;
-use lift_serve::{Ended, NoWitness, Prepared, Refusal, Served};
+use lift_serve::{NoWitness, Prepared, Refusal, Served, ServingEnd};
 use std::alloc::Global;
 use std::io::Write;
 use std::sync::Wait;
@@ -35,34 +34,33 @@ fn fault_of(is_broken: bool, fault: Option<Refusal>) -> Option<Fault>
     Some(Fault::from(fault?))
 }
 
-/// What a serving came to, the image as it was left, and that so many connections have ended, unless
-/// they have not.
+/// What is told of a serving, the image as it was left, and how the serving ended.
 #[derive(Drop)]
 pub struct Serving<D> {
     pub fault: Option<Fault>,
     pub left: Left<D>,
-    pub ended: Option<Ended>,
+    pub end: ServingEnd,
 }
 
 /// What came of the serving.
 fn serving_of<D: Disk + Drop, E: Write + Drop>(
     served: Served<'_, D, ImageKey<E>, NoWitness>,
 ) -> Serving<D>
-    ensures fault { result.fault ≡ served_fault served.entry.keeper.writer.is_broken served.entry.fault }
+    ensures fault { result.fault
+        ≡ served_fault served.entry.keeper.writer.is_broken served.entry.end.fault }
     ensures left { result.left ≡ served.entry.keeper.writer.device }
-    ensures ended { result.ended ≡ served.entry.ended }
+    ensures end { result.end ≡ served.entry.end }
 {
     let Served {
         keeper,
-        fault,
-        ended,
+        end,
         witness: _,
     } = served;
     let is_broken = keeper.keeper().is_broken();
     Serving {
-        fault: fault_of(is_broken, fault),
+        fault: fault_of(is_broken, end.fault()),
         left: left_by(keeper),
-        ended,
+        end,
     }
 }
 
@@ -78,26 +76,24 @@ where
     D: Disk + Drop,
     E: Write + Drop,
     ensures comes { ComesTo IsShipped D.state prepared.entry.policy prepared.entry.keeper result.1.keeper
-        result.1.fault }
+        result.1.end.fault }
     ensures heard { FailureHeard (IsFailureTold E.contents) prepared.entry.keeper.writer.is_broken
         result.1.keeper.writer.is_broken errors result.0 }
-    ensures ended { IfSome result.1.ended
+    ensures ended { IfSome result.1.end.ended
         (AreEndedAt prepared.entry.listening prepared.entry.sessions) }
-    ensures counted { result.1.fault ≡ None → IsSome result.1.ended }
+    ensures counted { result.1.end.fault ≡ None → IsSome result.1.end.ended }
 {
     let told = AtOnce { errors };
     let served = lift_serve::serve(rt, alloc, prepared, told);
     let Served {
         keeper,
-        fault,
-        ended,
+        end,
         witness,
     } = served;
     let AtOnce { errors } = witness;
     let behind = Served {
         keeper,
-        fault,
-        ended,
+        end,
         witness: NoWitness,
     };
     (errors, behind)
@@ -116,12 +112,12 @@ where
     D: Disk + Drop,
     E: Write + Drop,
     ensures comes { ComesTo IsShipped D.state prepared.entry.policy prepared.entry.keeper result.keeper
-        result.fault }
+        result.end.fault }
     ensures heard { FailureHeard (IsFailureTold E.contents) prepared.entry.keeper.writer.is_broken
         result.keeper.writer.is_broken errors.old errors.new }
-    ensures ended { IfSome result.ended
+    ensures ended { IfSome result.end.ended
         (AreEndedAt prepared.entry.listening prepared.entry.sessions) }
-    ensures counted { result.fault ≡ None → IsSome result.ended }
+    ensures counted { result.end.fault ≡ None → IsSome result.end.ended }
 {
     replace_with(
         errors,
@@ -131,13 +127,13 @@ where
             Served<D, ImageKey<E>, NoWitness>,
         )
             ensures comes { ComesTo IsShipped D.state prepared.entry.policy prepared.entry.keeper
-                result.1.keeper result.1.fault }
+                result.1.keeper result.1.end.fault }
             ensures heard { FailureHeard (IsFailureTold E.contents)
                 prepared.entry.keeper.writer.is_broken result.1.keeper.writer.is_broken errors
                 result.0 }
-            ensures ended { IfSome result.1.ended
+            ensures ended { IfSome result.1.end.ended
                 (AreEndedAt prepared.entry.listening prepared.entry.sessions) }
-            ensures counted { result.1.fault ≡ None → IsSome result.1.ended }
+            ensures counted { result.1.end.fault ≡ None → IsSome result.1.end.ended }
         { serve_owning(rt, alloc, prepared, errors) },
     )
 }
@@ -153,8 +149,7 @@ pub(crate) fn serve<R: Threads + Wait + Clock + Sync, D: Disk + Drop, E: Write +
 ) -> Serving<D>
     requires { prepared.keeper.writer.is_broken ≡ false }
     ensures served { IsServedOver D.state prepared.entry.policy prepared.entry.listening
-        prepared.entry.sessions prepared.entry.keeper result.fault result.left result.ended }
-    ensures serving { IfSome result.fault IsServingFault }
+        prepared.entry.sessions prepared.entry.keeper result.fault result.left result.end }
     // The line of a device that failed was written before the end, and no other.
     ensures at_once { TellsLine E.contents (line_at_once_in result.fault) errors.old errors.new }
 {

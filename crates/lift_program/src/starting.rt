@@ -1,11 +1,11 @@
-//! From the program's words to its status.
+//! From the program's words to its end.
 
-ghost use Rattle.std.specs.Prelude.{◌≡◌, ◌≢◌, Some, map, IfSome};
+ghost use Rattle.std.specs.Prelude.{◌≡◌, ◌≢◌, Some, map};
 ghost use Rattle.std.specs.IoError.{error_kind};
-ghost use Rattle.lift_program.specs.Ends.{IsAnswered, IsEndOf, IsReportOfEnd, IsStatusFor};
-ghost use Rattle.lift_program.specs.Ends.{IsUncalled, TellsLine, line_at_once, line_of, undone_for};
+ghost use Rattle.lift_program.specs.Ends.{IsAnswered, IsEndOf, IsReportOfEnd, TellsLine, line_of};
+ghost use Rattle.lift_program.specs.Ends.{undone_for};
 ghost use Rattle.lift_program.specs.Listening.{local};
-ghost use Rattle.lift_program.specs.Output.{IsWrittenOrFailed, WriterHasFailed};
+ghost use Rattle.lift_program.specs.Output.{WriterHasFailed};
 ghost use Rattle.lift_program.specs.declared.fault.Role.TheVariants.{Output};
 
 use crate::end::{End, EndBy};
@@ -36,7 +36,7 @@ pub fn not_given<E: Write + Drop>(
 ) -> End<(), (), (), (), ()>
     ensures memory { error_kind error ≡ ErrorKind.OutOfMemory → result ≡ End.Failed (Fault.Memory tt) tt }
     ensures other { error_kind error ≢ ErrorKind.OutOfMemory → result ≡ End.OtherWords tt }
-    ensures told { IfSome (line_of result) (IsWrittenOrFailed E.contents errors.old errors.new) }
+    ensures told { TellsLine E.contents (line_of result) errors.old errors.new }
 {
     let end = match NoMemory::of_call(&error) {
         Some(no_memory) => End::Failed(Fault::Memory(no_memory), Left::new(())),
@@ -46,56 +46,14 @@ pub fn not_given<E: Write + Drop>(
     end
 }
 
-/// Does what the words behind the program's name ask for, and answers how it ended. Only a serving
-/// waits, once all that it takes was had: whatever it waits for, and whether or not it ever ends,
-/// nothing was opened but what the words asked for.
+/// Does what the words behind the program's name ask for, and answers how that ended, whose `status` is
+/// the program's: 0 where all was done, 1 for a bad script or a fault, 2 for other words. A fault writes
+/// its line to `errors`, and so do other words; where that fails, the status alone tells. A request for
+/// help is told how the program is called. What opens the files and the socket is used up: nothing is
+/// opened twice, and no file or socket but these. Only a serving waits, once all that it takes was had:
+/// whatever it waits for, and whether or not it ever ends, nothing was opened but what the words asked
+/// for.
 #[inline(never)]
-fn carry_out<
-    F: Threads + Wait + Clock + Sync,
-    B: TextOpener,
-    I: FileOpener,
-    L: Listens,
-    S: AsStr,
-    R: Read + Drop,
-    W: Outflow,
-    E: Write + Drop,
->(
-    rt: &F,
-    given: Given<'_, B, I, L, S, E>,
-    alloc: Global,
-    input: &mut Counted<R>,
-    writer: &mut W,
-    errors: &mut Watched<E>,
-) -> EndBy<I, I::Told>
-    requires uncalled { IsUncalled input.old }
-    ensures end { IsEndOf (⟦<Files<B, I> as FilesView>⟧.view given.entry.files)
-        (L.gives given.entry.socket local) (R.remaining input.old.reader)
-        (map S.text given.entry.words.now) (W.contents writer.old) (W.contents writer.new) result }
-    ensures report { IsReportOfEnd (R.remaining input.old.reader) result (W.contents writer.old)
-        (W.contents writer.new) }
-    ensures answered { result ≡ End.OtherWords given.entry.files.image
-        → IsAnswered (map S.text given.entry.words.now)
-        (WriterHasFailed W.gives W.flushes writer.old writer.new) (W.contents writer.old)
-        (W.contents writer.new) }
-    ensures unwritten { undone_for result ≡ Some (Fault.File Output)
-        → WriterHasFailed W.gives W.flushes writer.old writer.new }
-    // Nothing is told before the end but of a device that failed while it was served.
-    ensures at_once { TellsLine E.contents (line_at_once result) errors.old errors.new }
-{
-    let mut place = None;
-    match given.prepare(alloc, &mut place, input, writer) {
-        Ok(Ready { port, prepared }) => {
-            let serving = serve(rt, alloc, prepared, errors);
-            End::Served(port, serving.fault, serving.left, serving.ended)
-        }
-        Err(end) => end,
-    }
-}
-
-/// Does what the words behind the program's name ask for, and answers the status: 0 where all was
-/// done, 1 for a bad script or a fault, 2 for other words. A fault writes its line to `errors`, and
-/// so do other words; a request for help is told how the program is called. What opens the files and
-/// the socket is used up: nothing is opened twice, and no file or socket but these.
 pub fn start<
     F: Threads + Wait + Clock + Sync,
     B: TextOpener,
@@ -112,15 +70,33 @@ pub fn start<
     reader: R,
     writer: &mut W,
     errors: &mut Watched<E>,
-) -> u8
-    // It is the status of an end that the words come to, with its report, and which is told.
-    ensures status { IsStatusFor (⟦<Files<B, I> as FilesView>⟧.view given.entry.files)
-        (L.gives given.entry.socket local) E.contents (map S.text given.entry.words.now)
-        (R.remaining reader) (W.contents writer.old) (W.contents writer.new)
-        (WriterHasFailed W.gives W.flushes writer.old writer.new) errors.old errors.new result }
+) -> EndBy<I, I::Told>
+    // The words come to this end,
+    ensures end { IsEndOf (⟦<Files<B, I> as FilesView>⟧.view given.entry.files)
+        (L.gives given.entry.socket local) (R.remaining reader) (map S.text given.entry.words.now)
+        (W.contents writer.old) (W.contents writer.new) result }
+    // whose report was written,
+    ensures report { IsReportOfEnd (R.remaining reader) result (W.contents writer.old)
+        (W.contents writer.new) }
+    ensures answered { result ≡ End.OtherWords given.entry.files.image
+        → IsAnswered (map S.text given.entry.words.now)
+        (WriterHasFailed W.gives W.flushes writer.old writer.new) (W.contents writer.old)
+        (W.contents writer.new) }
+    // which is a fault of the standard output only where that has failed,
+    ensures unwritten { undone_for result ≡ Some (Fault.File Output)
+        → WriterHasFailed W.gives W.flushes writer.old writer.new }
+    // and whose line was told, and nothing else.
+    ensures told { TellsLine E.contents (line_of result) errors.old errors.new }
 {
     let mut input = Counted::new(reader);
-    let end = carry_out(rt, given, alloc, &mut input, writer, errors);
+    let mut place = None;
+    let end = match given.prepare(alloc, &mut place, &mut input, writer) {
+        Ok(Ready { port, prepared }) => {
+            let serving = serve(rt, alloc, prepared, errors);
+            End::Served(port, serving.fault, serving.left, serving.end)
+        }
+        Err(end) => end,
+    };
     end.tell(errors);
-    end.status()
+    end
 }

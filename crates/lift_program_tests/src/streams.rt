@@ -94,7 +94,8 @@ impl Run {
             reader,
             &mut report,
             &mut Watched::new(&mut errors),
-        );
+        )
+        .status();
         Run {
             status,
             report,
@@ -131,7 +132,8 @@ where
         b"".as_slice(),
         writer,
         &mut Watched::new(&mut errors),
-    );
+    )
+    .status();
     status == 1 && errors.as_slice() == b"liftd: file\n".as_slice()
 }
 
@@ -178,7 +180,8 @@ fn inputs_that_fail(rt: HostRuntime) {
             Failing,
             &mut report,
             &mut errors,
-        );
+        )
+        .status();
         let is_silent = report.is_empty() && errors.failed();
         assert!(rt; status == wanted && is_silent, "{word}");
     }

@@ -19,6 +19,11 @@ pub record EndedState : Type 0 where
   pub listener : Listener
   pub sessions : ℕ
 
+-- how a serving ended: what it was refused, and that so many connections have ended
+pub record ServingEndState : Type 0 where
+  pub fault : Option ServeFault
+  pub ended : Option EndedState
+
 -- one more, up to so many
 abbrev pub one_more : (most count : ℕ) → ℕ
 one_more most count = if nat_lt count most then suc count else count

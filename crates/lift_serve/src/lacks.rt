@@ -13,9 +13,10 @@ ghost use Rattle.lift_parts.specs.History.{group_behind};
 ghost use Rattle.lift_parts.specs.Parts.{AreParts};
 ghost use Rattle.lift_relay.specs.Heard.{FailureHeard};
 ghost use Rattle.lift_serve.specs.declared.serving.ServeFault.{ServeFault};
-ghost use Rattle.lift_serve.specs.Open.{EndedState, IsEndAt, ended_in, first_told, told_behind};
+ghost use Rattle.lift_serve.specs.Open.{EndedState, IsEndAt, ServingEndState, ended_in};
+ghost use Rattle.lift_serve.specs.Open.{first_told, told_behind};
 
-use crate::connections::{Awaited, Left, Over};
+use crate::connections::{Awaited, Ended, Left, Over};
 use crate::pager::Pager;
 use crate::relaying::Parts;
 use crate::seating::TERMINALS;
@@ -138,6 +139,44 @@ impl GivenUp {
     }
 }
 
+/// How a serving ended: what it was refused, if anything was, and that so many connections have ended,
+/// unless they haven't. Only what comes of the serving makes one: so nobody hides what was refused it,
+/// or tells more.
+#[derive(Drop)]
+pub struct ServingEnd {
+    fault: Option<Refusal>,
+    ended: Option<Ended>,
+}
+
+impl Model for ServingEnd {
+    ghost use Rattle.lift_serve.specs.Open.{ServingEndState};
+
+    ghost Value = { ServingEndState };
+
+    ghost view = { λ e. record { fault = e.fault; ended = e.ended } };
+}
+
+impl ServingEnd {
+    /// Nobody was served, for this.
+    pub(crate) fn unserved(refusal: Refusal) -> Self
+        ensures fault { result.fault ≡ Some refusal }
+        ensures ended { result.ended ≡ None }
+    {
+        ServingEnd {
+            fault: Some(refusal),
+            ended: None,
+        }
+    }
+
+    /// That no thread could be had for the serving itself, and else the first that was refused to the
+    /// rest.
+    pub fn fault(&self) -> Option<Refusal>
+        ensures { result ≡ self.now.fault }
+    {
+        self.fault
+    }
+}
+
 /// The first of what was wanting to a serving, if anything was. Only `note` adds to it. It can't be
 /// let go: what comes of the serving ends it, which takes the keeper and tells it.
 pub struct Lacks {
@@ -183,9 +222,9 @@ impl Lacks {
     ) -> Served<'b, D, K, V>
         ensures keeper { result.keeper ≡ keeper.entry }
         ensures witness { result.witness ≡ witness }
-        ensures fault { result.fault ≡ told_behind over self }
-        ensures begun { result.fault ≢ Some ServeFault.Network }
-        ensures ended { result.ended ≡ ended_in over }
+        ensures fault { result.end.fault ≡ told_behind over self }
+        ensures begun { result.end.fault ≢ Some ServeFault.Network }
+        ensures ended { result.end.ended ≡ ended_in over }
     {
         let Lacks { first } = self;
         let (ended, fault) = match over {
@@ -194,8 +233,7 @@ impl Lacks {
         };
         Served {
             keeper,
-            fault,
-            ended,
+            end: ServingEnd { fault, ended },
             witness,
         }
     }
@@ -211,8 +249,8 @@ impl Lacks {
         ensures keeper { result.keeper ≡ keeper.entry }
         ensures heard { FailureHeard V.hears keeper.entry.writer.is_broken
             result.keeper.writer.is_broken witness result.witness }
-        ensures fault { result.fault ≡ Some lacking }
-        ensures ended { result.ended ≡ None }
+        ensures fault { result.end.fault ≡ Some lacking }
+        ensures ended { result.end.ended ≡ None }
     {
         let Lacks { first: _ } = self;
         unserved(keeper, witness, lacking.told())

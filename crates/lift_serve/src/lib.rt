@@ -23,11 +23,11 @@ mod speaking;
 mod waking;
 
 pub use attending::{Attended, Outcome, attend};
-pub use connections::{Ended, Ticket};
+pub use connections::Ticket;
 pub use first_line::terminal_of;
 pub use held::Held;
 pub use keeping::journals_keep;
-pub use lacks::Refusal;
+pub use lacks::{Refusal, ServingEnd};
 pub use lift_relay::{Failed, HeardBy, HeldKeeper, NoWitness, Witness};
 pub use lobby::{Absent, Lobby, Missing, NoSeat, Returned, Vacancy};
 pub use pace::{AskBell, Bells, Pace, Rang};

@@ -12,9 +12,10 @@ ghost use Rattle.lift_serve.specs.Open.{AreEndedAt, IsEndAt};
 ghost use Rattle.lift_serve.specs.Relaying.{ComesTo, HaveRunOn, Relayed};
 ghost use Rattle.lift_serve.specs.Visits.{IsNewSeat};
 
-use crate::connections::{Connection, Connections, Ended, Left, Over, Reading};
+use crate::connections::{Connection, Connections, Left, Over, Reading};
 use crate::lacks::{
-    EndAt, GivenUp, Lacking, Refusal, closer_of, open_desk, part, start_accepting, start_session,
+    EndAt, GivenUp, Lacking, Refusal, ServingEnd, closer_of, open_desk, part, start_accepting,
+    start_session,
 };
 use crate::lobby::Lobby;
 use crate::pace::{Bells, Closing, Pace};
@@ -85,11 +86,9 @@ pub struct Served<'b, D: Disk + Drop, K: Drop, V: Witness + Drop> {
     /// The keeper behind the last turn, or as it was where none was made. It is broken where a call
     /// of the device failed.
     pub keeper: HeldKeeper<'b, D, K>,
-    /// That no thread could be had for the serving itself, and else the first that was refused to
-    /// the rest.
-    pub fault: Option<Refusal>,
-    /// That so many connections have ended at the socket, unless all were given up.
-    pub ended: Option<Ended>,
+    /// What was refused, and that so many connections have ended at the socket, unless all were given
+    /// up.
+    pub end: ServingEnd,
     /// Who has heard where the device failed.
     pub witness: V,
 }
@@ -296,13 +295,12 @@ pub(crate) fn unserved<'b, D: Disk + Drop, K: Drop, V: Witness + Drop>(
     ensures keeper { result.keeper ≡ keeper.entry }
     ensures heard { FailureHeard V.hears keeper.entry.writer.is_broken result.keeper.writer.is_broken
         witness result.witness }
-    ensures fault { result.fault ≡ Some refusal }
-    ensures ended { result.ended ≡ None }
+    ensures fault { result.end.fault ≡ Some refusal }
+    ensures ended { result.end.ended ≡ None }
 {
     Served {
         keeper,
-        fault: Some(refusal),
-        ended: None,
+        end: ServingEnd::unserved(refusal),
         witness,
     }
 }
@@ -331,11 +329,11 @@ where
         ≡ found_seats clerk.keeper.state.register clerk.desk (seats_from 0 clerk.desk) }
     requires count { length clerk.desk ≡ 16 + length clerk.keeper.writer.plan.kiosks }
     ensures comes { ComesTo P.chooses D.state clerk.entry.policy clerk.entry.keeper result.keeper
-        result.fault }
+        result.end.fault }
     ensures heard { FailureHeard V.hears clerk.entry.keeper.writer.is_broken
         result.keeper.writer.is_broken witness result.witness }
-    ensures ended { IfSome result.ended (AreEndedAt listener.now sessions) }
-    ensures counted { result.fault ≡ None → IsSome result.ended }
+    ensures ended { IfSome result.end.ended (AreEndedAt listener.now sessions) }
+    ensures counted { result.end.fault ≡ None → IsSome result.end.ended }
 {
     let lobby = Mutex::new(lobby);
     let connections = Mutex::new(connections);
@@ -390,11 +388,11 @@ where
     requires all { seats.items ≡ seats_from 0 clerk.desk }
     requires count { length clerk.desk ≡ 16 + length clerk.keeper.writer.plan.kiosks }
     ensures comes { ComesTo P.chooses D.state clerk.entry.policy clerk.entry.keeper result.keeper
-        result.fault }
+        result.end.fault }
     ensures heard { FailureHeard V.hears clerk.entry.keeper.writer.is_broken
         result.keeper.writer.is_broken witness result.witness }
-    ensures ended { IfSome result.ended (AreEndedAt listener.now sessions) }
-    ensures counted { result.fault ≡ None → IsSome result.ended }
+    ensures ended { IfSome result.end.ended (AreEndedAt listener.now sessions) }
+    ensures counted { result.end.fault ≡ None → IsSome result.end.ended }
 {
     let register = clerk.keeper().register();
     let lobby = lobby_of(clerk.desk(), pagers, seats, register);
@@ -436,15 +434,15 @@ where
     // What the keeper has at the end came to it by the turns of the two parts of a clerk with this
     // policy, and by its last one; or it is as it was, and why is told.
     ensures comes { ComesTo P.chooses D.state prepared.entry.policy prepared.entry.keeper result.keeper
-        result.fault }
+        result.end.fault }
     // The witness has heard that the device failed, once, where the keeper is broken that wasn't;
     // else it is as it was.
     ensures heard { FailureHeard V.hears prepared.entry.keeper.writer.is_broken
         result.keeper.writer.is_broken witness result.witness }
     // It tells that connections have ended only where so many have at this socket, and tells no fault
     // only where it tells that.
-    ensures ended { IfSome result.ended (AreEndedAt prepared.entry.listening prepared.entry.sessions) }
-    ensures counted { result.fault ≡ None → IsSome result.ended }
+    ensures ended { IfSome result.end.ended (AreEndedAt prepared.entry.listening prepared.entry.sessions) }
+    ensures counted { result.end.fault ≡ None → IsSome result.end.ended }
 {
     let Prepared {
         listening,

@@ -76,7 +76,7 @@ where
             let prepared = Prepared::new(listening, sessions, held, policy);
             let served = serve(rt, alloc, prepared, NoWitness);
             ended.store(1, Ordering::SeqCst);
-            if served.fault.is_some() || served.ended.is_none() {
+            if served.end.fault().is_some() {
                 return None;
             }
             Some(served.keeper.release(Own { made: () }))

@@ -35,7 +35,8 @@ fn main(rt: HostRuntime) -> ExitCode {
             rt.stdin(),
             &mut rt.stdout(),
             &mut errors,
-        ),
+        )
+        .status(),
         Err(error) => not_given(error, &mut errors).status(),
     };
     ExitCode::from(status)
