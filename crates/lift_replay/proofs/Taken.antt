@@ -1,6 +1,6 @@
 -- What was taken from a reader.
-use Rattle.std.proofs.Common.{◌≡◌, ℕ, suc, ◌+◌, ◌<◌, ◌≤◌, List, ◌++◌, length, length-append, refl, ap, sym, ◌∙◌, [], inr, arith}
-use Rattle.std.specs.Prelude.{Option, Some, None, IfSome}
+use Rattle.std.proofs.Common.{◌≡◌, ℕ, suc, ◌+◌, ◌<◌, ◌≤◌, List, ◌++◌, length, length-append, refl, ap, sym, subst, ◌∙◌, [], inr, arith}
+use Rattle.std.specs.Prelude.{Option, Some, None, IfSome, Result, Err, IsErrAnd}
 use Rattle.std.specs.Io.KnownBytes.{Consumes, IsAtEnd}
 use Rattle.std.proofs.lemmas.List.{append-nil}
 use Rattle.std.proofs.KnownBytes.{Consumes-trans}
@@ -23,6 +23,10 @@ pub each_on : {R : Type 0} (remaining : R → Option (List ℕ)) (n m : ℕ) (ol
     → (more : List ℕ) × (next ≡ items ++ more) × Consumes (remaining mid.reader) (remaining new.reader) more → (calls : ℕ) × GiveEach remaining calls next old new
 each_on remaining n m old mid new items next is next_is grows (calls, each) one (more, whole, taken) =
     (suc calls, (mid, items, more, each, (one, taken), omega (arith, is, next_is, grows, ap length whole, length-append items more), whole))
+
+-- what is known of a fault that is handed on
+pub handed_on : {T E : Type 0} (P : Type 0) (result : Result T E) (fault wanted : E) → IsErrAnd result (λ told. told ≡ fault) → (fault ≡ wanted → P) → result ≡ Err wanted → P
+handed_on P result fault wanted is holds same = holds (sym (subst (λ r. IsErrAnd r (λ told. told ≡ fault)) same is))
 
 -- what was taken is too long, so all of it is
 pub long_input : (most : ℕ) (old new : Option (List ℕ)) (bytes : List ℕ) → Consumes old new bytes → most < length bytes → (all : List ℕ) × IsInput old all × (most < length all)

@@ -13,6 +13,7 @@ use Rattle.lift_program.specs.declared.fault.Fault.TheVariants.{File}
 use Rattle.lift_program.specs.declared.fault.Role.TheVariants.{Output}
 use Rattle.lift_program.proofs.Asked.{served_end}
 use Rattle.lift_program.proofs.Telling.{told_once}
+use Rattle.lift_program.proofs.starting.start.Goals.{in-Ok, in-Err}
 use Rattle.lift_program.proofs.starting.start.Goals as goal
 
 pub returns-clause-end : goal.returns-clause-end
