@@ -421,6 +421,19 @@ IsReportOfEnd input (Unshown fault left) before after = IsReportOfFault fault be
 IsReportOfEnd input (Unserved fault left) before after = IsReportOfFault fault before after
 IsReportOfEnd input (OtherWords unused) before after = Unit {0}
 
+-- Where all was done, what was written was passed on.
+abbrev pub IsPassedOn : {M S V F O : Type 0} → End M S V F O → (is_flushed : Type 0) → Type 0
+IsPassedOn (Replayed verdict unused) is_flushed = is_flushed
+IsPassedOn (Formatted disk) is_flushed = Unit {0}
+IsPassedOn (Shown disk) is_flushed = is_flushed
+IsPassedOn (Served port fault left ending) is_flushed = is_flushed
+IsPassedOn (Failed fault unused) is_flushed = Unit {0}
+IsPassedOn (NoImage fault cause) is_flushed = Unit {0}
+IsPassedOn (Unformatted fault left) is_flushed = Unit {0}
+IsPassedOn (Unshown fault left) is_flushed = Unit {0}
+IsPassedOn (Unserved fault left) is_flushed = Unit {0}
+IsPassedOn (OtherWords unused) is_flushed = Unit {0}
+
 -- What was written for words that ask for nothing: how the program is called, where they ask for help,
 -- and else nothing.
 pub record IsAnswered (words : List Text) (has_failed : Type 0)

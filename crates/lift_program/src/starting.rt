@@ -3,9 +3,9 @@
 ghost use Rattle.std.specs.Prelude.{◌≡◌, ◌≢◌, Some, map};
 ghost use Rattle.std.specs.IoError.{error_kind};
 ghost use Rattle.lift_program.specs.Ends.{IsAnswered, IsEndOf, IsReportOfEnd, TellsLine, line_of};
-ghost use Rattle.lift_program.specs.Ends.{undone_for};
+ghost use Rattle.lift_program.specs.Ends.{IsPassedOn, undone_for};
 ghost use Rattle.lift_program.specs.Listening.{local};
-ghost use Rattle.lift_program.specs.Output.{WriterHasFailed};
+ghost use Rattle.lift_program.specs.Output.{IsFlushed, WriterHasFailed};
 ghost use Rattle.lift_program.specs.declared.fault.Role.TheVariants.{Output};
 
 use crate::end::{End, EndBy};
@@ -85,7 +85,9 @@ pub fn start<
     // which is a fault of the standard output only where that has failed,
     ensures unwritten { undone_for result ≡ Some (Fault.File Output)
         → WriterHasFailed W.gives W.flushes writer.old writer.new }
-    // and whose line was told, and nothing else.
+    // what was written was passed on where all was done,
+    ensures passed_on { IsPassedOn result (IsFlushed W.gives W.flushes writer.old writer.new) }
+    // and its line was told, and nothing else.
     ensures told { TellsLine E.contents (line_of result) errors.old errors.new }
 {
     let mut input = Counted::new(reader);

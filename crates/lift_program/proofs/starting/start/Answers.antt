@@ -5,10 +5,10 @@ use Rattle.lift_base.specs.Output.{OutputState}
 use Rattle.lift_disk.specs.Below.{buffered_state_of}
 use Rattle.lift_disk.specs.Files.{sector_file_state_of}
 use Rattle.lift_program.specs.Images.{CommandFiles, IsTextRead, image_files}
-use Rattle.lift_program.specs.Ends.{EndOver, IsEndOf, TellsLine, line_at_once, line_at_once_in, undone_for}
+use Rattle.lift_program.specs.Ends.{EndOver, IsEndOf, IsPassedOn, TellsLine, line_at_once, line_at_once_in, undone_for}
 use Rattle.lift_program.specs.Listening.{local}
 use Rattle.lift_program.specs.Stages.{IsNoText}
-use Rattle.lift_program.specs.Output.{WriterHasFailed}
+use Rattle.lift_program.specs.Output.{IsFlushed, WriterHasFailed}
 use Rattle.lift_program.specs.Unwritten.{unwritten_state_of}
 use Rattle.lift_program.specs.declared.fault.Fault.TheVariants.{File}
 use Rattle.lift_program.specs.declared.fault.Role.TheVariants.{Output}
@@ -44,6 +44,14 @@ returns-clause-unwritten g c =
     elim c.match-prepare.branch [
       | in-Ok w ↦ λ is. let e = w.end-is in absurd (cc)
       | in-Err w ↦ λ is. w.in-Err.ensures.unwritten (subst (λ e. undone_for e ≡ Some (File Output)) w.end-is is)
+    ]
+
+pub returns-clause-passed_on : goal.returns-clause-passed_on
+returns-clause-passed_on g c =
+    let flushed = IsFlushed g.W.Outlet.gives g.W.Outflow.flushes c.args.writer.now c.prepare.new.writer in
+    elim c.match-prepare.branch [
+      | in-Ok w ↦ subst (λ e. IsPassedOn e flushed) (sym w.end-is) w.in-Ok.ensures.said_on
+      | in-Err w ↦ subst (λ e. IsPassedOn e flushed) (sym w.end-is) w.in-Err.ensures.passed_on
     ]
 
 pub returns-clause-told : goal.returns-clause-told
