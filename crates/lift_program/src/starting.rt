@@ -52,7 +52,7 @@ pub fn not_given<E: Write + Drop>(
 /// help is told how the program is called. What opens the files and the socket is used up: nothing is
 /// opened twice, and no file or socket but these. Only a serving waits, once all that it takes was had:
 /// whatever it waits for, and whether or not it ever ends, nothing was opened but what the words asked
-/// for.
+/// for, and nothing is read.
 #[inline(never)]
 pub fn start<
     F: Threads + Wait + Clock + Sync,
@@ -94,6 +94,7 @@ pub fn start<
     let mut place = None;
     let end = match given.prepare(alloc, &mut place, &mut input, writer) {
         Ok(Ready { port, prepared }) => {
+            drop(input);
             let serving = serve(rt, alloc, prepared, errors);
             End::Served(port, serving.fault, serving.left, serving.end)
         }
