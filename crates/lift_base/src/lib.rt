@@ -5,6 +5,7 @@ mod checked;
 mod command;
 mod count;
 mod history;
+mod limits;
 mod lists;
 mod memory;
 pub mod text;
@@ -14,6 +15,9 @@ pub use checked::{Floor, Letter, Number, Party, Terminal};
 pub use command::{Body, Reason, Reply};
 pub use count::ProofCount;
 pub use history::{Content, Entry, Last, MOST_DONE, Record, Row, Shape, count_unchanged};
+pub use limits::{
+    MOST_CARS, MOST_ENTRIES, MOST_FLOORS, MOST_HALTS, MOST_KIOSKS, MOST_ROWS, MOST_TERMINALS,
+};
 pub use lists::push_some;
 pub use memory::{
     Memory, push, push_all, queue_behind, reserve, reserve_one, table_of_words, two_owners,

@@ -3,10 +3,11 @@
 ghost use Rattle.std.specs.Prelude.{◌≡◌, ◌<◌, ◌++◌, length};
 ghost use Rattle.std.specs.Option.{option_to_list};
 
+use crate::limits::MOST_ENTRIES;
 use arrayvec::ArrayVec;
 
-/// Adds an item to a list of 63 at most, if there is one.
-pub fn push_some<T: Copy>(list: &mut ArrayVec<T, 63>, item: Option<T>)
+/// Adds an item to a batch, if there is one.
+pub fn push_some<T: Copy>(list: &mut ArrayVec<T, MOST_ENTRIES>, item: Option<T>)
     requires { length list.old.items < 63 }
     ensures { list.new.items ≡ list.old.items ++ option_to_list item }
 {

@@ -17,7 +17,7 @@ fn push_flights(text: &mut String, from: u32) -> Result<(), AllocError> {
     text.push_str("],\n")
 }
 
-/// The building's text, with so many cars.
+/// The building's text, with this many cars.
 pub(crate) fn text_of(alloc: Global, cars: u8) -> Result<String, AllocError> {
     let mut text = String::from_str(alloc, "floors = 64\ndoor_ms = 6000\nkiosks = [")?;
     for kiosk in 0..47u32 {

@@ -1,4 +1,4 @@
-//! Decisions with so many open calls: new calls, by the cars' schedules and from nothing, and
+//! Decisions with this many open calls: new calls, by the cars' schedules and from nothing, and
 //! stops.
 ghost use Rattle.std.specs.Prelude.{◌<◌, Contains, length};
 ghost use Rattle.lift_policy.specs.View.{IsViewIn};
@@ -101,7 +101,7 @@ fn goal(place: u32) -> Floor {
     floor(if number < FROM { number } else { number + 1 })
 }
 
-/// So many calls, from the kiosks below the new call's in turn; each goes to the car with the
+/// This many calls, from the kiosks below the new call's in turn; each goes to the car with the
 /// fewest.
 fn fill(decider: &mut Decider, calls: u32) {
     for place in 0..calls {
@@ -131,7 +131,7 @@ fn round<P: Policy>(decider: &mut Decider, policy: &P) -> Option<Letter> {
     }
 }
 
-/// So many rounds; how many calls found a car.
+/// This many rounds; how many calls found a car.
 fn rounds<P: Policy>(decider: &mut Decider, times: u32, policy: &P) -> u32 {
     let mut taken = 0u32;
     for _ in 0..times {
@@ -142,14 +142,14 @@ fn rounds<P: Policy>(decider: &mut Decider, times: u32, policy: &P) -> u32 {
     taken
 }
 
-/// So many times the stops and the place of a round.
+/// This many times the stops and the place of a round.
 fn stops(decider: &mut Decider, car: Letter, times: u32) {
     for _ in 0..times {
         pass_by(decider, car);
     }
 }
 
-/// So many stops upwards, at two floors in turn, of a car that goes up.
+/// This many stops upwards, at two floors in turn, of a car that goes up.
 fn stops_ahead(decider: &mut Decider, car: Letter, times: u32) {
     for time in 0..times {
         let at = if time % 2 == 0 { FROM } else { TO };
@@ -157,7 +157,7 @@ fn stops_ahead(decider: &mut Decider, car: Letter, times: u32) {
     }
 }
 
-/// So many stops at one floor, each against the direction of the one before it.
+/// This many stops at one floor, each against the direction of the one before it.
 fn turns(decider: &mut Decider, car: Letter, times: u32) {
     for time in 0..times {
         let dir = if time % 2 == 0 { Dir::Down } else { Dir::Up };

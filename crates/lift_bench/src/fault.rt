@@ -1,4 +1,4 @@
-//! Why a workload ends undone.
+//! Why a workload fails.
 use lift_disk::{DiskFault, FileFault};
 use lift_journal::JournalFault;
 use std::alloc::AllocError;

@@ -22,7 +22,7 @@ fn stop() -> Record
     })
 }
 
-/// So many stops.
+/// This many stops.
 fn stops(count: usize) -> ArrayVec<Record, 63>
     requires { count ≤ 63 }
     ensures count { length result.items ≡ count }
@@ -45,7 +45,7 @@ fn journal_at<O: FileOpener>(opener: O, image: &str) -> Result<Journal<FileDisk<
     }
 }
 
-/// Makes an empty journal with so many sectors in a half.
+/// Makes an empty journal with this many sectors in a half.
 pub(crate) fn format<O: FileOpener>(opener: O, image: &str, half: u32) -> Result<(), Fault> {
     let shape = Shape {
         floors: 64,
@@ -111,7 +111,7 @@ pub(crate) fn walk<O: FileOpener>(opener: O, image: &str) -> Result<(u32, u64), 
     }
 }
 
-/// Appends so many batches of one record; how many had room.
+/// Appends this many batches of one record; how many had room.
 pub(crate) fn append<O: FileOpener>(opener: O, image: &str, count: u32) -> Result<u32, Fault> {
     let mut journal = journal_at(opener, image)?;
     let batch = stops(1);
@@ -126,7 +126,7 @@ pub(crate) fn append<O: FileOpener>(opener: O, image: &str, count: u32) -> Resul
     Ok(batches)
 }
 
-/// Reads the first sectors of a file in order, so many of those that are there.
+/// Reads the first sectors of a file in order, this many of those that are there.
 pub(crate) fn read<O: FileOpener>(opener: O, file: &str, sectors: u32) -> Result<u32, Fault> {
     let mut disk = FileDisk::open(opener, file)?;
     let mut buffer = [0; 512];
@@ -139,7 +139,7 @@ pub(crate) fn read<O: FileOpener>(opener: O, file: &str, sectors: u32) -> Result
     Ok(sectors)
 }
 
-/// Writes a sector of a new file and syncs it, so many times.
+/// Writes a sector of a new file and syncs it, this many times.
 pub(crate) fn sync<O: FileOpener>(opener: O, file: &str, count: u32) -> Result<(), Fault> {
     let mut disk = FileDisk::create(opener, file, 1000)?;
     for time in 0..count {

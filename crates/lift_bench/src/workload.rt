@@ -10,7 +10,7 @@ use lift_base::text::number_up_to;
 pub(crate) enum Workload<'a> {
     List,
     Decide(Load),
-    /// An empty journal with so many sectors in a half.
+    /// An empty journal with this many sectors in a half.
     Format(&'a str, u32),
     Fill(&'a str),
     Open(&'a str),
@@ -79,7 +79,7 @@ fn on_file<'a>(name: &str, file: &'a str, count: &str) -> Result<Workload<'a>, F
     })
 }
 
-/// What the words behind the program's name ask for; without words, the list of what there is.
+/// What the words after the program's name ask for; without words, the list of what there is.
 pub(crate) fn workload_of<'a>(words: &'a [String]) -> Result<Workload<'a>, Fault> {
     if words.is_empty() {
         return Ok(Workload::List);

@@ -17,7 +17,7 @@ use crate::layout::Layout;
 use crate::reading::layout_in;
 use crate::refused::NoMemory;
 use arrayvec::ArrayVec;
-use lift_base::{Floor, Halt, Letter, Position, Shape};
+use lift_base::{Floor, Halt, Letter, MOST_HALTS, Position, Shape};
 use std::alloc::Global;
 use std::marker::Model;
 use toml::Value;
@@ -210,7 +210,7 @@ impl Building {
     }
 
     /// When a car that leaves the position's floor now reaches each halt, in order.
-    pub fn arrivals(&self, position: Position, halts: &[Halt]) -> ArrayVec<u64, 66>
+    pub fn arrivals(&self, position: Position, halts: &[Halt]) -> ArrayVec<u64, MOST_HALTS>
         requires { length halts.now ≤ 66 }
         ensures value { result.items ≡ arrivals_of self.now position.floor halts.now }
         ensures laws { AreArrivals self.now position.floor halts.now result.items }

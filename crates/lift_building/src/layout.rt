@@ -5,25 +5,25 @@ ghost use Rattle.lift_building.specs.Plan.{flight_ms, places_of, serves_floor};
 ghost use Rattle.lift_building.specs.Layout.{layout_view};
 
 use arrayvec::ArrayVec;
-use lift_base::Floor;
+use lift_base::{Floor, MOST_CARS, MOST_FLOORS, MOST_KIOSKS};
 
 /// The flights from one floor, by the floor that they go to.
-pub(crate) type Flights = ArrayVec<u32, 64>;
+pub(crate) type Flights = ArrayVec<u32, MOST_FLOORS>;
 
 #[derive(Drop, Default)]
 pub(crate) struct Car {
     pub(crate) places: u8,
     /// For each floor whether the car serves it.
-    pub(crate) served: ArrayVec<bool, 64>,
+    pub(crate) served: ArrayVec<bool, MOST_FLOORS>,
 }
 
 #[derive(Drop)]
 pub(crate) struct Layout {
     pub(crate) floors: u32,
     pub(crate) door_ms: u32,
-    pub(crate) kiosks: ArrayVec<Floor, 47>,
-    pub(crate) flights: ArrayVec<Flights, 64>,
-    pub(crate) cars: ArrayVec<Car, 16>,
+    pub(crate) kiosks: ArrayVec<Floor, MOST_KIOSKS>,
+    pub(crate) flights: ArrayVec<Flights, MOST_FLOORS>,
+    pub(crate) cars: ArrayVec<Car, MOST_CARS>,
 }
 
 impl Layout {

@@ -15,7 +15,7 @@ ghost use Rattle.lift_building.specs.Gives.{Gives};
 use crate::fault::{BuildingFault, Field};
 use crate::layout::{Car, Flights, Layout};
 use arrayvec::ArrayVec;
-use lift_base::Floor;
+use lift_base::{Floor, MOST_CARS, MOST_FLOORS, MOST_KIOSKS};
 use toml::Value;
 
 /// The value of a key.
@@ -75,7 +75,7 @@ fn floor_in(field: Field, floors: u32, value: &Value) -> Result<Floor, BuildingF
 }
 
 /// The floors at which the kiosks stand.
-fn kiosks_among(floors: u32, items: &[Value]) -> Result<ArrayVec<Floor, 47>, BuildingFault>
+fn kiosks_among(floors: u32, items: &[Value]) -> Result<ArrayVec<Floor, MOST_KIOSKS>, BuildingFault>
     requires some { 1 ≤ floors }
     requires limit { floors ≤ 64 }
     requires room { length items.now ≤ 47 }
@@ -91,7 +91,7 @@ fn kiosks_among(floors: u32, items: &[Value]) -> Result<ArrayVec<Floor, 47>, Bui
 }
 
 #[tactic(auto, unfolding(crate::specs::Reading::floors_in))]
-fn kiosks_in(floors: u32, value: &Value) -> Result<ArrayVec<Floor, 47>, BuildingFault>
+fn kiosks_in(floors: u32, value: &Value) -> Result<ArrayVec<Floor, MOST_KIOSKS>, BuildingFault>
     requires some { 1 ≤ floors }
     requires limit { floors ≤ 64 }
     ensures { Gives (λ kiosks.
@@ -139,7 +139,7 @@ fn row_in(floors: u32, i: usize, value: &Value) -> Result<Flights, BuildingFault
     flights_among(i, items)
 }
 
-fn rows_among(floors: u32, items: &[Value]) -> Result<ArrayVec<Flights, 64>, BuildingFault>
+fn rows_among(floors: u32, items: &[Value]) -> Result<ArrayVec<Flights, MOST_FLOORS>, BuildingFault>
     requires limit { floors ≤ 64 }
     requires room { length items.now ≤ 64 }
     ensures { Gives (λ table.
@@ -153,7 +153,7 @@ fn rows_among(floors: u32, items: &[Value]) -> Result<ArrayVec<Flights, 64>, Bui
 }
 
 #[tactic(auto, unfolding(crate::specs::Reading::table_in))]
-fn table_in(floors: u32, value: &Value) -> Result<ArrayVec<Flights, 64>, BuildingFault>
+fn table_in(floors: u32, value: &Value) -> Result<ArrayVec<Flights, MOST_FLOORS>, BuildingFault>
     requires { floors ≤ 64 }
     ensures { Gives (λ table. rows_view table.items) result (table_in floors (view value.now)) }
 {
@@ -165,7 +165,7 @@ fn table_in(floors: u32, value: &Value) -> Result<ArrayVec<Flights, 64>, Buildin
 }
 
 /// The same flag for each floor.
-fn same_flags(floors: u32, flag: bool) -> ArrayVec<bool, 64>
+fn same_flags(floors: u32, flag: bool) -> ArrayVec<bool, MOST_FLOORS>
     requires { floors ≤ 64 }
     ensures { result.items ≡ replicate floors flag }
 {
@@ -177,7 +177,7 @@ fn same_flags(floors: u32, flag: bool) -> ArrayVec<bool, 64>
 }
 
 /// Sets the flag of a floor.
-fn mark(served: &mut ArrayVec<bool, 64>, floor: Floor)
+fn mark(served: &mut ArrayVec<bool, MOST_FLOORS>, floor: Floor)
     requires { floor < length served.old.items }
     ensures { served.new.items ≡ slice_set served.old.items floor true }
 {
@@ -185,7 +185,7 @@ fn mark(served: &mut ArrayVec<bool, 64>, floor: Floor)
 }
 
 /// A flag for each floor: whether it is among the items, each a floor of the building.
-fn flags_among(floors: u32, items: &[Value]) -> Result<ArrayVec<bool, 64>, BuildingFault>
+fn flags_among(floors: u32, items: &[Value]) -> Result<ArrayVec<bool, MOST_FLOORS>, BuildingFault>
     requires some { 1 ≤ floors }
     requires limit { floors ≤ 64 }
     ensures { Gives (λ served. served.items) result (flags_in floors (items_view items.now)) }
@@ -199,7 +199,10 @@ fn flags_among(floors: u32, items: &[Value]) -> Result<ArrayVec<bool, 64>, Build
 
 /// The floors that a car serves, all where none are listed.
 #[tactic(auto, unfolding(crate::specs::Reading::served_in, crate::specs::Reading::floors_in))]
-fn served_in(floors: u32, value: Option<&Value>) -> Result<ArrayVec<bool, 64>, BuildingFault>
+fn served_in(
+    floors: u32,
+    value: Option<&Value>,
+) -> Result<ArrayVec<bool, MOST_FLOORS>, BuildingFault>
     requires some { 1 ≤ floors }
     requires limit { floors ≤ 64 }
     ensures { Gives (λ served.
@@ -231,7 +234,7 @@ fn car_in(floors: u32, value: &Value) -> Result<Car, BuildingFault>
     Ok(Car { places, served })
 }
 
-fn cars_among(floors: u32, items: &[Value]) -> Result<ArrayVec<Car, 16>, BuildingFault>
+fn cars_among(floors: u32, items: &[Value]) -> Result<ArrayVec<Car, MOST_CARS>, BuildingFault>
     requires some { 1 ≤ floors }
     requires limit { floors ≤ 64 }
     requires room { length items.now ≤ 16 }
@@ -246,7 +249,7 @@ fn cars_among(floors: u32, items: &[Value]) -> Result<ArrayVec<Car, 16>, Buildin
 }
 
 #[tactic(auto, unfolding(crate::specs::Reading::cars_in))]
-fn cars_in(floors: u32, value: &Value) -> Result<ArrayVec<Car, 16>, BuildingFault>
+fn cars_in(floors: u32, value: &Value) -> Result<ArrayVec<Car, MOST_CARS>, BuildingFault>
     requires some { 1 ≤ floors }
     requires limit { floors ≤ 64 }
     ensures { Gives (λ cars. map car_view cars.items) result (cars_in floors (view value.now)) }

@@ -49,7 +49,7 @@ fn show_car(rt: &impl Print, building: &Building, car: Letter) -> io::Result<()>
     println!(rt; "")
 }
 
-/// What is answered of the floor above the top and the car behind the last: no flight, no places,
+/// What is answered of the floor above the top and the car after the last: no flight, no places,
 /// no floors.
 fn show_beyond(rt: &impl Print, building: &Building) -> io::Result<()> {
     let (Some(above), Some(behind)) = (Floor::new(building.floors()), Letter::new(building.cars()))

@@ -12,6 +12,7 @@ ghost use Rattle.lift_clerk.specs.Turn.{IsTurn, IsFailedTurn, IsBrokenTurn, entr
 use crate::counts::Counts;
 use crate::scan::{Answer, answer_all, scan};
 use arrayvec::ArrayVec;
+use lift_base::MOST_ENTRIES;
 use lift_desk::{ClerkSeat, Desk, Seat};
 use lift_disk::{Arm, Disk};
 use lift_journal::JournalFault;
@@ -28,7 +29,7 @@ pub struct Clerk<'d, 'b, D: Disk, P: Policy + Drop> {
     keeper: Keeper<'b, D>,
     policy: P,
     /// Room for the answers of a turn, so that none is made for each.
-    answers: ArrayVec<Answer, 63>,
+    answers: ArrayVec<Answer, MOST_ENTRIES>,
 }
 
 impl<'d, 'b, D: Disk, P: Policy + Drop> Model for Clerk<'d, 'b, D, P> {
@@ -85,7 +86,7 @@ impl<'d, 'b, D: Disk, P: Policy + Drop> Clerk<'d, 'b, D, P> {
     }
 
     /// Tells it what a terminal has asked so far, and the terminal what was answered there so far.
-    /// Behind a later turn that ask is taken, and behind a later `hear` that answer is heard. It
+    /// After a later turn that ask is taken, and after a later `hear` that answer is heard. It
     /// stores nothing.
     pub fn tell(&mut self, seat: &mut Seat)
         requires { IsSeatOf self.old.desk seat.old }
@@ -108,10 +109,13 @@ impl<'d, 'b, D: Disk, P: Policy + Drop> Clerk<'d, 'b, D, P> {
     /// `Journal(Disk)` where a call of the device failed, `Journal(Broken)` while the keeper is
     /// broken, also where nothing was taken.
     pub fn turn(&mut self) -> Result<Counts, KeeperFault>
+        // Ok: its commands were decided by the rules and made safe, and each has its reply.
         ensures turns { IfOk result (λ counts.
             IsTurn (P.chooses self.old.policy) self.old self.new counts) }
+        // The device failed: their batch is in doubt, and each is answered Unknown.
         ensures fails { result ≡ Err (KeeperFault.Journal JournalFault.Disk)
             → IsFailedTurn (P.chooses self.old.policy) self.old self.new }
+        // Broken before: each command is answered Unknown, and the keeper is as it was.
         ensures rests { self.old.keeper.writer.is_broken ≡ true → IsBrokenTurn self.old self.new }
         // It commits what its scan accepted, which leads to the register that it shows.
         ensures commits { CommitsTo D.state self.old.keeper.writer
@@ -181,7 +185,7 @@ impl<'d, 'b, D: Disk, P: Policy + Drop> Clerk<'d, 'b, D, P> {
 impl<'d, 'b, D: Arm, P: Policy + Drop> Clerk<'d, 'b, D, P> {
     ghost use Rattle.lift_disk.specs.Disk.{IsUnchanged, IsTold};
 
-    /// Tells the device anew which calls to fail. It changes no image.
+    /// Tells the device again which calls to fail. It changes no image.
     pub fn arm(&mut self, calls: u32)
         ensures unchanged { IsUnchanged (D.state self.old.keeper.writer.device)
             (D.state self.new.keeper.writer.device) }

@@ -41,7 +41,7 @@ pub fn calls_are_steps<D: Disk, P: Policy>()
 
 /// One turn, in the machine's world and the clerk's past at once. Where each ask that it took was
 /// asked, as the desk's rule has it, the turn's own events lead there from each world that has its
-/// past, with terminals as they are: on Ok the turn's batch is safe behind the rest, else nothing
+/// past, with terminals as they are: on Ok the turn's batch is safe after the rest, else nothing
 /// more is, and just its commands were answered.
 pub fn turn_goes_on<D: Disk, P: Policy + Drop>(
     clerk: &mut Clerk<'_, '_, D, P>,

@@ -89,7 +89,7 @@ pub fn crash_shows_letters<D: Disk, P: Policy + Drop>(clerk: &Clerk<'_, '_, D, P
     let _safe = clerk.keeper().safe_register();
 }
 
-/// One turn. Whatever has happened before it, its batch is safe behind the rest where it answers
+/// One turn. Whatever has happened before it, its batch is safe after the rest where it answers
 /// Ok, and just its commands were answered. Each image that a crash at any moment of the call may
 /// leave keeps what was given until then: it is of what was safe, or of that with the turn's batch.
 /// From its end on each keeps what the turn answers too.
@@ -98,8 +98,7 @@ pub fn turn_shows_letters<D: Disk, P: Policy + Drop>(
 ) -> Result<Counts, KeeperFault>
     ensures turn { TurnsOnce
         D.state (P.chooses clerk.old.policy) clerk.old clerk.new result }
-    ensures advances { TurnAdvances
-        D.state (P.chooses clerk.old.policy) clerk.old clerk.new result }
+    ensures advances { TurnAdvances D.state clerk.old clerk.new result }
 {
     histories_are_runs::<D>();
     policies_are_covered::<P>();

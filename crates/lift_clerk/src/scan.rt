@@ -11,7 +11,7 @@ ghost use Rattle.lift_clerk.specs.Scanning.{Decides, IsScanned, Scans, terminals
 ghost use Rattle.lift_clerk.specs.Scanning.{replies_in, replies_told, reply_told};
 
 use arrayvec::ArrayVec;
-use lift_base::{Reply, Terminal, push_some};
+use lift_base::{MOST_ENTRIES, Reply, Terminal, push_some};
 use lift_desk::{Ask, ClerkSeat, Desk};
 use lift_disk::Disk;
 use lift_keeper::Keeper;
@@ -92,7 +92,7 @@ pub fn scan<D: Disk, P: Policy>(
     seat: &mut ClerkSeat,
     keeper: &mut Keeper<'_, D>,
     policy: &P,
-    answers: &mut ArrayVec<Answer, 63>,
+    answers: &mut ArrayVec<Answer, MOST_ENTRIES>,
 )
     requires seated { IsClerkOf desk.now seat.old }
     requires settled { keeper.old.writer.is_broken ≡ false → keeper.old.state.batch ≡ [] }
@@ -113,7 +113,12 @@ pub fn scan<D: Disk, P: Policy>(
 }
 
 /// Stores the answers: what was decided where it is safe, else Unknown.
-pub fn answer_all(desk: &Desk, seat: &mut ClerkSeat, answers: &ArrayVec<Answer, 63>, is_safe: bool)
+pub fn answer_all(
+    desk: &Desk,
+    seat: &mut ClerkSeat,
+    answers: &ArrayVec<Answer, MOST_ENTRIES>,
+    is_safe: bool,
+)
     requires seated { IsClerkOf desk.now seat.old }
     requires scanned { (places : _) × (visits : _)
         × IsScanned places visits seat.old answers.now.items }

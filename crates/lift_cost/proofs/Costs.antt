@@ -51,7 +51,7 @@ moment_short plan lawful h (g ∷ gs) a t =
     let rest = moment_short plan lawful h gs g.floor (t + flight_ms plan a g.floor + plan.door_ms) in
     either_short (same_halt g h) _ _ _ (omega arith) (omega arith)
 
--- the search for a halt goes on behind another one
+-- the search for a halt goes on after another one
 pub moment_goes_on : (h g : Halt) (hs : List Halt) (ts : List ℕ) (i total : ℕ) → i < length hs → length hs ≤ length ts → g ≡ get_or hs i g → same_halt g h ≡ false
     → moment_at h (drop i hs) (drop i ts) ≡ total → moment_at h (drop (i + 1) hs) (drop (i + 1) ts) ≡ total
 moment_goes_on h g hs ts i total lt long g-is differs so_far =

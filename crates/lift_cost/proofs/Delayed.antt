@@ -64,7 +64,7 @@ pub within_behind : (floors floor : ℕ) (hs : List Halt) → floor < floors →
 within_behind floors floor [] here within = here
 within_behind floors floor (h ∷ hs) here within = within_behind floors h.floor hs within.0 within.1
 
--- halts behind others of a building are of it
+-- halts after others of a building are of it
 pub below_behind : (floors : ℕ) (hs behind : List Halt) → AllBelow floors (hs ++ behind) → AllBelow floors behind
 below_behind floors [] behind within = within
 below_behind floors (h ∷ hs) behind within = below_behind floors hs behind within.1

@@ -82,7 +82,7 @@ missing_with_first x a false before rest missing =
     ap (λ hs. has_halt x (hs ++ rest)) (append-nil before) ∙ has_halt-append x before rest
     ∙ either_missing (has_halt x before) (has_halt x rest) (first_missing (has_halt x before) (has_halt x (a ∷ rest)) parts) (second_missing (same_halt a x) (has_halt x rest) later)
 
--- the same of where the passengers of a call leave, at which is split what stands behind where they board
+-- the same of where the passengers of a call leave, at which is split what stands after where they board
 pub missing_where_split_behind : (rows : List Row) (row : Row) (position : Position) (halts before rest middle behind : List Halt) (boards leaves : Halt) (boards_there leaves_there : Bool) → row.aboard ≡ false → row.from ≢ row.to → row.from < 64 → row.to < 64
     → halts ≡ stop_list rows position → boards ≡ halt_at position row row.from → leaves ≡ halt_at position row row.to → leaves_there ≡ false
     → IsSplit (rank_of position.dir) boards halts before boards_there rest → IsSplit (rank_of position.dir) leaves rest middle leaves_there behind → has_halt leaves halts ≡ false

@@ -10,7 +10,7 @@ use Rattle.lift_stops.specs.Insertion.{put, floor_rank, rank_of, IsSplit}
 use Rattle.lift_stops.specs.lemmas.Halts.{all_halts-rise, put-halt, dir_in-pass_of, floor_rank-travel, stop_list-waiting}
 use Rattle.lift_stops.specs.lemmas.Insertion.{Rises, Rises-filter, IsIn-right, rank_of_member}
 
--- ---- an element behind those of lower ranks
+-- ---- an element after those of lower ranks
 
 abbrev pub AreLower : {X : Type 0} → (X → ℕ) → X → List X → Type 0
 AreLower rank x xs = AllByRecursion (λ y. rank y < rank x) xs
@@ -54,7 +54,7 @@ boards_before position row apart from-low to-low =
     let ahead : floor_rank (dir_in position.dir (pass_of position row)) row.from < floor_rank (dir_in position.dir (pass_of position row)) row.to = rw travels (floor_rank-travel row.from row.to apart from-low to-low) in
     omega (arith, ahead)
 
--- The stop list with a call that waits is the one without it, with where its passengers board at its place and then where they leave at its own, behind that.
+-- The stop list with a call that waits is the one without it, with where its passengers board at its place and then where they leave at its own, after that.
 pub stops_with_waiting : (rows : List Row) (row : Row) (position : Position) (halts before rest middle behind : List Halt) (boards leaves : Halt) (boards_there leaves_there : Bool) → row.aboard ≡ false → row.from ≢ row.to → row.from < 64 → row.to < 64
     → halts ≡ stop_list rows position → boards ≡ halt_at position row row.from → leaves ≡ halt_at position row row.to
     → IsSplit (rank_of position.dir) boards halts before boards_there rest → IsSplit (rank_of position.dir) leaves rest middle leaves_there behind

@@ -32,7 +32,7 @@ pub record IsOnWays (plan : Plan) (persons : Halt → ℕ) (start : ℕ) (halts 
   pub later : weighted plan persons start 0 halts_with
       ≡ weighted plan persons start 0 halts + ways.later
 
--- What was counted along so many parts of a way is within these bounds.
+-- What was counted along this many parts of a way is within these bounds.
 pub record IsShort (ways : Ways) (parts : ℕ) : Type 0 where
   pub leaves : ways.leaves_with ≤ 50000000 * parts
   pub delay : ways.delay ≤ 50000000 * parts

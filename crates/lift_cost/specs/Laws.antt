@@ -15,7 +15,7 @@ way_behind plan halts place =
     plan.door_ms + flight_ms plan (slice_index (floors_of halts) place)
     (slice_index (floors_of halts) (place + 1))
 
--- The arrival at a halt is the flight to the first one, and the ways behind all halts before it.
+-- The arrival at a halt is the flight to the first one, and the ways after all halts before it.
 abbrev pub ArrivalsAddUp : Type 0
 ArrivalsAddUp = (plan : Plan) (floor : ℕ) (halts : List Halt) (place : ℕ) → place < length halts
     → slice_index (arrivals_of plan floor halts) place

@@ -12,7 +12,7 @@ weighted plan persons floor leaves (halt ∷ halts) =
     + weighted plan persons halt.floor (leaves + flight_ms plan floor halt.floor + plan.door_ms)
     halts
 
--- where a car is behind these halts
+-- where a car is after these halts
 abbrev pub floor_behind : ℕ → List Halt → ℕ
 floor_behind floor [] = floor
 floor_behind floor (halt ∷ halts) = floor_behind halt.floor halts

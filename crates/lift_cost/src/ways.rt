@@ -51,7 +51,7 @@ fn times_along(leaving: &Leaving, halts: &[Halt], time: u32) -> u64
     sum
 }
 
-/// Where a car is behind these halts, and when it leaves there.
+/// Where a car is after these halts, and when it leaves there.
 fn go_along(building: &Building, floor: Floor, leaves: u32, halts: &[Halt]) -> (Floor, u32)
     requires few { length halts.now ≤ 66 }
     requires soon { leaves ≤ 250000000 }
@@ -222,7 +222,7 @@ impl Ways {
 
     /// Both make those of these halts that are before this one; then the way with the call makes this
     /// one, and so does the other where it is among them. Also when the way with the call is at this
-    /// one, and which halts are behind it.
+    /// one, and which halts are after it.
     pub(crate) fn stop_at<'h>(
         self,
         building: &Building,

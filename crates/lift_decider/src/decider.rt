@@ -16,7 +16,8 @@ ghost use Rattle.lift_decider.specs.Decider.{IsPossible, nothing, starting};
 use crate::group::Group;
 use arrayvec::ArrayVec;
 use lift_base::{
-    Body, Dir, Entry, Floor, Letter, Number, Party, Position, Reason, Reply, Stop, Terminal,
+    Body, Dir, Entry, Floor, Letter, MOST_CARS, MOST_ENTRIES, Number, Party, Position, Reason,
+    Reply, Stop, Terminal,
 };
 use lift_building::Building;
 use lift_cost::NewCall;
@@ -82,7 +83,7 @@ impl<'b> Decider<'b> {
     }
 
     /// The schedules of the cars that have told where they are, each with its car's open calls.
-    pub fn schedules(&self) -> &[Option<Schedule>; 16]
+    pub fn schedules(&self) -> &[Option<Schedule>; MOST_CARS]
         ensures positions { positions_of result.now ≡ self.now.state.positions }
         ensures own { AreSchedulesOf self.now.state.register result.now }
     {
@@ -105,14 +106,14 @@ impl<'b> Decider<'b> {
     }
 
     /// The batch so far: each of its entries can be written.
-    pub fn batch(&self) -> &ArrayVec<Entry, 63>
+    pub fn batch(&self) -> &ArrayVec<Entry, MOST_ENTRIES>
         ensures value { result.now.items ≡ self.now.state.batch }
         ensures written { All (λ (e : EntryValue). IsRecord (EntryRecord e)) result.now.items }
     {
         &self.group.batch
     }
 
-    /// The batch begins anew. The register and the positions stay.
+    /// The batch begins again. The register and the positions stay.
     pub fn clear_batch(&mut self)
         ensures { self.new ≡ record {
           plan = self.old.plan;
@@ -123,7 +124,7 @@ impl<'b> Decider<'b> {
     }
 
     /// Gives the batch out, and keeps the register and the positions.
-    pub fn seal(&mut self) -> ArrayVec<Entry, 63>
+    pub fn seal(&mut self) -> ArrayVec<Entry, MOST_ENTRIES>
         ensures batch { result.items ≡ self.old.state.batch }
         ensures limit { length result.items ≤ 63 }
         ensures written { All (λ (e : EntryValue). IsRecord (EntryRecord e)) result.items }

@@ -13,7 +13,9 @@ ghost use Rattle.lift_decider.specs.Decider.{IsBatch, IsRegisterIn, starting};
 
 use crate::schedules::{insert, serve, stand};
 use arrayvec::ArrayVec;
-use lift_base::{Content, Entry, Letter, Number, Position, Row, Stop, Terminal};
+use lift_base::{
+    Content, Entry, Letter, MOST_CARS, MOST_ENTRIES, Number, Position, Row, Stop, Terminal,
+};
 use lift_building::Building;
 use lift_cost::NewCall;
 use lift_policy::{Command, View};
@@ -25,7 +27,7 @@ use std::marker::Model;
 fn join(
     building: &Building,
     register: &mut Register,
-    batch: &mut ArrayVec<Entry, 63>,
+    batch: &mut ArrayVec<Entry, MOST_ENTRIES>,
     entry: &Entry,
 )
     requires fits { Fits building.now register.old entry.now }
@@ -48,8 +50,8 @@ fn join(
 #[derive(Drop)]
 pub struct Group {
     pub register: Register,
-    pub schedules: [Option<Schedule>; 16],
-    pub batch: ArrayVec<Entry, 63>,
+    pub schedules: [Option<Schedule>; MOST_CARS],
+    pub batch: ArrayVec<Entry, MOST_ENTRIES>,
 }
 
 impl Model for Group {
@@ -94,7 +96,7 @@ impl Group {
     }
 
     /// Gives the batch out.
-    pub fn seal(&mut self) -> ArrayVec<Entry, 63>
+    pub fn seal(&mut self) -> ArrayVec<Entry, MOST_ENTRIES>
         ensures batch { result.items ≡ self.old.batch }
         ensures lawful { IsBatch result.items }
         ensures kept { self.new ≡ record self.old { batch = [] } }
@@ -102,7 +104,7 @@ impl Group {
         self.batch.take()
     }
 
-    /// The batch begins anew.
+    /// The batch begins again.
     pub fn clear_batch(&mut self)
         ensures { self.new ≡ record self.old { batch = [] } }
     {

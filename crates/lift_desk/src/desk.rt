@@ -25,7 +25,7 @@ use crate::seat::{AskRefusal, Seat};
 use crate::view::Seats;
 use crate::words::Ask;
 use arrayvec::ArrayVec;
-use lift_base::{Body, Memory, Number, Reply, Terminal, with_room};
+use lift_base::{Body, MOST_TERMINALS, Memory, Number, Reply, Terminal, with_room};
 use std::alloc::Global;
 use std::marker::Model;
 
@@ -52,7 +52,7 @@ impl Model for Desk {
 /// The clerk's seats, one for each terminal. Contracts see what was taken and answered at each.
 #[derive(Drop)]
 pub struct ClerkSeat {
-    places: ArrayVec<Place, 63>,
+    places: ArrayVec<Place, MOST_TERMINALS>,
 }
 
 impl Model for ClerkSeat {
@@ -100,7 +100,7 @@ fn new_table(alloc: Global) -> Result<(DeskTable, Looker, Looker), Memory>
 /// Contracts see what was taken at each.
 #[derive(Drop)]
 pub struct TakeSeat {
-    places: ArrayVec<AheadPlace, 63>,
+    places: ArrayVec<AheadPlace, MOST_TERMINALS>,
 }
 
 impl Model for TakeSeat {
@@ -129,7 +129,7 @@ impl Desk {
     {
         let mut tables = with_room(alloc, terminals)?;
         let mut seats = with_room(alloc, terminals)?;
-        let mut places: ArrayVec<Place, 63> = ArrayVec::new();
+        let mut places: ArrayVec<Place, MOST_TERMINALS> = ArrayVec::new();
         for t in 0..terminals {
             let terminal = Terminal::new(t as u8).unwrap();
             let (table, first, second) = new_table(alloc)?;
@@ -292,7 +292,7 @@ impl Desk {
         ensures stays { IsClerkOf self.now result.0 }
     {
         let ClerkSeat { mut places } = clerk;
-        let mut ahead: ArrayVec<AheadPlace, 63> = ArrayVec::new();
+        let mut ahead: ArrayVec<AheadPlace, MOST_TERMINALS> = ArrayVec::new();
         for at in 0..places.len() {
             let table = &self.tables[at];
             let place = &mut places[at];

@@ -19,7 +19,7 @@ pub enum Answer {
     Refused,
 }
 
-/// Asks, and looks for the answer at most so many times.
+/// Asks, and looks for the answer at most this many times.
 pub fn ask_and_hear(desk: &Desk, seat: &mut Seat, number: Number, body: Body, looks: u32) -> Answer
     requires { IsSeatOf desk.now seat.old }
     ensures stays { IsSeatOf desk.now seat.new }

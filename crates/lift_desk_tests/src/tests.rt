@@ -177,7 +177,7 @@ enum Act {
     Tell,
     /// The number of the terminal.
     Terminal(u8),
-    /// So many asks, each of them answered and heard.
+    /// This many asks, each of them answered and heard.
     Rounds(u32),
 }
 
@@ -294,7 +294,7 @@ fn a_seat_ahead_takes_and_the_clerk_answers(rt: HostRuntime) -> Result<(), Fail>
     Ok(())
 }
 
-// All of it, where memory is not wanting.
+// All of it, where there is memory.
 #[test]
 fn memory_or_the_whole_desk(rt: HostRuntime) {
     match Desk::open(rt.alloc(), 3) {

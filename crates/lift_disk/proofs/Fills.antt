@@ -19,7 +19,7 @@ pub record IsCopiedTo (end : ℕ) (flags : List Bool) (from to : Image) : Type 0
   pub below : (i : ℕ) → i < end → slice_get to i ≡ slice_get from i
   pub others : (i : ℕ) → ¬ IsFlagged flags i → slice_get to i ≡ slice_get from i
 
--- the last one is copied, and no flag is set behind it
+-- the last one is copied, and no flag is set after it
 pub all_copied : (at end : ℕ) (flags : List Bool) (from to : Image) → end ≤ at → ((i : ℕ) → IsFlagged flags i → i < end) → IsCopiedTo at flags from to → to ≡ from
 all_copied at end flags from to last ends copied =
     let same : (k : ℕ) → slice_get to k ≡ slice_get from k = λ k. ⊎_elim (λ below. copied.below k (omega (arith, below, last))) (λ behind. copied.others k (λ is. omega (arith, behind, ends k is))) (cases_lt k end) in
@@ -45,7 +45,7 @@ get-replicate zero i d within = absurd (omega arith)
 get-replicate (suc n) zero d within = refl
 get-replicate (suc n) (suc i) d within = get-replicate n i d (omega arith)
 
--- the last of the span is cleared, and none was set behind it
+-- the last of the span is cleared, and none was set after it
 pub all_cleared : (at end : ℕ) (old new : List Bool) → end ≤ at → ((i : ℕ) → IsFlagged old i → i < end) → IsClearedTo at old new → new ≡ replicate (length old) false
 all_cleared at end old new last ends cleared =
     let none : (k : ℕ) → ¬ IsFlagged new k = λ k is. ⊎_elim (λ below. cleared.below k below is) (λ behind. let was : IsFlagged old k = sym (cleared.others k behind) ∙ is in omega (arith, behind, last, ends k was)) (cases_lt k at) in

@@ -20,7 +20,7 @@ pub run_call : {T E : Type 0} (result : Result T E) (from : ℕ) (run : List (Li
 run_call result from [] old new some count recorded = absurd (some refl)
 run_call result from (bytes ∷ run) old new some count recorded = one_call result (Write from (joined (bytes ∷ run))) old new count recorded
 
--- behind an announcement, which is none
+-- after an announcement, which is none
 pub announced_calls : {T E : Type 0} (result : Result T E) (sector : ℕ) (calls : List Access) (old mid new : DiskState) → Announces sector old mid → MakesCalls result calls mid new → MakesCalls result calls old new
 announced_calls (Ok x) sector calls old mid new announced makes = record {
   ok = record { count = makes.ok.count ∙ ap (λ n. n + length calls) announced.calls; listed = makes.ok.listed ∙ ap (λ (l : List Access). l ++ calls) announced.trace };
@@ -38,7 +38,7 @@ announced_calls (Err e) sector calls old mid new announced makes = record {
   };
 }
 
--- behind one that failed no more are made
+-- after one that failed no more are made
 pub ends_there : (calls more : List Access) (old new : DiskState) → MakesUpTo calls old new → MakesUpTo (calls ++ more) old new
 ends_there calls more old new up_to = record {
   before = up_to.before;

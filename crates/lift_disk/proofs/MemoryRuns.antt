@@ -12,7 +12,7 @@ use Rattle.lift_disk.specs.Runs.{IsInRun, HoldsRun, with_run, run_length, run_lo
 use Rattle.lift_disk.specs.lemmas.History.{set_here, set_other, same_or_not, within_calls, recorded_so}
 use Rattle.lift_disk.proofs.Waiting.{run_inside, run_more}
 
--- so many sectors are copied to the front of a buffer of 16
+-- this many sectors are copied to the front of a buffer of 16
 pub record IsReadTo (from count : ℕ) (sectors buffer : List (List ℕ)) : Type 0 where
   pub room : length buffer ≡ 16
   pub holds : HoldsRun from count buffer sectors

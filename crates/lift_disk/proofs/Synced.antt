@@ -1,4 +1,4 @@
--- What several calls of a file come to, one behind the other.
+-- What several calls of a file come to, one after the other.
 use Rattle.std.proofs.Common.{Result, Ok, Err, OnOk, OnErr, append_assoc, ◌≡◌, ◌∙◌, inl, inr, ⊎_elim, ℕ, zero, suc, ◌+◌, Bool, IsTrue, List, [], ◌∷◌, ◌++◌, refl, sym, ap, subst, arith}
 use Rattle.lift_disk.specs.Disk.{DiskState, CountsNow, TouchesNothing}
 use Rattle.lift_disk.specs.FileCalls.{FailsIn, FileCall, LeadsBy}
@@ -32,7 +32,7 @@ rests_then old mid new first second = record {
   kept = λ honest. second.kept (first.honest.1 honest) ∙ first.kept honest;
 }
 
--- what is made safe behind a write back
+-- what is made safe after a write back
 pub safe_behind : (old mid new : DiskState) → CountsNow old → old.is_honest → Rests old mid → KeepsWrites old mid → SyncMakesSafe mid new → SyncMakesSafe old new
 safe_behind old mid new counts honest rests keeps safe =
     let first = rests.time honest in
@@ -61,7 +61,7 @@ pub leads_then : {F : Type 0} (gives : F → FileCall → F → Type 0) (calls m
 leads_then {F} gives [] more old mid new same led = subst (λ (f : F). LeadsBy gives more f new) same led
 leads_then gives (call ∷ calls) more old mid new led led2 = (led.0, led.1, leads_then gives calls more led.0 mid new led.2 led2)
 
--- what was known before a call is known behind it
+-- what was known before a call is known after it
 pub stays_known : (known : Bool) (sectors : ℕ) (old new : DiskState) → IsSameFile old new → (old.is_honest → old.size ≡ sectors → old.is_steady → new.is_steady)
     → (IsTrue known → old.is_honest → old.size ≡ sectors → IsKnownSteady old) → IsTrue known → new.is_honest → new.size ≡ sectors → IsKnownSteady new
 stays_known known sectors old new same goes was is honest sized =

@@ -28,7 +28,7 @@ without_given-append (GetLength bytes ∷ calls) more = ap (λ (l : List FileCal
 without_given-append (Lock ∷ calls) more = ap (λ (l : List FileCall). Lock ∷ l) (without_given-append calls more)
 without_given-append (DropCached ∷ calls) more = without_given-append calls more
 
--- a sync of a device is one of its file, whatever is dropped behind it
+-- a sync of a device is one of its file, whatever is dropped after it
 pub synced_once : (known : Bool) → without_given (sync_calls known) ≡ in_bytes (SyncSectors ∷ [])
 synced_once true = refl
 synced_once false = refl

@@ -20,7 +20,7 @@ run_here (bytes ∷ run) from image (suc k) i is less fits =
 pub run_inside : (run : List (List ℕ)) (from : ℕ) (image : Image) (i : ℕ) → IsInRun from (length run) i → from + length run ≤ length image → slice_get (with_run from run image) i ≡ slice_get run (i - from)
 run_inside run from image i inside fits = run_here run from image (i - from) i (omega (arith, inside.0)) (omega (arith, inside.0, inside.1)) fits
 
--- one sector more behind a run
+-- one sector more after a run
 pub run_more : (run : List (List ℕ)) (from : ℕ) (bytes : List ℕ) (image : Image) → with_run from (run ++ bytes ∷ []) image ≡ slice_set (with_run from run image) (from + length run) bytes
 run_more [] from bytes image = ap (λ n. slice_set image n bytes) (let same : from ≡ from + 0 = omega arith in same)
 run_more (first ∷ run) from bytes image =
@@ -217,7 +217,7 @@ no_run = []
 none_found : (k : ℕ) (bytes : List ℕ) → slice_get no_run k ≡ Some bytes → ⊥
 none_found k bytes is = cc is
 
--- what was written before a sync is read behind it
+-- what was written before a sync is read after it
 pub sync_settles : (old mid new : DiskState) (from from2 from3 : ℕ) (pending pending2 : List (List ℕ)) → pending2 ≡ [] → KeepsWrites (waiting old from pending) (waiting mid from2 pending2) → (old.is_honest → mid.is_honest) → (mid.is_honest → ReadsAsWritten mid new)
     → old.is_honest → (i : ℕ) (bytes : List ℕ) → ((from ≤ i) × (slice_get pending (i - from) ≡ Some bytes)) ⊎ (¬ IsInRun from (length pending) i × old.settles i bytes) → slice_get (with_run from3 pending2 new.image) i ≡ Some bytes
 sync_settles old mid new from from2 from3 pending (first ∷ pending2) none keeps same reads honest i bytes was = absurd (cc none)

@@ -30,7 +30,7 @@ abbrev pub IsHeldBack : {R : Type 0} {runs : RunGhosts R} {disk : Ghosts R}
 IsHeldBack d sector bytes = (d.from ≤ sector)
     × (slice_get d.pending.items (sector - d.from) ≡ Some bytes)
 
--- this sector is the next behind those that are still to be written, which are fewer than 16
+-- this sector is the next after those that are still to be written, which are fewer than 16
 abbrev pub IsNextHeld : {R : Type 0} {runs : RunGhosts R} {disk : Ghosts R}
     → Buffered R runs disk → ℕ → Type 0
 IsNextHeld d sector = (d.from + length d.pending.items ≡ sector) × (length d.pending.items < 16)

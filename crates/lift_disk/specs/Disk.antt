@@ -22,7 +22,7 @@ pub record DiskState : Type 1 where
   pub trace : List Access
   -- it does what the definitions below say
   pub is_honest : Type 0
-  -- It fails only where it was told to, or where it wants memory, and a failed call changes no byte
+  -- It fails only where it was told to or is out of memory, and a failed call changes no byte
   -- of the image as read.
   pub is_inert : Type 0
   -- the image as read

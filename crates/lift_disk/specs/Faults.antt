@@ -49,7 +49,7 @@ failing_state_of fails d = record (state_of d.inner) {
       d.inner.calls.count;
 }
 
--- a `FuseDisk`, since antt has no name for an alias
+-- a `FuseDisk`, because antt has no name for an alias
 abbrev pub FusedDisk : Type 0
 FusedDisk = FailingDisk Fuse
 

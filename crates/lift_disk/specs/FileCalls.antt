@@ -11,7 +11,7 @@ use Rattle.lift_disk.specs.Trace.Access.{Sync as SyncSectors}
 pub data FileCall : Type 0 where
   -- the offset in bytes, and the bytes that it gave
   Read : ℕ → List ℕ → FileCall
-  -- the offset in bytes, and the sectors that it gave, one behind the other
+  -- the offset in bytes, and the sectors that it gave, one after the other
   ReadSectors : ℕ → List (List ℕ) → FileCall
   -- the offset in bytes, and the bytes that it took
   Write : ℕ → List ℕ → FileCall
@@ -74,7 +74,7 @@ in_bytes (ReadSector sector ∷ calls) = Read (sector * 512) [] ∷ in_bytes cal
 in_bytes (WriteSector sector bytes ∷ calls) = Write (sector * 512) bytes ∷ in_bytes calls
 in_bytes (SyncSectors ∷ calls) = SyncData ∷ in_bytes calls
 
--- these calls, but for the bytes that reads gave, and for what was dropped behind a sync
+-- these calls, but for the bytes that reads gave, and for what was dropped after a sync
 abbrev pub without_given : List FileCall → List FileCall
 without_given [] = []
 without_given (Read offset bytes ∷ calls) = Read offset [] ∷ without_given calls
@@ -100,7 +100,7 @@ pub record IsOneAnswer {F T E : Type 0} (gives fails : F → FileCall → F → 
   pub made : IfOk result (λ answer. gives old (call answer) new)
   pub failed : OnErr result ((answer : T) → fails old (call answer) new)
 
--- These calls, one behind the other, lead from one state to another.
+-- These calls, one after the other, lead from one state to another.
 abbrev pub LeadsBy : {F : Type 0} → (gives : F → FileCall → F → Type 0) → List FileCall
     → (old new : F) → Type 0
 LeadsBy gives [] old new = new ≡ old
@@ -108,7 +108,7 @@ LeadsBy {F} gives (call ∷ calls) old new =
     (between : F) × gives old call between × LeadsBy gives calls between new
 
 -- the calls of a file by which a device makes safe what was written: where it isn't known that no
--- call has failed, what is cached is dropped behind the sync
+-- call has failed, what is cached is dropped after the sync
 abbrev pub sync_calls : Bool → List FileCall
 sync_calls true = SyncData ∷ []
 sync_calls false = SyncData ∷ DropCached ∷ []

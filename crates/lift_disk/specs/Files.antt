@@ -46,7 +46,8 @@ pub record HasGiven (calls : List FileCall) (sector : ℕ) (bytes : List ℕ) : 
   pub behind : first ≤ sector
   pub here : slice_get run (sector - first) ≡ Some bytes
 
--- The device read so many sectors from this one on: a call of its file, for just these, gave them.
+-- The device read this many sectors from this one on: a call of its file, for just these, gave
+-- them.
 abbrev pub AsksForRun : {T E : Type 0} → (old : List FileCall) → (sector count : ℕ)
     → (run : List (List ℕ)) → Result T E → (new : List FileCall) → Type 0
 AsksForRun old sector count run result new =
@@ -63,7 +64,7 @@ pub record KeepsKnown {F T E : Type 0} {told : Told F} (result : Result T E)
   pub ok : OnOk result (is_known_steady new ≡ is_known_steady old)
   pub err : OnErr result (is_known_steady new ≡ false)
 
--- A sync: behind it that is known, if it succeeded. Then the calls of the file were one where it was
+-- A sync: after it that is known, if it succeeded. Then the calls of the file were one where it was
 -- known before, and else the two by which what is cached is dropped.
 pub record SyncsByCalls {F T E : Type 0} {told : Told F} (result : Result T E)
     (old new : SectorFile F told) : Type 0 where
@@ -86,8 +87,8 @@ pub record IsMeasured {F : Type 0} {told : Told F} (opens : Option F → Type 0)
   pub honest : (sector_file_state_of holds d).is_honest ↔ (holds file).is_honest
   pub unknown : is_known_steady d ≡ false
 
--- A device of so many sectors on a file that was made: the device is honest exactly where that file
--- was when it was opened.
+-- A device of this many sectors on a file that was made: the device is honest exactly where that
+-- file was when it was opened.
 pub record IsMadeDevice {F : Type 0} {told : Told F} (opens : Option F → Type 0)
     (names : F → Type 0) (gives : F → FileCall → F → Type 0) (holds : F → DiskState) (sectors : ℕ)
     (d : SectorFile F told) : Type 0 where
@@ -101,7 +102,7 @@ abbrev pub stops_opening : {F : Type 0} → (gives fails : F → FileCall → F 
 stops_opening gives fails first opened left =
     (bytes : ℕ) → FailsIn gives fails (first ++ GetLength bytes ∷ []) opened left
 
--- How a making stops of a file of so many sectors of zeros: one of its calls failed, and none was
+-- How a making stops of a file of this many sectors of zeros: one of its calls failed, and none was
 -- made after it; or all were made, and the folder couldn't be made safe.
 abbrev pub stops_making : {F : Type 0} → (unnamed : F → Type 0)
     → (gives fails : F → FileCall → F → Type 0) → (sectors : ℕ) → (opened left : F) → Type 0
@@ -113,9 +114,9 @@ stops_making unnamed gives fails sectors opened left =
 abbrev pub stands_in_the_way : (stands : Option Bool → Type 0) → Option Bool → Type 0
 stands_in_the_way stands told = stands told × (told ≡ Some false)
 
--- Why no device is had of what stands at a path. The system didn't tell what stands there, or no plain
--- file does: then nothing was opened, and what was to open it comes back. Or the system didn't open
--- it; or a file was opened, and stopped so.
+-- Why there is no device of what stands at a path. The system didn't tell what stands there, or no
+-- plain file does: then nothing was opened, and what was to open it comes back. Or the system
+-- didn't open it; or a file was opened, and stopped so.
 abbrev pub IsRefused : {F O : Type 0} → (opener : O) → (stands : Option Bool → Type 0)
     → (opens : Option F → Type 0) → (stops : F → F → Type 0) → FileFault F O → Type 0
 IsRefused opener stands opens stops (Untold error back) = stands None × (back ≡ opener)

@@ -6,7 +6,7 @@ use Rattle.lift_disk.specs.Disk.{TouchesNothing}
 use Rattle.lift_disk.specs.Runs.{HoldsRun, IsInRun, KeepsWrites, Rests, SettlesRun, with_run}
 use Rattle.lift_disk.specs.Trace.{Access}
 
--- the whole sectors of so many bytes, as many of them as can be numbered
+-- the whole sectors of this many bytes, as many of them as can be numbered
 abbrev pub sectors_in : ℕ → ℕ
 sectors_in bytes = if nat_lt (bytes / 512) 4294967295 then bytes / 512 else 4294967295
 
@@ -31,7 +31,7 @@ nothing_known = record {
   left_since = λ _ _. ⊥;
 }
 
--- What is said of a device of so many sectors on a file that holds this, by its own counts and
+-- What is said of a device of this many sectors on a file that holds this, by its own counts and
 -- calls: it is honest where the file is, and where these are the file's whole sectors.
 abbrev pub on_file : DiskState → (sectors failures calls writes : ℕ) → List Access → DiskState
 on_file held sectors failures calls writes trace = record {
@@ -53,7 +53,7 @@ on_file held sectors failures calls writes trace = record {
   left_since = held.left_since;
 }
 
--- The file is honest, and these are sectors of it: from this offset on, so many.
+-- The file is honest, and these are sectors of it: from this offset on, this many.
 abbrev pub AtSectors : (offset count : ℕ) → DiskState → (ℕ → Type 0) → Type 0
 AtSectors offset count held P =
     held.is_honest → (sector : ℕ) → offset ≡ sector * 512 → sector + count ≤ held.size → P sector
@@ -64,7 +64,7 @@ pub record ReadsRun (sector : ℕ) (run : List (List ℕ)) (old new : DiskState)
   pub keeps : KeepsWrites old new
   pub gives : HoldsRun sector (length run) run new.image
 
--- each of so many sectors from that one on was said to be written
+-- each of this many sectors from that one on was said to be written
 abbrev pub WasAnnounced : (sector count : ℕ) → DiskState → Type 0
 WasAnnounced sector count held = (i : ℕ) → ¬ held.is_loose i → ¬ IsInRun sector count i
 

@@ -11,4 +11,5 @@ pub mod Files
 pub mod Runs
 pub mod Holding
 pub mod Below
+pub mod Blank
 pub mod lemmas

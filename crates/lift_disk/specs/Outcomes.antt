@@ -49,6 +49,6 @@ pub record IsCut (old new : DiskState) : Type 0 where
   pub steady : new.is_steady ↔ old.is_steady
   pub short : new.is_short ≡ old.is_short
   pub again : (left : Image) → MayLeave new left → MayLeave old left
-  -- Time begins anew: what a crash might have left before is no longer asked.
+  -- Time begins again: what a crash might have left before is no longer asked.
   pub moment : new.moment ≡ 0
   pub left_since : (t : ℕ) (left : Image) → new.left_since t left ↔ MayLeave new left

@@ -10,11 +10,11 @@ use Rattle.lift_disk.specs.Trace.Access.{Write}
 use Rattle.lift_disk.specs.Disk.{DiskState, Image, ChangesWithin, Elapses, Touches, TouchesNothing}
 use Rattle.lift_disk.specs.Disk.{StaysLoose, StaysWritten, KeepsSynced, IsSteadyAt}
 
--- one of so many sectors from that one on
+-- one of this many sectors from that one on
 abbrev pub IsInRun : ℕ → ℕ → ℕ → Type 0
 IsInRun from count i = (from ≤ i) × (i < from + count)
 
--- the bytes of these sectors, one behind the other
+-- the bytes of these sectors, one after the other
 abbrev pub joined : List (List ℕ) → List ℕ
 joined run = flat_map (λ bytes. bytes) run
 
@@ -28,12 +28,12 @@ abbrev pub with_run : ℕ → List (List ℕ) → Image → Image
 with_run from [] image = image
 with_run from (bytes ∷ run) image = with_run (from + 1) run (slice_set image from bytes)
 
--- so many sectors from that one on are these
+-- this many sectors from that one on are these
 abbrev pub HoldsRun : ℕ → ℕ → List (List ℕ) → Image → Type 0
 HoldsRun from count run image = (i : ℕ) → IsInRun from count i
     → slice_get image i ≡ slice_get run (i - from)
 
--- each of so many sectors from that one on was given with the bytes that it has here
+-- each of this many sectors from that one on was given with the bytes that it has here
 abbrev pub GivesRun : (ℕ → List ℕ → Type 0) → ℕ → ℕ → List (List ℕ) → Type 0
 GivesRun has_given from count run = (i : ℕ) (bytes : List ℕ) → IsInRun from count i
     → slice_get run (i - from) ≡ Some bytes → ∥ has_given i bytes ∥₁
@@ -101,7 +101,7 @@ pub record MakesAll (calls : List Access) (old new : DiskState) : Type 0 where
   pub count : new.calls ≡ old.calls + length calls
   pub listed : new.trace ≡ old.trace ++ calls
 
--- One of these calls has failed, behind those before it, and none was made after it.
+-- One of these calls has failed, after those before it, and none was made after it.
 pub record MakesUpTo (calls : List Access) (old new : DiskState) : Type 0 where
   pub before : List Access
   pub failed : Access
@@ -138,7 +138,7 @@ pub record KeepsWrites (old new : DiskState) : Type 0 where
   pub written : StaysWritten old new
   pub steady : old.is_honest → old.is_steady → IsSteadyAt old.image new
 
--- the rest of a list behind a write to another place
+-- the rest of a list after a write to another place
 get_other : {X : Type 0} (xs : List X) (i k : ℕ) (x : X) → k ≢ i
     → slice_get (slice_set xs i x) k ≡ slice_get xs k
 get_other [] i k x other = refl
@@ -153,7 +153,7 @@ run_length [] from image = refl
 run_length (bytes ∷ run) from image =
     run_length run (from + 1) (slice_set image from bytes) ∙ length-set image from bytes
 
--- the sectors before and behind a run stay
+-- the sectors before and after a run stay
 pub run_outside : (run : List (List ℕ)) (from : ℕ) (image : Image) (i : ℕ)
     → ¬ IsInRun from (length run) i → slice_get (with_run from run image) i ≡ slice_get image i
 run_outside [] from image i not = refl

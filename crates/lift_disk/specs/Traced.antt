@@ -22,29 +22,30 @@ to_be_read = with_read new_options true
 abbrev pub to_be_used : OpenOptions
 to_be_used = with_write to_be_read true
 
--- how one is made, or is opened to be made anew: it isn't emptied yet
+-- how one is made, or is opened to be made again: it isn't emptied yet
 abbrev pub to_be_made : OpenOptions
 to_be_made = with_create to_be_used true
 
--- one of the writes of a file of so many sectors of zeros: 128 sectors each, the last one the rest
+-- one of the writes of a file of this many sectors of zeros: 128 sectors each, the last one the
+-- rest
 abbrev pub zero_write : (sectors i : ℕ) → FileCall
 zero_write sectors i = Write (i * 128 * 512)
     (joined (replicate (min 128 (sectors - i * 128)) (replicate 512 0)))
 
--- the first so many of them
+-- the first this many of them
 abbrev pub zero_writes : (sectors count : ℕ) → List FileCall
 zero_writes sectors zero = []
 zero_writes sectors (suc count) = zero_writes sectors count ++ zero_write sectors count ∷ []
 
--- The calls by which a file of so many sectors of zeros is made: nothing is done before the lock is
--- had, and all of it is written, so that it has its room, and made safe.
+-- The calls by which a file of this many sectors of zeros is made: nothing is done before the lock
+-- is taken, and all of it is written, so that it has its room, and made safe.
 abbrev pub making_calls : (sectors : ℕ) → List FileCall
 making_calls sectors =
     (Lock ∷ SetLength 0 ∷ SetLength (sectors * 512) ∷ [])
     ++ zero_writes sectors ((sectors + 127) / 128) ++ SyncAll ∷ []
 
 -- A file that was opened so, made by these calls, and then named by its folder for good. It is as
--- honest as it was when it was opened, and has so many sectors.
+-- honest as it was when it was opened, and has this many sectors.
 pub record IsMadeOf {F : Type 0} (opens : Option F → Type 0) (names : F → Type 0)
     (gives : F → FileCall → F → Type 0) (holds : F → DiskState) (sectors : ℕ)
     (made : F) : Type 0 where
@@ -67,7 +68,7 @@ traced_calls f = f.calls.calls
 abbrev pub failures_of : {F : Type 0} → TracedFile F → ℕ
 failures_of f = f.failures.count
 
--- One call of the file, behind those that made it: listed if it succeeded, else counted.
+-- One call of the file, after those that made it: listed if it succeeded, else counted.
 pub record IsTraced {F T E : Type 0} (gives fails : F → FileCall → F → Type 0)
     (result : Result T E) (call : FileCall) (old new : TracedFile F) : Type 0 where
   pub one : IsOneCall gives fails result call (file_of old) (file_of new)
@@ -91,8 +92,8 @@ pub record IsMaking {F : Type 0} (gives : F → FileCall → F → Type 0) (call
   pub uncalled : traced_calls new ≡ traced_calls old
   pub unfailed : failures_of new ≡ failures_of old
 
--- A file that was opened and then called just so, in this order, before it is a device: it told so
--- many bytes, and is as honest as it was when it was opened.
+-- A file that was opened and then called just so, in this order, before it is a device: it told
+-- this many bytes, and is as honest as it was when it was opened.
 pub record IsOpenedBy {F : Type 0} (gives : F → FileCall → F → Type 0) (holds : F → DiskState)
     (calls : List FileCall) (file : F) (bytes : ℕ) (opened : TracedFile F) : Type 0 where
   pub led : LeadsBy gives calls file (file_of opened)

@@ -14,11 +14,11 @@ use crate::{Disk, DiskFault};
 use arrayvec::ArrayVec;
 use lift_base::ProofCount;
 
-/// At most so many writes are held back.
+/// At most this many writes are held back.
 const MOST_HELD: usize = 16;
 
 /// A device over another one. It reads 16 sectors at once, and makes up to 16 writes of
-/// neighbouring sectors, each behind the one before, as one: at the next write elsewhere, or at the
+/// neighbouring sectors, each after the one before, as one: at the next write elsewhere, or at the
 /// next sync. A call that finds such a write failing fails.
 #[derive(Drop)]
 pub struct Buffered<R: RunDisk + Drop> {
@@ -120,7 +120,7 @@ impl<R: RunDisk + Drop> Buffered<R> {
         Some(&self.ahead[place])
     }
 
-    /// Makes the writes that were held back, as one. Behind it none is, also where it fails.
+    /// Makes the writes that were held back, as one. After it none is, also where it fails.
     fn flush(&mut self) -> Result<(), DiskFault>
         ensures rests { Rests (as_written R.state self.old) (as_written R.state self.new) }
         ensures keeps { OnOk result
@@ -143,7 +143,7 @@ impl<R: RunDisk + Drop> Buffered<R> {
         outcome
     }
 
-    /// Whether the sector is the next behind those that are held back, and one more has room.
+    /// Whether the sector is the next after those that are held back, and one more has room.
     fn is_next(&self, sector: u32) -> bool
         ensures { IsTrue result ↔ IsNextHeld self.now sector }
     {
@@ -151,7 +151,7 @@ impl<R: RunDisk + Drop> Buffered<R> {
         held < MOST_HELD && self.from as usize + held == sector as usize
     }
 
-    /// Makes the sector the next behind those that are held back.
+    /// Makes the sector the next after those that are held back.
     fn make_room(&mut self, sector: u32) -> Result<(), DiskFault>
         requires { sector < (R.state self.old.device).size }
         ensures opens { Loosens sector (as_written R.state self.old) (as_written R.state self.new) }

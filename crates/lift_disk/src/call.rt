@@ -42,7 +42,7 @@ impl ProofHistory {
         ProofHistory {}
     }
 
-    /// What is known behind this.
+    /// What is known after this.
     #[inline(always)]
     fn then(&self, _change: &Change<'_>) -> ProofHistory
         ensures { (result.first ≡ first_after _change.now self.now.first)

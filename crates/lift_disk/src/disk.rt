@@ -22,7 +22,7 @@ pub trait Disk {
     ghost state: { Self → DiskState };
 
     /// What a device says of a read beside: of the device before, the sector, the bytes that were
-    /// read, the answer and the device behind.
+    /// read, the answer and the device after it.
     ghost read_gives: { Self → ℕ → List ℕ → Result (Unit {0}) DiskFault → Self
         → Type 0 } = { λ _ _ _ _ _. ⊤ };
 
@@ -120,11 +120,11 @@ pub trait Disk {
 
 /// A device that can be told to fail.
 pub trait Arm: Disk {
-    /// Armed with this number, when so many calls had been made: whether it fails this call,
+    /// Armed with this number, when this many calls had been made: whether it fails this call,
     /// counted from the first of all.
     ghost fails_by: { ℕ → ℕ → ℕ → Type 0 };
 
-    /// Tells it anew which calls to fail. It changes no image and is no call of the device.
+    /// Tells it again which calls to fail. It changes no image and is no call of the device.
     fn arm(&mut self, calls: u32)
         ensures same { IsUnchanged (Self.state self.old) (Self.state self.new) }
         ensures told { IsTold (fails_by calls (Self.state self.old).calls) (Self.state self.new) };

@@ -14,7 +14,7 @@ pub struct FailingDisk<R> {
     rule: PhantomData<R>,
 }
 
-/// Passes everything until it is armed, and then so many calls; after these it fails each one.
+/// Passes everything until it is armed, and then this many calls; after these it fails each one.
 pub type FuseDisk = FailingDisk<Fuse>;
 
 /// Passes everything until it is armed, and then fails one call: the first where it was armed with

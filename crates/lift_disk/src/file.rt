@@ -32,7 +32,7 @@ pub enum FileFault<F: Drop, O: Drop> {
     Stopped(Stopped<F>),
 }
 
-/// How many whole sectors a file of so many bytes has, 4,294,967,295 at most.
+/// How many whole sectors a file of this many bytes has, 4,294,967,295 at most.
 fn whole_sectors(bytes: u64) -> u32
     ensures { result ≡ sectors_in bytes }
 {
@@ -53,7 +53,7 @@ impl<F: ToldFile + Drop> SectorFile<F> {
     ghost use Rattle.lift_disk.specs.Files.{calls_below, making_below};
     ghost use Rattle.lift_disk.specs.Traced.{making_calls, to_be_made, to_be_read, to_be_used};
 
-    /// Opens a file that is there, if its lock is to be had. Its whole sectors count, 4,294,967,295
+    /// Opens a file that is there, if its lock is free. Its whole sectors count, 4,294,967,295
     /// at most; the end that is less than one doesn't. A pipe or a terminal isn't opened, so that
     /// nothing waits for its other end. A file that was opened and is refused comes back.
     pub fn open<O: FileOpener<Told = F>>(
@@ -115,9 +115,9 @@ impl<F: ToldFile + Drop> SectorFile<F> {
         }
     }
 
-    /// Makes a file of so many sectors of zeros, or makes one that is there into that, if its lock
-    /// is to be had. Its sectors are written and its folder is made safe, so that it has its room
-    /// and its name. A file that was opened and is refused comes back.
+    /// Makes a file of this many sectors of zeros, or makes one that is there into that, if its
+    /// lock is free. Its sectors are written and its folder is made safe, so that it has its
+    /// room and its name. A file that was opened and is refused comes back.
     pub fn create<O: FileOpener<Told = F>>(
         opener: O,
         path: &str,

@@ -11,7 +11,7 @@ use std::marker::Model;
 pub(crate) enum Called<'a> {
     /// It gave these bytes.
     Read(u64, &'a [u8]),
-    /// It gave these sectors, one behind the other.
+    /// It gave these sectors, one after the other.
     ReadSectors(u64, &'a [[u8; 512]]),
     Write(u64, &'a [u8]),
     SyncData,

@@ -1,9 +1,10 @@
 //! A device in memory. Proofs know its calls, so they know what a crash at any past moment might
 //! have left.
-ghost use Rattle.std.specs.Prelude.{◌≡◌, ◌≤◌, ◌<◌, ◌+◌, ◌^◌, ◌++◌, [], ◌∷◌, ℕ, length, replicate};
+ghost use Rattle.std.specs.Prelude.{◌≡◌, ◌≤◌, ◌<◌, ◌+◌, ◌^◌, ◌++◌, [], ◌∷◌, ℕ, length};
 ghost use Rattle.std.specs.Prelude.{true, false, refl, OnOk, OnErr, IfOk, IfSome, ⊤};
 ghost use Rattle.std.proofs.Common.{inl};
-ghost use Rattle.lift_disk.specs.Disk.{ChangesWithin, IsSynced, IsUnarmed};
+ghost use Rattle.lift_disk.specs.Disk.{ChangesWithin};
+ghost use Rattle.lift_disk.specs.Blank.{IsBlankDisk};
 ghost use Rattle.lift_disk.specs.Memory.{IsFlagged, IsWithin, image_after, no_other};
 
 use crate::call::ProofHistory;
@@ -42,20 +43,9 @@ pub struct MemDisk {
 impl MemDisk {
     ghost use Rattle.lift_disk.specs.Outcomes.{state_of, SpoilsAt, IsLeftBy, IsCut};
 
-    /// So many sectors of zeros, all of them on the disk. Refused only for want of memory.
+    /// This many sectors of zeros, all of them on the disk. Refused only where memory runs out.
     pub fn new(alloc: Global, sectors: u32) -> Result<MemDisk, Memory>
-        ensures zeros { IfOk result (λ disk.
-            (state_of disk).image ≡ replicate sectors (replicate 512 0)) }
-        ensures synced { IfOk result (λ disk. IsSynced (state_of disk)) }
-        ensures same { IfOk result (λ disk. (state_of disk).synced ≡ (state_of disk).image) }
-        ensures honest { IfOk result (λ disk. (state_of disk).is_honest) }
-        ensures inert { IfOk result (λ disk. (state_of disk).is_inert) }
-        ensures unarmed { IfOk result (λ disk. IsUnarmed (state_of disk)) }
-        ensures short { IfOk result (λ disk. (state_of disk).is_short ≡ false) }
-        ensures failures { IfOk result (λ disk. (state_of disk).failures ≡ 0) }
-        ensures calls { IfOk result (λ disk. (state_of disk).calls ≡ 0) }
-        ensures writes { IfOk result (λ disk. (state_of disk).writes ≡ 0) }
-        ensures trace { IfOk result (λ disk. (state_of disk).trace ≡ []) }
+        ensures blank { IfOk result (λ disk. IsBlankDisk sectors (state_of disk)) }
     {
         let image = zeros(alloc, sectors)?;
         Ok(MemDisk {
@@ -87,7 +77,7 @@ impl MemDisk {
         }
     }
 
-    /// The image becomes what a cut leaves, and time begins anew.
+    /// The image becomes what a cut leaves, and time begins again.
     fn lose(&mut self, outcome: Outcome)
         ensures image { IsLeftBy outcome (state_of self.old) (state_of self.new).image }
         ensures cut { IsCut (state_of self.old) (state_of self.new) }

@@ -45,7 +45,7 @@ pub(crate) fn copy(from: &[[u8; 512]], to: &mut Vec<[u8; 512]>)
     to.copy_from_slice(from);
 }
 
-/// Copies so many sectors from this place on to the front of the buffer.
+/// Copies this many sectors from this place on to the front of the buffer.
 pub(crate) fn read_sectors(
     sectors: &[[u8; 512]],
     from: usize,
@@ -106,7 +106,7 @@ pub(crate) fn leave(
     }
 }
 
-/// So many sectors of zeros.
+/// This many sectors of zeros.
 pub(crate) fn zeros(alloc: Global, count: u32) -> Result<Vec<[u8; 512]>, Memory>
     ensures { IfOk result (λ v. v.items ≡ replicate count (replicate 512 0)) }
 {
@@ -117,7 +117,7 @@ pub(crate) fn zeros(alloc: Global, count: u32) -> Result<Vec<[u8; 512]>, Memory>
     Ok(sectors)
 }
 
-/// So many flags, none of them set.
+/// This many flags, none of them set.
 pub(crate) fn no_flags(alloc: Global, count: u32) -> Result<Vec<bool>, Memory>
     ensures { IfOk result (λ v. v.items ≡ replicate count false) }
 {

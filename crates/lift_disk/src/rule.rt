@@ -5,11 +5,11 @@ ghost use Rattle.lift_disk.specs.Faults.{all_after_counts_down, only_last_counts
 
 /// Which calls fail, by the number that the device was armed with.
 pub trait FaultRule {
-    /// Armed with this number, when so many calls had been made: whether this call fails, counted
+    /// Armed with this number, when this many calls had been made: whether this call fails, counted
     /// from the first of all.
     ghost fails: { ℕ → ℕ → ℕ → Type 0 };
 
-    /// Whether the next call fails, with so many calls left.
+    /// Whether the next call fails, with this many calls left.
     fn is_due(calls_left: u32) -> bool
         ensures { (made : ℕ) → IsTrue result ↔ fails calls_left made (made + 1) };
 
@@ -17,11 +17,11 @@ pub trait FaultRule {
     ghost counts_down: { CountsDown fails };
 }
 
-/// After so many calls each one fails.
+/// After this many calls each one fails.
 #[derive(Drop)]
 pub struct Fuse;
 
-/// Of so many calls the last one fails, and no later one.
+/// Of this many calls the last one fails, and no later one.
 #[derive(Drop)]
 pub struct Flaky;
 

@@ -10,7 +10,7 @@ ghost use Rattle.lift_disk.specs.Trace.Access.{Read, Write};
 
 use crate::{Disk, DiskFault};
 
-/// At most so many sectors are read in one call.
+/// At most this many sectors are read in one call.
 pub const MOST_AHEAD: usize = 16;
 
 /// Room for the sectors of one such read.
@@ -24,7 +24,7 @@ pub trait RunDisk: Disk {
     ghost has_given: { Self → ℕ → List ℕ → Type 0 };
 
     /// What a device says of a read of several sectors beside: of the device before, the first
-    /// sector, how many, the buffer behind, the answer and the device behind.
+    /// sector, how many, the buffer after it, the answer and the device.
     ghost read_run_gives: { Self → ℕ → ℕ → List (List ℕ) → Result (Unit {0}) DiskFault → Self
         → Type 0 } = { λ _ _ _ _ _ _. ⊤ };
 
@@ -36,7 +36,7 @@ pub trait RunDisk: Disk {
         ensures given { (i : ℕ) (bytes : List ℕ) → ∥ has_given self.old i bytes ∥₁
             → ∥ has_given self.new i bytes ∥₁ };
 
-    /// Reads so many sectors from this one on. A failed read leaves the buffer open.
+    /// Reads this many sectors from this one on. A failed read leaves the buffer open.
     fn read_run(&mut self, sector: u32, count: usize, buffer: &mut Ahead) -> Result<(), DiskFault>
         requires count { count ≤ 16 }
         requires inside { sector + count ≤ (Self.state self.old).size }

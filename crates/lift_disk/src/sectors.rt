@@ -3,6 +3,7 @@ ghost use Rattle.std.specs.Prelude.{◌≡◌, ◌↔◌, ◌*◌, ◌++◌, [],
 ghost use Rattle.std.proofs.Common.{◌∙◌};
 ghost use Rattle.lift_disk.specs.FileCalls.FileCall.{Read as ReadBytes};
 ghost use Rattle.lift_disk.specs.FileCalls.{in_bytes, without_given};
+ghost use Rattle.lift_disk.specs.Blank.{IsUncalledDisk};
 ghost use Rattle.lift_disk.specs.Holding.{IsKnownSteady};
 ghost use Rattle.lift_disk.specs.Traced.{traced_calls, failures_of, making_of};
 
@@ -51,9 +52,7 @@ impl<F: ToldFile + Drop> SectorFile<F> {
         ensures uncalled { calls_below result ≡ [] }
         ensures size { (sector_file_state_of F.holds result).size ≡ sectors }
         ensures failures { (sector_file_state_of F.holds result).failures ≡ failures_of file }
-        ensures calls { (sector_file_state_of F.holds result).calls ≡ 0 }
-        ensures writes { (sector_file_state_of F.holds result).writes ≡ 0 }
-        ensures trace { (sector_file_state_of F.holds result).trace ≡ [] }
+        ensures none_made { IsUncalledDisk (sector_file_state_of F.holds result) }
         // It is honest exactly where the file is, and where it has so many whole sectors.
         ensures honest { (sector_file_state_of F.holds result).is_honest
             ↔ ((F.holds (file_of file)).is_honest × ((F.holds (file_of file)).size ≡ sectors)) }

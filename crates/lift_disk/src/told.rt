@@ -32,7 +32,7 @@ pub trait ToldFile {
     /// What was written has reached the disk, or was given up.
     ghost is_written_back: { Self → Type 0 };
 
-    /// Takes the lock that one process has at a time, or fails at once. It is had until the file
+    /// Takes the lock that one process has at a time, or fails at once. It is held until the file
     /// is closed.
     fn lock_told(&mut self) -> io::Result<()>
         ensures one { IsOneCall gives fails result Lock self.old self.new }
@@ -48,7 +48,7 @@ pub trait ToldFile {
         ensures one { IsOneCall gives fails result (Read offset buffer.new) self.old self.new }
         ensures held { Reads result offset (buffer.new ∷ []) (holds self.old) (holds self.new) };
 
-    /// Reads so many sectors as the buffer has from this offset on.
+    /// Reads this many sectors as the buffer has from this offset on.
     fn read_sectors_told(&mut self, buffer: &mut [[u8; 512]], offset: u64) -> io::Result<()>
         ensures one { IsOneCall gives fails result (ReadSectors offset buffer.new) self.old
             self.new }
@@ -84,7 +84,7 @@ pub trait ToldFile {
         ensures one { IsOneCall gives fails result DropCached self.old self.new }
         ensures held { Syncs (is_written_back self.old) result (holds self.old) (holds self.new) };
 
-    /// Makes it so many bytes long.
+    /// Makes it this many bytes long.
     fn set_length_told(&mut self, bytes: u64) -> io::Result<()>
         ensures one { IsOneCall gives fails result (SetLength bytes) self.old self.new }
         ensures honest { (holds self.new).is_honest ↔ (holds self.old).is_honest }

@@ -11,7 +11,7 @@ use std::marker::Model;
 pub(crate) enum Made<'a> {
     Read(u64),
     Write(u64, &'a [u8; 512]),
-    /// Several sectors, one behind the other.
+    /// Several sectors, one after the other.
     WriteRun(u64, &'a [u8]),
     Sync,
 }

@@ -17,7 +17,7 @@ use crate::told::ToldFile;
 use lift_base::ProofCount;
 use std::io;
 
-/// So many sectors of a file are written at once while it is made.
+/// This many sectors of a file are written at once while it is made.
 const AT_ONCE: u32 = 128;
 
 /// A file with the list of its calls that have succeeded and the count of those that have failed,
@@ -62,7 +62,7 @@ impl<F: ToldFile + Drop> TracedFile<F> {
         Ok(())
     }
 
-    /// Makes it so many bytes long.
+    /// Makes it this many bytes long.
     fn set_length(&mut self, bytes: u64) -> io::Result<()>
         ensures making { OnOk result (IsMaking F.gives (SetLength bytes ∷ []) self.old self.new) }
         ensures failed { OnErr result
@@ -90,7 +90,7 @@ impl<F: ToldFile + Drop> TracedFile<F> {
         Ok(())
     }
 
-    /// Writes zeros into all of so many sectors.
+    /// Writes zeros into all of this many sectors.
     fn fill_with_zeros(&mut self, sectors: u32) -> io::Result<()>
         ensures making { OnOk result
             (IsMaking F.gives (zero_writes sectors ((sectors + 127) / 128)) self.old self.new) }
@@ -118,7 +118,7 @@ impl<F: ToldFile + Drop> TracedFile<F> {
         Ok(())
     }
 
-    /// Makes it into one of so many sectors of zeros, up to a call that fails.
+    /// Makes it into one of this many sectors of zeros, up to a call that fails.
     fn make(&mut self, sectors: u32) -> io::Result<()>
         ensures making { OnOk result (IsMaking F.gives (making_calls sectors) self.old self.new) }
         ensures failed { OnErr result (FailsIn F.gives F.fails (making_calls sectors)
@@ -135,8 +135,8 @@ impl<F: ToldFile + Drop> TracedFile<F> {
         self.sync_all()
     }
 
-    /// A file that was opened to be read and written, made into one of so many sectors of zeros,
-    /// where its lock is to be had. Each is written, so that the file has its room. Where a call
+    /// A file that was opened to be read and written, made into one of this many sectors of zeros,
+    /// where its lock is free. Each is written, so that the file has its room. Where a call
     /// fails none is made after it, and the file comes back as it was left.
     pub fn zeroed(file: F, sectors: u32) -> Result<TracedFile<F>, Stopped<F>>
         ensures led { IfOk result (λ made.
@@ -187,7 +187,7 @@ impl<F: ToldFile + Drop> TracedFile<F> {
         self.measure()
     }
 
-    /// A file that was opened to be read and written, once its lock was had, and its length in
+    /// A file that was opened to be read and written, once its lock was taken, and its length in
     /// bytes. Where a call fails none is made after it, and the file comes back as it was left.
     pub fn locked(file: F) -> Result<(TracedFile<F>, u64), Stopped<F>>
         ensures told { IfOk result (λ opened. IsOpenedBy F.gives F.holds
@@ -287,7 +287,7 @@ impl<F: ToldFile + Drop> TracedFile<F> {
         self.note(outcome, &Called::Read(offset, buffer))
     }
 
-    /// Reads so many sectors as the buffer has from this offset on, in one call.
+    /// Reads this many sectors as the buffer has from this offset on, in one call.
     pub(crate) fn read_sectors(
         &mut self,
         buffer: &mut [[u8; 512]],

@@ -77,7 +77,7 @@ fn leaving_at(rows: &[Row], position: &Position, halt: &Halt) -> u32 {
     persons
 }
 
-/// Whether as many leave at each floor in a pass, by the schedule and by a table made anew, as of
+/// Whether as many leave at each floor in a pass, by the schedule and by a table newly made, as of
 /// these calls.
 fn are_leaving_in(schedule: &Schedule, rows: &[Row], position: &Position, pass: Pass) -> bool {
     if rows.len() > 33 {
@@ -165,8 +165,8 @@ pub(crate) fn rows_after(rows: &[Row], number: u8, dir: Dir) -> ArrayVec<Row, 32
     left
 }
 
-/// Whether a schedule that is changed so many times, by a fixed list of calls, stops and moves, is
-/// each time as from nothing. The building has ten floors.
+/// Whether a schedule that is changed this many times, by a fixed list of calls, stops and moves,
+/// is each time as from nothing. The building has ten floors.
 pub(crate) fn are_changes_as_from_nothing(building: &Building, count: u32, seed: u32) -> bool {
     let mut numbers = Numbers { seed };
     let mut rows: ArrayVec<Row, 32> = ArrayVec::new();

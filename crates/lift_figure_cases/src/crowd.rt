@@ -84,7 +84,7 @@ fn is_as_from_nothing(schedule: &Schedule, rows: &[Row]) -> bool {
         && schedule.next_stop() == next_stop(rows, *position)
 }
 
-/// Whether a car with so many calls has the halts and the cost of a new call that are made from
+/// Whether a car with this many calls has the halts and the cost of a new call that are made from
 /// nothing.
 fn is_car_as_from_nothing(
     building: &Building,
@@ -192,8 +192,8 @@ fn is_car_right(decider: &Decider, car: Letter, position: &Option<Position>) -> 
     }
 }
 
-/// Whether each of the three cars' schedules is as from nothing after each of so many commands of a
-/// fixed list, and calls were served and many were open at once.
+/// Whether each of the three cars' schedules is as from nothing after each of this many commands of
+/// a fixed list, and calls were served and many were open at once.
 pub(crate) fn are_commands_as_from_nothing(decider: &mut Decider, count: u32, seed: u32) -> bool {
     let mut numbers = Numbers { seed };
     let mut positions = [None; 3];

@@ -31,7 +31,7 @@ impl<'b> Figures<'b> {
         }
     }
 
-    /// `changes 500 from 1 = yes`: whether a schedule is as from nothing after each of so many
+    /// `changes 500 from 1 = yes`: whether a schedule is as from nothing after each of this many
     /// changes.
     fn changes(&self, words: &[&str], came: &mut String) -> Result<(), Trouble> {
         match words {

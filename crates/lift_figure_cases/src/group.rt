@@ -215,7 +215,7 @@ impl<'b> Calls<'b> {
         }
     }
 
-    /// `group same 31`: whether each of 16 cars has so many calls, and halts and costs as from
+    /// `group same 31`: whether each of 16 cars has this many calls, and halts and costs as from
     /// nothing.
     fn same(&self, words: &[&str], came: &mut String) -> Result<(), Trouble> {
         match words {

@@ -19,7 +19,7 @@ use lift_building::Building;
 use std::process::ExitCode;
 use std::{env, fs};
 
-/// Tries the cases of a building: its file, and the lines behind it.
+/// Tries the cases of a building: its file, and the lines after it.
 fn try_building(rt: &HostRuntime, report: &mut Report, part: &str) -> Result<(), Trouble> {
     let (file, _cases) = part.split_once('\n').ok_or(Trouble::Words)?;
     let text = fs::read_to_string(rt, file)?;

@@ -38,7 +38,7 @@ pub(crate) fn call_of(words: &[&str]) -> Result<NewCall, Trouble> {
     }
 }
 
-/// A call for so many persons, which waits or is aboard.
+/// A call for this many persons, which waits or is aboard.
 pub(crate) fn row_of(call: &NewCall, aboard: bool) -> Row {
     Row {
         from: call.from,
@@ -70,7 +70,7 @@ fn is_within(floors: u8, row: &Row) -> bool
     row.from.get() < floors && row.to.get() < floors
 }
 
-/// Whether a building with so many floors has those of the calls.
+/// Whether a building with this many floors has those of the calls.
 pub(crate) fn are_within(floors: u8, rows: &[Row]) -> bool
     ensures { result ≡ true → AreWithin floors rows.now }
 {
@@ -119,7 +119,7 @@ pub(crate) fn costs_in(
     Some((cost, degradation_of(building, schedule, *call)))
 }
 
-/// A schedule with these calls made anew; none where they are too many.
+/// A schedule with these calls, newly made; none where they are too many.
 pub(crate) fn schedule_with(position: Position, rows: &[Row]) -> Option<Schedule> {
     let mut schedule = Schedule::new(position);
     for row in rows {
@@ -194,7 +194,7 @@ impl Trip {
         Ok(())
     }
 
-    /// `car halts`: by a list made from nothing, by the schedule, and by one made anew.
+    /// `car halts`: by a list made from nothing, by the schedule, and by one newly made.
     fn halts(&self, came: &mut String) -> Result<(), Trouble> {
         let halts = stop_list(&self.rows, self.position);
         let anew = schedule_with(self.position, &self.rows).ok_or(Trouble::Words)?;

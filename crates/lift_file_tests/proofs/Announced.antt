@@ -1,4 +1,4 @@
--- Sectors that are announced one behind the other.
+-- Sectors that are announced one after the other.
 use Rattle.std.proofs.Common.{◌≡◌, ◌≢◌, ◌⊎◌, ◌+◌, ◌∙◌, inl, inr, ⊎_elim, ℕ, zero, suc, refl, ap, sym, subst, arith}
 use Rattle.lift_disk.specs.Disk.{DiskState, Image, ChangesWithin}
 use Rattle.lift_disk.specs.Runs.{Announces, IsInRun}

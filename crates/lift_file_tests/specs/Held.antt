@@ -11,7 +11,7 @@ use Rattle.lift_file_tests.specs.declared.memory_file.MemoryFile.{MemoryFile}
 abbrev pub held : MemoryFile → DiskState
 held f = state_of f.disk
 
--- So many sectors from that one on are loose too. It is no call, and nothing else changes.
+-- This many sectors from that one on are loose too. It is no call, and nothing else changes.
 pub record OpensRun (from count : ℕ) (old new : DiskState) : Type 0 where
   pub same : IsSameFile old new
   pub image : new.image ≡ old.image

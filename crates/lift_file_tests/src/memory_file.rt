@@ -20,7 +20,7 @@ pub struct MemoryFile {
     alloc: Global,
 }
 
-/// How many whole sectors so many bytes have, 4,294,967,295 at most.
+/// How many whole sectors this many bytes have, 4,294,967,295 at most.
 fn whole_sectors(bytes: u64) -> u32
     ensures { result ≡ sectors_in bytes }
 {
@@ -34,7 +34,7 @@ fn refused() -> io::Error {
 impl MemoryFile {
     ghost use Rattle.lift_file_tests.specs.Held.{OpensRun, held};
 
-    /// So many sectors of zeros.
+    /// This many sectors of zeros.
     pub fn new(alloc: Global, sectors: u32) -> Result<MemoryFile, Memory>
         ensures honest { IfOk result (λ file. (held file).is_honest) }
         ensures size { IfOk result (λ file. (held file).size ≡ sectors) }
@@ -45,7 +45,7 @@ impl MemoryFile {
         })
     }
 
-    /// The sector at this offset, where so many from it on are in the file.
+    /// The sector at this offset, where this many from it on are in the file.
     fn sector_at(&self, offset: u64, count: usize) -> Option<u32>
         ensures { IfSome result (λ sector. (offset ≡ sector * 512)
             × (sector + count ≤ (held self.now).size)) }
@@ -164,7 +164,7 @@ impl ToldFile for MemoryFile {
         }
     }
 
-    // what was written is kept until the sync behind
+    // what was written is kept until the sync after it
     fn write_back_told(&mut self) -> io::Result<()> {
         Ok(())
     }

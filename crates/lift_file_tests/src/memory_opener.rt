@@ -8,7 +8,7 @@ use std::fs::OpenOptions;
 use std::io;
 use std::io::ErrorKind;
 
-/// Opens a file of so many sectors of zeros, at whatever path.
+/// Opens a file of this many sectors of zeros, at whatever path.
 #[derive(Drop)]
 pub struct MemoryOpener {
     alloc: Global,

@@ -1,4 +1,4 @@
-//! Tests of `lift_clerk`: turns whose device fails, reopenings, histories behind cuts, and a late
+//! Tests of `lift_clerk`: turns whose device fails, reopenings, histories after cuts, and a late
 //! session and a drive over a clerk. Turns of scripts and sessions are data, tried by
 //! `tools/try/cases`.
 

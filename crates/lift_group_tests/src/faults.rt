@@ -1,5 +1,5 @@
 //! Each device call of a commit, of a clerk's turn and of a flusher's is stopped in turn, by a
-//! device that fails once and by one that fails from then on; behind it the power is cut in five
+//! device that fails once and by one that fails from then on; after it the power is cut in five
 //! ways or not at all, and the recovery is stopped at each of its own calls too, and begun again.
 //! What was told is there each time. These are 3,256 stops of each device, and as many of each kind
 //! of work. So is each call of three batches that wait in a line, and of a commit that moves a

@@ -69,7 +69,7 @@ impl<'a, D: Disk + Drop, P: Policy + Drop> Relay<'a, D, P> {
         self.allocator.has_batch_in_hand()
     }
 
-    /// Whether so many batches were sent and received.
+    /// Whether this many batches were sent and received.
     pub(crate) fn has_moved(&self, sent: u64, received: u64) -> bool {
         self.allocator.sent() == sent && self.flusher.received() == received
     }

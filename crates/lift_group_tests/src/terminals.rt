@@ -132,7 +132,7 @@ impl<'d> Terminals<'d> {
         }
     }
 
-    /// Waits for what it hears, for so many looks.
+    /// Waits for what it hears, for this many looks.
     pub(crate) fn wait_for(&mut self, who: Who, looks: u64) -> Option<Reply> {
         for _ in 0..looks {
             if let Some(reply) = self.hear(who) {

@@ -152,7 +152,7 @@ module _ (start end gate : ℕ) (batches : List Batch) (batch : Batch) (body old
         next = omega (arith, room, size);
       }) sound
 
--- the calls that write some batches, and then others behind them
+-- the calls that write some batches, and then others after them
 draft_append : (gate number : ℕ) (first second : List Batch)
     → draft_calls gate number (first ++ second) ≡ draft_calls gate number first ++ draft_calls (gate + used first) (number + length first) second
 draft_append gate number [] second =
@@ -179,7 +179,7 @@ batches_split (suc count) more records =
     ∙ ap (λ (l : List Batch). first ∷ l) (batches_split count more (drop 63 records))
     ∙ ap (λ (l : List Record). first ∷ (in_batches count (drop 63 records) ++ in_batches more l)) place
 
--- those of the next batch, whatever stands behind it
+-- those of the next batch, whatever stands after it
 draft_next : (start gate count : ℕ) (records : List Record) (tail : List Batch) (body : Image) → gate ≡ start + used (in_batches count records) → body ≡ batch_body (count + 1) (batch_at count records)
     → draft_calls start 1 (in_batches count records ++ batch_at count records ∷ tail)
     ≡ draft_calls start 1 (in_batches count records) ++ ((writes_from (gate + 1) body ++ Write gate marked ∷ []) ++ draft_calls (gate + (1 + size_of (batch_at count records))) (count + 1 + 1) tail)
@@ -206,7 +206,7 @@ draft_stops old now new start gate count end records body at is below was front 
     subst (λ (l : List Access). StopsIn l old new) (sym (ap (draft_calls start 1) whole ∙ draft_next start gate count records tail body at is))
     (front_then old now new done (calls ++ rest) was (front_more now new calls rest front))
 
--- From the start on so many batches of a checkpoint are written.
+-- From the start on this many batches of a checkpoint are written.
 pub record Drafted (old now : DiskState) (start gate count : ℕ) (records : List Record) : Type 0 where
   pub runs : RunsOn old now
   pub calls : now.calls ≡ old.calls + used (in_batches count records)

@@ -44,7 +44,7 @@ chain_drop (batch ∷ batches) (suc k) number (gate ∷ rest) le chain =
     subst (λ m. IsChain (drop k batches) m (drop (n + used (take k batches)) rest)) count
     (subst (λ (l : Image). IsChain (drop k batches) ((number + 1) + k) l) (drop-drop (used (take k batches)) n rest) next)
 
--- behind its gate stands the batch at this place
+-- after its gate stands the batch at this place
 pub record IsThere (image : Image) (gate end number : ℕ) (batch : Batch) : Type 0 where
   pub is_open : IsOpen (sector_at image gate)
   pub batch_at : IsBatchAt image gate end number batch

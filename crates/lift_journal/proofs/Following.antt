@@ -62,7 +62,7 @@ writes-take first zero sectors = refl
 writes-take first (suc count) [] = refl
 writes-take first (suc count) (s ∷ sectors) = ap (λ (l : List Access). Write first s ∷ l) (writes-take (first + 1) count sectors)
 
--- some sectors are read, and then those behind them
+-- some sectors are read, and then those after them
 pub reads-append : (first a b : ℕ) → reads_from first (a + b) ≡ reads_from first a ++ reads_from (first + a) b
 reads-append first zero b = ap (λ n. reads_from first n) (let same : 0 + b ≡ b = omega arith in same) ∙ ap (λ n. reads_from n b) (let same : first ≡ first + 0 = omega arith in same)
 reads-append first (suc a) b =

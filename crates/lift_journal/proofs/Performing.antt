@@ -82,15 +82,32 @@ err_performs Q r old new first second n m w v is was calls writes =
       follows = err_follows Q r old new (first ++ second) is (front_more old new first second was.follows.front);
     }
 
-pub performs_from : {T E : Type 0} {r : Result T E} {calls others : List Access} {n w : ℕ} {old new : DiskState} → RunsOn old new → HasCause r old new → StopsAsTold r old new → Makes r n w old new → Follows r calls old new
-    → calls ≡ others → Performs r others n w old new
-performs_from {T} {E} {r} {calls} {others} {n} {w} {old} {new} runs cause told made follows same = record {
-  runs = runs;
-  cause = cause;
-  told = told;
-  made = made;
-  follows = subst (λ (l : List Access). Follows r l old new) same follows;
+-- the same calls, in other words
+pub performs_from : {T E : Type 0} {r : Result T E} {calls others : List Access} {n w : ℕ} {old new : DiskState} → Performs r calls n w old new → calls ≡ others → Performs r others n w old new
+performs_from {T} {E} {r} {calls} {others} {n} {w} {old} {new} was same = subst (λ (l : List Access). Performs r l n w old new) same was
+
+-- a step that has answered, whose caller answers with a value of its own
+pub ok_performs : {T E U F : Type 0} {x : T} {y : U} (old new : DiskState) (calls : List Access) (n w : ℕ) → Performs {T = T} {E = E} (Ok x) calls n w old new → Performs {T = U} {E = F} (Ok y) calls n w old new
+ok_performs old new calls n w was = record {
+  runs = was.runs;
+  cause = record { ok = was.cause.ok; err = tt };
+  told = record { ok = was.told.ok; err = tt };
+  made = record { calls = was.made.calls; writes = was.made.writes; most_calls = was.made.most_calls; most_writes = was.made.most_writes };
+  follows = record { all = was.follows.all; front = tt };
 }
+
+-- a step that failed, whose fault is answered
+pub err_performed : {T E U F : Type 0} {e : E} (Q : F → Type 0) (r : Result U F) (old new : DiskState) (calls : List Access) (n w : ℕ) → IsErrAnd r Q
+    → Performs {T = T} {E = E} (Err e) calls n w old new → Performs r calls n w old new
+err_performed Q r old new calls n w is was =
+    let fault = err_from_is_err_and r is in
+    record {
+      runs = was.runs;
+      cause = record { ok = rw fault.1 tt; err = rw fault.1 was.cause.err };
+      told = err_stops Q r old new is was.told.err;
+      made = record { calls = rw fault.1 tt; writes = rw fault.1 tt; most_calls = was.made.most_calls; most_writes = was.made.most_writes };
+      follows = err_follows Q r old new calls is was.follows.front;
+    }
 
 -- the same, as a call of the journal answers it
 module _ {T U E : Type 0} (calls : List Access) (n w : ℕ) (old new : DiskState) where

@@ -1,5 +1,5 @@
 -- An image that holds batches is refused for a failed call alone.
-use Rattle.std.proofs.Common.{◌≡◌, ◌<◌, ◌≤◌, ◌+◌, ◌-◌, ⊎_elim, ℕ, suc, List, [], ◌∷◌, ◌++◌, length, take, drop, refl, sym, ◌∙◌, ap, subst, arith, add-zero, append_assoc, length-drop, length-take}
+use Rattle.std.proofs.Common.{◌≡◌, ◌⊎◌, ◌<◌, ◌≤◌, ◌+◌, ◌-◌, ⊎_elim, ℕ, suc, List, [], ◌∷◌, ◌++◌, length, take, drop, refl, sym, ◌∙◌, ap, subst, arith, add-zero, append_assoc, length-drop, length-take}
 use Rattle.std.proofs.lemmas.List.{take-take, drop-drop, append-nil}
 use Rattle.lift_base.specs.declared.history.Shape.{Shape}
 use Rattle.lift_disk.specs.Disk.{DiskState, Image}
@@ -10,7 +10,7 @@ use Rattle.lift_journal.specs.declared.fault.JournalFault.TheVariants.{Disk, Not
 use Rattle.lift_journal.specs.Layout.{Batch, records_of, size_of, IsBody, IsChain, IsSound, used, sector_at, start_of, Holds}
 use Rattle.lift_base.specs.declared.history.Record.{Record}
 use Rattle.lift_journal.specs.Order.{AreRecordsInOrder, IsComplete}
-use Rattle.lift_journal.specs.Opening.{RefusedFor}
+use Rattle.lift_journal.specs.Opening.{RefusedFor, FixesImage}
 use Rattle.lift_journal.specs.Answers.{RefusesAt}
 use Rattle.lift_journal.specs.Behind.{RefusedBehind}
 use Rattle.lift_journal.specs.Steps.{ReadsOnly, HasItsCause}
@@ -21,7 +21,7 @@ use Rattle.lift_journal.specs.lemmas.Orders.{fall_front, order_front}
 use Rattle.lift_journal.specs.lemmas.Unique.{body_unique, stamp_unique}
 use Rattle.lift_journal.proofs.Walks.{from_here}
 
--- what a chain holds behind its front
+-- what a chain holds after its front
 record Behind (batches others : List Batch) (number : ℕ) (sectors : Image) : Type 0 where
   pub rest : List Batch
   pub joined : others ≡ batches ++ rest
@@ -105,8 +105,8 @@ good_refusal Full old new cause honest shape batches holds = absurd cause
 good_refusal Broken old new cause honest shape batches holds = absurd cause
 
 -- an opening that was refused
-pub refused_at : (fault : JournalFault) (old new : DiskState) → ReadsOnly old new → RefusedFor fault old new → HasItsCause fault old new → RefusedBehind fault old new → RefusesAt old new fault
-refused_at fault old new only refused cause behind = record {
+pub refused_at : (fault : JournalFault) (old new : DiskState) → ReadsOnly old new → RefusedFor fault old new → (new.trace ≡ old.trace) ⊎ (old.is_honest → FixesImage old new) → HasItsCause fault old new → RefusedBehind fault old new → RefusesAt old new fault
+refused_at fault old new only refused settled cause behind = record {
   refused = record {
     moments = only.touched.moments;
     runs = only.runs;
@@ -114,6 +114,7 @@ refused_at fault old new only refused cause behind = record {
     image = only.image;
     saved = only.saved;
     cause = refused;
+    settled = settled;
     told = cause_told fault old new cause;
     good = good_refusal fault old new refused;
   };

@@ -8,7 +8,7 @@ use Rattle.lift_journal.specs.Fronts.{IsOfChain, IsOfStamp}
 use Rattle.lift_journal.specs.Layout.{IsStamped, start_of}
 use Rattle.lift_journal.specs.Steps.{HasItsCause, ReadsOnly, ReadsWell, IsSyncedAt}
 use Rattle.lift_journal.specs.Walk.{IsDamagedAt}
-use Rattle.lift_journal.specs.Opening.{RefusedFor}
+use Rattle.lift_journal.specs.Opening.{RefusedFor, FixesImage}
 
 module _ (fault : JournalFault) (old mid new : DiskState) (only : ReadsOnly old mid) (failures : mid.failures ≡ old.failures) (synced : old.is_honest → IsSynced mid) (cause : HasItsCause fault mid new) where
   -- what is read at the end
@@ -51,3 +51,12 @@ module _ (fault : JournalFault) (old mid new : DiskState) (only : ReadsOnly old 
       )
       by_fault Full same cause is = absurd is
       by_fault Broken same cause is = absurd is
+
+-- behind a sync that succeeded, reads leave nothing in doubt, also where one fails
+pub settled_behind : (old mid new : DiskState) → ReadsOnly old mid → ReadsOnly mid new → (old.is_honest → IsSynced mid) → ReadsOnly old new → old.is_honest → FixesImage old new
+settled_behind old mid new first second synced only honest =
+    let honest_mid = first.runs.honest.1 honest in
+    record {
+      none_loose = λ i loose. (synced honest).none_loose i (second.touched.loose (second.runs.honest.1 honest_mid) i loose);
+      seen = only.touched.within honest;
+    }

@@ -75,7 +75,7 @@ picks_synced shape start gate number disk stands honest left leaves =
 pub gate_high : (size : ℕ) (shape : Shape) (start gate number : ℕ) → HasNextPlace size shape start gate number → 2 ≤ gate
 gate_high size shape start gate number place = ⊎_elim (λ first. omega (arith, first, place.low)) (λ second. omega (arith, second, place.low)) place.halves
 
--- and so do changes behind it
+-- and so do changes after it
 pub append_picks : (shape : Shape) (start gate number high : ℕ) (old new : DiskState) → 2 ≤ gate → (old.is_honest → StandsAt shape start gate number old)
     → ((old.is_honest → IsSynced old) → TouchesOnly (IsInRange gate high) old new) → LeavesOnly old new (Picks (nat_lt 2 start))
 append_picks shape start gate number high old new low stands touched =

@@ -69,7 +69,7 @@ written_pick start end batches old mid left low written change = record {
   chain = half_same (end - start) start batches (λ i. i ≡ 0) mid left (λ i is range. omega (arith, is, range.0, low)) change written.chain;
 }
 
--- a switch that failed behind the batches
+-- a switch that failed after the batches
 pub writing_stops : (old mid new : DiskState) (start end gate sectors : ℕ) (batches : List Batch) (pick : List ℕ) → 2 ≤ start → start + 64 ≤ end → end ≤ length mid.image → gate < start + 64
     → ChangesWithin (IsInRange start (start + 64)) old.image mid.image → Reaches mid.image start end gate batches → mid.calls ≡ old.calls + sectors
     → StopsSwitch start (start + 64) gate pick mid new → StopsWriting start end batches sectors pick old new

@@ -27,7 +27,7 @@ length-batch_bytes number batch =
       length-spellings batch.version batch.records,
     )
 
--- bytes that are put behind those that stand already
+-- bytes that are put after those that stand already
 pub put_more : (done text piece : List ℕ) (at n : ℕ) → length done ≡ at → n ≡ length piece → text ≡ filled 2 done → take at text ++ (piece ++ drop (at + n) text) ≡ filled 2 (done ++ piece)
 put_more done text piece at n so_long size is =
     let zeros = replicate (1024 - length done) 0 in
@@ -132,7 +132,7 @@ tail_of_text number batch first second lawful is =
           ∙ ap (λ k. texts ++ replicate k 0) (omega (arith, length-batch_bytes number batch));
     }
 
--- the header of a body, whatever stands behind its first sector
+-- the header of a body, whatever stands after its first sector
 pub header_of_body : (number : ℕ) (batch : Batch) (first : List ℕ) (rest : Image) → 16 ≤ length first → IsBody number batch (take (size_of batch) (first ∷ rest))
     → take 16 first ≡ header_bytes batch.version (length batch.records) number
 header_of_body number batch first rest long body = by_size (nat_lt (length batch.records) 32) body.spelled
@@ -219,7 +219,7 @@ joined_is first second mid text one two is also =
     also ∙ ap (λ (l : List ℕ). l ++ (second ++ drop (512 + length second) mid)) front
     ∙ ap (λ (l : List ℕ). first ++ (second ++ l)) none ∙ ap (λ (l : List ℕ). first ++ l) (append-nil second)
 
--- what stands behind the header, as records and zeros
+-- what stands after the header, as records and zeros
 pub tail_split : (version : Version) (count : ℕ) (records : List Record) (text : List ℕ) → length text ≡ 1024 → count ≤ 63 → IsRecordsIn version (drop 16 text) count records
     → drop (16 + 16 * count) text ≡ replicate (1024 - (16 + 16 * count)) 0 → IsTailOf version records (drop 16 text)
 tail_split version count records text size few there blank = record {

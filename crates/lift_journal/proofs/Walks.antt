@@ -147,7 +147,7 @@ module _ (image : Image) (start end : ℕ) (front : Front) (batches : List Batch
     broken = inl (is_open, λ batch there sound. none batch (subst (λ n. IsBatchAt image front.gate end n batch) (sym at.counts) there));
   }
 
-  -- the batch here may not stand behind those before it
+  -- the batch here may not stand after those before it
   pub may_not : (stored : Stored) → IsOpen (sector_at image front.gate) → IsBatchAt image front.gate end front.number (batch_of stored) → ¬ Passes front stored → IsDamagedAt image start end front.gate
   may_not stored is_open there not = record {
     batches = batches;

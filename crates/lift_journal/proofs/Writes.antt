@@ -13,7 +13,7 @@ use Rattle.lift_journal.specs.Steps.{overwritten, IsInRange}
 use Rattle.lift_journal.specs.Told.{NoneFails}
 use Rattle.lift_journal.specs.lemmas.Telling.{none_made, passes_then}
 
--- so many of the sectors are written
+-- this many of the sectors are written
 pub record Written (old now : DiskState) (first : ℕ) (sectors : Image) (count : ℕ) : Type 0 where
   pub runs : RunsOn old now
   pub failures : now.failures ≡ old.failures

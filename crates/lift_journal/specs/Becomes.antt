@@ -22,7 +22,7 @@ pub record Becomes {D T : Type 0} (state : D → DiskState) (old : JournalView D
   -- at Ok the journal holds the others
   pub done : OnOk result (JournalHolds state new (change batches))
 
--- The next batch goes into this half, behind so many sectors, with this number; where the call
+-- The next batch goes into this half, after this many sectors, with this number; where the call
 -- fails, it goes where it would have gone.
 pub record GoesTo {D T : Type 0} (old : JournalView D) (is_second : Bool) (sectors next : ℕ)
     (new : JournalView D) (result : Result T JournalFault) : Type 0 where
@@ -32,8 +32,8 @@ pub record GoesTo {D T : Type 0} (old : JournalView D) (is_second : Bool) (secto
   pub kept : OnErr result ((new.is_second ≡ old.is_second) × (new.used ≡ old.used)
       × (new.number ≡ old.number))
 
--- Beside a call of the device that failed, and a journal that is broken, a batch of so many records
--- is refused just where it has no room, and then nothing is changed.
+-- A batch of this many records is Full just where it has no room and the journal isn't broken, and
+-- then nothing is changed. Else it is refused for a call that failed, or while broken.
 pub record RefusesForRoom {D T : Type 0} (old : JournalView D) (count : ℕ) (new : JournalView D)
     (result : Result T JournalFault) : Type 0 where
   pub full : IsErrOf result Full

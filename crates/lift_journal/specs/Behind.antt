@@ -1,4 +1,4 @@
--- What a refused opening has read: nothing behind the sector that refuses it.
+-- What a refused opening has read: nothing after the sector that refuses it.
 use Rattle.std.specs.Prelude.{◌≡◌, ◌⊎◌, ◌<◌, ◌≤◌, ◌+◌, ◌-◌, ◌*◌, ◌++◌, ℕ, List, [], ◌∷◌}
 use Rattle.lift_base.specs.declared.history.Shape.{Shape}
 use Rattle.lift_base.specs.History.{IsWithinLimits}
@@ -12,7 +12,7 @@ use Rattle.lift_journal.specs.Layout.{Batch}
 use Rattle.lift_journal.specs.Walk.{Reaches, IsDamagedAt}
 use Rattle.lift_journal.specs.Calls.{reads_from, StopsIn}
 
--- a half of a device of so many sectors, for some shape, from its first sector to its end
+-- a half of a device of this many sectors, for some shape, from its first sector to its end
 pub record IsHalfOf (size start end : ℕ) : Type 0 where
   pub shape : Shape
   pub within : IsWithinLimits shape
@@ -20,8 +20,8 @@ pub record IsHalfOf (size start end : ℕ) : Type 0 where
   pub starts : (start ≡ 2) ⊎ (start ≡ shape.half + 2)
   pub ends : end ≡ start + shape.half
 
--- Behind those calls a half was read in a row, up to a gate that batches reach, and two sectors
--- behind it at most. The call for the next one failed.
+-- After those calls a half was read in a row, up to a gate that batches reach, and two sectors
+-- after it at most. The call for the next one failed.
 pub record FailsInHalf (before : List Access) (start end : ℕ) (is_known : Type 0) (image : Image)
     (old new : DiskState) : Type 0 where
   pub gate : ℕ
@@ -32,7 +32,7 @@ pub record FailsInHalf (before : List Access) (start end : ℕ) (is_known : Type
   pub made : new.trace ≡ old.trace ++ (before ++ reads_from start (gate - start + more))
   pub reached : is_known → (batches : List Batch) × Reaches image start end gate batches
 
--- Behind those calls a half was read in a row, up to the sector that is damaged, and two behind it
+-- After those calls a half was read in a row, up to the sector that is damaged, and two after it
 -- at most.
 pub record FindsIn (sector : ℕ) (before : List Access) (start end : ℕ) (is_known : Type 0)
     (image : Image) (old new : DiskState) : Type 0 where

@@ -20,7 +20,7 @@ abbrev pub writes_from : ℕ → Image → List Access
 writes_from first [] = []
 writes_from first (sector ∷ sectors) = Write first sector ∷ writes_from (first + 1) sectors
 
--- so many sectors are read in a row, each once
+-- this many sectors are read in a row, each once
 abbrev pub reads_from : ℕ → ℕ → List Access
 reads_from first zero = []
 reads_from first (suc count) = Read first ∷ reads_from (first + 1) count
@@ -34,7 +34,7 @@ abbrev pub format_calls : Shape → List Access
 format_calls shape = (Write 0 unmarked ∷ Write 2 unmarked ∷ Sync ∷ [])
     ++ puts 1 (filled 1 (stamp_bytes shape))
 
--- Behind the closed gate the body is written and another closed gate; once that is safe, the gate
+-- After the closed gate the body is written and another closed gate; once that is safe, the gate
 -- is opened.
 abbrev pub append_calls : ℕ → Image → List Access
 append_calls gate body =
@@ -57,13 +57,13 @@ draft_calls gate number (batch ∷ batches) =
 abbrev pub pick_of : Bool → List ℕ
 pick_of is_second = if is_second then marked else unmarked
 
--- From this sector on the batches of a checkpoint are written, and behind them a closed gate is
+-- From this sector on the batches of a checkpoint are written, and after them a closed gate is
 -- made safe; then the pick.
 abbrev pub checkpoint_calls : ℕ → List ℕ → List Batch → List Access
 checkpoint_calls start pick batches =
     draft_calls start 1 batches ++ (puts (start + used batches) unmarked ++ puts 0 pick)
 
--- So many calls of these were made, and not all.
+-- Some of these calls were made, from the first on, and not all.
 pub record StopsIn (calls : List Access) (old new : DiskState) : Type 0 where
   pub count : ℕ
   pub some_left : count < length calls
@@ -75,8 +75,8 @@ pub record Follows {T E : Type 0} (result : Result T E) (calls : List Access)
   pub all : OnOk result (new.trace ≡ old.trace ++ calls)
   pub front : OnErr result (StopsIn calls old new)
 
--- A step of the journal: these calls, so many and so many of them writes. It stops at the first that
--- fails.
+-- A step of the journal: these calls, this many in all, this many of them writes. It stops at the
+-- first that fails.
 pub record Performs {T E : Type 0} (result : Result T E) (calls : List Access) (count writes : ℕ)
     (old new : DiskState) : Type 0 where
   pub runs : RunsOn old new
@@ -85,8 +85,8 @@ pub record Performs {T E : Type 0} (result : Result T E) (calls : List Access) (
   pub made : Makes result count writes old new
   pub follows : Follows result calls old new
 
--- A call of the journal that makes these calls, so many and so many of them writes. It stops at the
--- first that fails; for another cause it is refused before them.
+-- A call of the journal that makes these calls, this many in all, this many of them writes. It
+-- stops at the first that fails; for another cause it is refused before them.
 pub record CallsDevice {T : Type 0} (result : Result T JournalFault) (calls : List Access)
     (count writes : ℕ) (old new : DiskState) : Type 0 where
   pub runs : RunsOn old new
@@ -96,18 +96,19 @@ pub record CallsDevice {T : Type 0} (result : Result T JournalFault) (calls : Li
   -- which of them fails
   pub told : AnswersAsTold result old new
 
--- from this sector on some were read in a row, each once: so many at most, and none from the end on
+-- from this sector on some were read in a row, each once: this many at most, and none from the end
+-- on
 abbrev pub HasRead : (first most end : ℕ) → DiskState → DiskState → Type 0
 HasRead first most end old new = (count : ℕ) × (count ≤ most) × (first + count ≤ end)
     × (new.trace ≡ old.trace ++ reads_from first count)
 
--- this sector was read, and two behind it at most, in a row below the end
+-- this sector was read, and two after it at most, in a row below the end
 abbrev pub HasReadAt : (sector end : ℕ) → DiskState → DiskState → Type 0
 HasReadAt sector end old new = (more : ℕ) × (more ≤ 2) × (sector + more < end)
     × (new.trace ≡ old.trace ++ reads_from sector (1 + more))
 
--- The opening of a device: a sync, the stamp, the pick, and so many sectors of the picked half in a
--- row.
+-- The opening of a device: a sync, the stamp, the pick, and this many sectors of the picked half in
+-- a row.
 abbrev pub opening_calls : ℕ → ℕ → List Access
 opening_calls start count = Sync ∷ Read 1 ∷ Read 0 ∷ reads_from start count
 

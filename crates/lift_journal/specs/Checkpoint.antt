@@ -4,7 +4,7 @@ use Rattle.lift_base.specs.declared.history.Record.{Record}
 use Rattle.lift_record.specs.declared.version.Version.TheVariants.{Two}
 use Rattle.lift_journal.specs.Layout.{Batch, bodies}
 
--- the first of these records, in so many batches of 63; the last one may be shorter
+-- the first of these records, in this many batches of 63; the last one may be shorter
 abbrev pub in_batches : ℕ → List Record → List Batch
 in_batches zero records = []
 in_batches (suc count) records =
@@ -18,8 +18,8 @@ batch_count records = (records + 62) / 63
 abbrev pub checkpoint_of : List Record → List Batch
 checkpoint_of records = in_batches (batch_count (length records)) records
 
--- How many sectors a checkpoint of so many records takes before its closing gate: each batch has a
--- gate, and all but the last are full and take two sectors more.
+-- How many sectors a checkpoint of this many records takes before its closing gate: each batch has
+-- a gate, and all but the last are full and take two sectors more.
 abbrev pub sectors_for : ℕ → ℕ
 sectors_for records =
     let full = batch_count records - 1 in 3 * full + 1 + bodies (records - 63 * full)

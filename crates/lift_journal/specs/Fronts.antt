@@ -10,12 +10,12 @@ use Rattle.lift_journal.specs.Layout.{bodies}
 use Rattle.lift_journal.specs.Order.{IsInOrderBehind, last_behind}
 use Rattle.std.specs.Prelude.{length}
 
--- the batch may stand behind those before it
+-- the batch may stand after those before it
 pub record Passes (front : Front) (stored : Stored) : Type 0 where
   pub rises : version_number front.version ≤ version_number stored.version
   pub ordered : IsInOrderBehind front.last stored.records.items
 
--- the front behind it
+-- the front after it
 abbrev pub passed : Front → Stored → Front
 passed front stored = record {
   gate = front.gate + (1 + bodies (length stored.records.items));

@@ -10,7 +10,7 @@ use Rattle.lift_journal.specs.declared.place.Place.{Place}
 use Rattle.lift_journal.specs.Order.{IsEntry, IsOfBase}
 use Rattle.lift_journal.specs.Layout.{Batch, records_of, Holds, HoldsIn, start_of, used}
 
--- the image reads as this checkpoint, if it has one, and these entries behind it
+-- the image reads as this checkpoint, if it has one, and these entries after it
 pub record ReadsAs (shape : Shape) (base entries : List Record) (image : Image) : Type 0 where
   pub batches : List Batch
   pub holds : Holds shape batches image
@@ -50,7 +50,7 @@ view_from device place is_broken opened = record {
 }
 
 -- The journal holds these batches: its device has them in the half that is picked, a crash leaves
--- just that, and the next batch goes behind them.
+-- just that, and the next batch goes after them.
 pub record JournalHolds {D : Type 0} (state : D → DiskState) (journal : JournalView D)
     (batches : List Batch) : Type 0 where
   pub safe : IsSynced (state journal.device)
@@ -95,7 +95,7 @@ pub record IsCursorIn (batches : List Batch) (cursor : CursorView) : Type 0 wher
   pub inside : cursor.given ≤ length batches
   pub behind : cursor.skipped ≡ used (take cursor.given batches)
 
--- the next batch, and the cursor behind it; at the end none
+-- the next batch, and the cursor after it; at the end none
 abbrev pub IsNext : List Batch → CursorView → CursorView → Option (List Record) → Type 0
 IsNext batches old new None = (old.given ≡ length batches) × (new ≡ old)
 IsNext batches old new (Some records) =

@@ -43,14 +43,14 @@ IsOpen gate = is_marked gate ≡ true
 abbrev pub IsClosed : List ℕ → Type 0
 IsClosed gate = is_marked gate ≡ false
 
--- how many sectors so many records take beside their gate
+-- how many sectors this many records take beside their gate
 abbrev pub bodies : ℕ → ℕ
 bodies count = if nat_lt count 32 then 1 else 2
 
 abbrev pub size_of : Batch → ℕ
 size_of batch = bodies (length batch.records)
 
--- the bytes with zeros to the end of so many sectors
+-- the bytes with zeros to the end of this many sectors
 abbrev pub filled : ℕ → List ℕ → List ℕ
 filled sectors bytes = bytes ++ replicate (512 * sectors - length bytes) 0
 
@@ -73,7 +73,7 @@ pub record IsBody (number : ℕ) (batch : Batch) (sectors : Image) : Type 0 wher
   pub spelled : concat sectors ≡ filled (size_of batch) (batch_bytes number batch)
 
 -- From their first sector on these hold the batches, the first of them with this number: each batch
--- behind an open gate, and a closed gate at the end.
+-- after an open gate, and a closed gate at the end.
 abbrev pub IsChain : List Batch → ℕ → Image → Type 0
 IsChain [] number [] = ⊥
 IsChain [] number (gate ∷ rest) = IsClosed gate
@@ -136,11 +136,11 @@ pub record HoldsIn (shape : Shape) (is_second : Bool) (batches : List Batch)
   pub holds : Holds shape batches image
   pub picks : Picks is_second image
 
--- behind this gate
+-- after this gate
 abbrev pub IsBehind : ℕ → ℕ → Type 0
 IsBehind gate i = gate < i
 
--- Behind the closed gate at the end stands one batch more, and a closed gate behind it.
+-- After the closed gate at the end stands one batch more, and a closed gate after it.
 pub record IsPrepared (shape : Shape) (batches : List Batch) (batch : Batch) (gate : ℕ)
     (image : Image) : Type 0 where
   pub holds : Holds shape batches image

@@ -8,6 +8,7 @@ pub mod Journal
 pub mod Laws
 pub mod Walk
 pub mod Seen
+pub mod Found
 pub mod Fronts
 pub mod Visits
 pub mod Opening

@@ -20,14 +20,14 @@ pub record GivesNext (batches : List Batch) (from to : CursorView)
   pub next : IfOk result (λ found. IsNext batches from to (option_map (λ l. l.items) found))
   pub undamaged : (sector : ℕ) → ¬ IsErrOf result (Damaged sector)
 
--- Whatever the device holds: the cursor goes behind the batch that is given, and the journal stands
+-- Whatever the device holds: the cursor goes after the batch that is given, and the journal stands
 -- where it stood.
 pub record MovesCursor {D : Type 0} (old : JournalView D) (from : CursorView) (new : JournalView D)
     (to : CursorView) (result : Result (Option (ArrayVec Record)) JournalFault) : Type 0 where
   pub given : IfOk result (λ found. IfSome found (λ records.
       (to.skipped ≡ from.skipped + (1 + bodies (length records.items)))
       × (to.given ≡ from.given + 1)))
-  -- the end is told behind all used sectors alone, and without a call
+  -- the end is told after all used sectors alone, and without a call
   pub ends : result ≡ Ok None → (old.used ≤ from.skipped) × (new ≡ old) × (to ≡ from)
   pub refused : OnErr result (to ≡ from)
   pub stays : (new.is_second ≡ old.is_second) × (new.used ≡ old.used) × (new.number ≡ old.number)

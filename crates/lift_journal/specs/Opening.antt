@@ -1,5 +1,5 @@
 -- What an opening does to a device, whatever it answers: an opening writes nothing.
-use Rattle.std.specs.Prelude.{◌≡◌, ◌<◌, ◌+◌, ◌++◌, ℕ, List}
+use Rattle.std.specs.Prelude.{◌≡◌, ◌⊎◌, ◌<◌, ◌+◌, ◌++◌, ℕ, List}
 use Rattle.lift_base.specs.declared.history.Record.{Record}
 use Rattle.lift_base.specs.declared.history.Shape.{Shape}
 use Rattle.lift_disk.specs.Disk.{DiskState, MayLeave, IsSynced, KeepsImage, LeavesNow, LeavesOnly}
@@ -13,7 +13,7 @@ use Rattle.lift_journal.specs.Steps.{SavesAsRead}
 use Rattle.lift_journal.specs.Told.{NoneFails, FailsBy}
 use Rattle.lift_journal.specs.Journal.{StandsFor}
 
--- It has opened: this is the shape, and so many sectors of the picked half are used.
+-- It has opened: this is the shape, and this many sectors of the picked half are used.
 pub record Opens (old new : DiskState) (shape : Shape) (taken : ℕ) : Type 0 where
   -- a crash at any moment leaves what one before it might have left
   pub moments : LeavesOnly old new (MayLeave old)
@@ -53,6 +53,12 @@ RefusedFor (Damaged sector) old new = (new.failures ≡ old.failures)
 RefusedFor Full old new = ⊥
 RefusedFor Broken old new = ⊥
 
+-- Nothing is in doubt any more: from now on every crash leaves what is read, and that is what one
+-- before might have left.
+pub record FixesImage (old new : DiskState) : Type 0 where
+  pub none_loose : (i : ℕ) → ¬ new.is_loose i
+  pub seen : MayLeave old new.image
+
 -- it was refused
 pub record Refuses (old new : DiskState) (fault : JournalFault) : Type 0 where
   pub moments : LeavesOnly old new (MayLeave old)
@@ -61,6 +67,8 @@ pub record Refuses (old new : DiskState) (fault : JournalFault) : Type 0 where
   pub image : KeepsImage old new
   pub saved : SavesAsRead old new
   pub cause : RefusedFor fault old new
+  -- its sync failed, so that no call succeeded; or no crash gives another image any more
+  pub settled : (new.trace ≡ old.trace) ⊎ (old.is_honest → FixesImage old new)
   pub told : FailsBy fault old new
   -- an image that holds batches is refused for a failed call alone
   pub good : old.is_honest → (shape : Shape) (batches : List Batch) → Holds shape batches new.image

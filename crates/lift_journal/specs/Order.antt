@@ -1,5 +1,5 @@
 -- In which order records stand: first the open calls of a checkpoint by rising car, then the last
--- commands of its terminals by rising terminal, then its count of done calls; behind it, or without
+-- commands of its terminals by rising terminal, then its count of done calls; after it, or without
 -- one, entries.
 use Rattle.std.specs.Prelude.{ℕ, ◌<◌, ◌≤◌, List, [], ◌∷◌, Option, Some, None}
 use Rattle.lift_base.specs.declared.history.Record.{Record}
@@ -19,21 +19,21 @@ IsOfBase (Row row) = Unit {0}
 IsOfBase (Last terminal last) = Unit {0}
 IsOfBase (Done count) = Unit {0}
 
--- behind an open call of a checkpoint
+-- after an open call of a checkpoint
 abbrev pub MayFollowRow : ℕ → Record → Type 0
 MayFollowRow car (Entry entry) = ⊥
 MayFollowRow car (Row row) = car ≤ row.car
 MayFollowRow car (Last terminal last) = Unit {0}
 MayFollowRow car (Done count) = Unit {0}
 
--- behind the last command of a terminal
+-- after the last command of a terminal
 abbrev pub MayFollowLast : ℕ → Record → Type 0
 MayFollowLast terminal (Entry entry) = ⊥
 MayFollowLast terminal (Row row) = ⊥
 MayFollowLast terminal (Last other last) = terminal < other
 MayFollowLast terminal (Done count) = Unit {0}
 
--- the record may stand right behind that one; any may stand first
+-- the record may stand right after that one; any may stand first
 abbrev pub MayFollow : Option Record → Record → Type 0
 MayFollow None next = Unit {0}
 MayFollow (Some (Entry entry)) next = IsEntry next
@@ -41,7 +41,7 @@ MayFollow (Some (Row row)) next = MayFollowRow row.car next
 MayFollow (Some (Last terminal last)) next = MayFollowLast terminal next
 MayFollow (Some (Done count)) next = IsEntry next
 
--- the records may stand in this order behind that one
+-- the records may stand in this order after that one
 abbrev pub IsInOrderBehind : Option Record → List Record → Type 0
 IsInOrderBehind last [] = Unit {0}
 IsInOrderBehind last (next ∷ rest) = MayFollow last next × IsInOrderBehind (Some next) rest
@@ -54,7 +54,7 @@ abbrev pub last_behind : Option Record → List Record → Option Record
 last_behind last [] = last
 last_behind last (next ∷ rest) = last_behind (Some next) rest
 
--- a chain may end behind it: no checkpoint is begun
+-- a chain may end after it: no checkpoint is begun
 abbrev pub MayEnd : Option Record → Type 0
 MayEnd None = Unit {0}
 MayEnd (Some (Entry entry)) = Unit {0}

@@ -12,14 +12,14 @@ use Rattle.lift_journal.specs.declared.reads.AtGate.TheVariants.{Closed, Batch a
 use Rattle.lift_journal.specs.Layout.{Batch, IsRecordIn, IsOpen, IsClosed, sector_at, bodies}
 use Rattle.lift_journal.specs.Walk.{IsBatchAt}
 
--- the text begins with so many records
+-- the text begins with this many records
 pub record IsRecordsIn (version : Version) (text : List ℕ) (count : ℕ)
     (records : List Record) : Type 0 where
   pub counted : length records ≡ count
   pub lawful : All (IsRecordIn version) records
   pub spelled : flat_map (spelling_of version) records ≡ take (16 * count) text
 
--- the records and zeros, as they stand behind the header in two sectors
+-- the records and zeros, as they stand after the header in two sectors
 pub record IsTailOf (version : Version) (records : List Record) (tail : List ℕ) : Type 0 where
   pub lawful : All (IsRecordIn version) records
   pub spelled : tail ≡ flat_map (spelling_of version) records
@@ -39,7 +39,7 @@ pub record FitsBelow (gate end : ℕ) (stored : Stored) : Type 0 where
   pub few : length stored.records.items ≤ 63
   pub below : gate + 1 + bodies (length stored.records.items) < end
 
--- this stands behind an open gate
+-- this stands after an open gate
 abbrev pub ShowsBody : Image → ℕ → ℕ → ℕ → AtGate → Type 0
 ShowsBody image gate end number Closed = ⊥
 ShowsBody image gate end number (BatchAt stored) = IsBatchAt image gate end number (batch_of stored)

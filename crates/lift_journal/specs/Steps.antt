@@ -34,7 +34,7 @@ pub record IsSyncedAt (image : Image) (disk : DiskState) : Type 0 where
   pub synced : IsSynced disk
   pub same : disk.image ≡ image
 
--- A run of so many calls, so many of them writes, that stops at the first that fails.
+-- A run of this many calls, this many of them writes, that stops at the first that fails.
 pub record Makes {T E : Type 0} (result : Result T E) (made written : ℕ)
     (old new : DiskState) : Type 0 where
   pub calls : OnOk result (new.calls ≡ old.calls + made)
@@ -88,7 +88,7 @@ pub record Examines {T : Type 0} (result : Result T JournalFault)
   pub ok : OnOk result (ReadsWell old new)
   pub err : IfErr result (λ fault. HasItsCause fault old new)
 
--- The image holds these batches, nothing is in doubt, and there is room behind the closed gate for
+-- The image holds these batches, nothing is in doubt, and there is room after the closed gate for
 -- the body of one more.
 pub record IsReady (shape : Shape) (batches : List Batch) (batch : Batch) (gate : ℕ) (body : Image)
     (disk : DiskState) : Type 0 where

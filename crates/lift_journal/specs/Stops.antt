@@ -12,7 +12,7 @@ pub record Misses (sector : ℕ) (bytes : List ℕ) (old new : DiskState) : Type
   pub synced : new.synced ≡ old.synced
   pub loose : new.is_loose sector
 
--- So many calls were made before the gate's write, and this write or its sync has failed.
+-- This many calls were made before the gate's write, and this write or its sync has failed.
 pub record StopsAtGate (shape : Shape) (batches : List Batch) (batch : Batch) (made : ℕ)
     (old new : DiskState) : Type 0 where
   -- a cut that keeps: the batches from before where the write failed, the new one too where the
@@ -26,15 +26,15 @@ pub record StopsAtGate (shape : Shape) (batches : List Batch) (batch : Batch) (m
       → Holds shape batches left
   pub fills_new : (left : Image) → IsFilled 165 new left → Holds shape (batches ++ batch ∷ []) left
 
--- An append of so many body sectors has failed: before the gate's write each cut leaves the batches
--- from before.
+-- An append of this many body sectors has failed: before the gate's write each cut leaves the
+-- batches from before.
 pub record StopsShort (shape : Shape) (batches : List Batch) (batch : Batch) (bodies : ℕ)
     (old new : DiskState) : Type 0 where
   pub early : new.calls ≤ old.calls + (bodies + 2) → LeavesNow new (Holds shape batches)
   pub late : old.calls + (bodies + 2) < new.calls
       → StopsAtGate shape batches batch (bodies + 2) old new
 
--- So many calls of a checkpoint were made before the pick's write, and this write or its sync has
+-- This many calls of a checkpoint were made before the pick's write, and this write or its sync has
 -- failed. Both halves are safe, and whatever is in the pick, an image holds one of them: no fill
 -- makes damage.
 pub record StopsAtPick (shape : Shape) (is_second : Bool) (batches checkpoint : List Batch)
@@ -51,8 +51,8 @@ pub record StopsAtPick (shape : Shape) (is_second : Bool) (batches checkpoint : 
   pub fills_first : (byte : ℕ) (left : Image) → byte ≢ 165 → IsFilled byte new left
       → HoldsIn shape false (if is_second then checkpoint else batches) left
 
--- A checkpoint of so many sectors before its closing gate has failed: before the pick's write each
--- cut leaves the batches from before, in their half.
+-- A checkpoint of this many sectors before its closing gate has failed: before the pick's write
+-- each cut leaves the batches from before, in their half.
 pub record StopsCheckpoint (shape : Shape) (is_second : Bool) (batches checkpoint : List Batch)
     (sectors : ℕ) (old new : DiskState) : Type 0 where
   pub early : new.calls ≤ old.calls + (sectors + 2)

@@ -17,8 +17,8 @@ pub record HasWritten (start end : ℕ) (batches : List Batch) (old new : Image)
   pub within : ChangesWithin (λ i. IsInRange start (start + 64) i ⊎ (i ≡ 0)) old new
   pub chain : IsChain batches 1 (take (end - start) (drop start new))
 
--- With both halves safe as in this image, so many calls were made before the pick's write, and this
--- write or its sync has failed.
+-- With both halves safe as in this image, this many calls were made before the pick's write, and
+-- this write or its sync has failed.
 pub record MissesPick (earlier : ℕ) (pick : List ℕ) (safe : Image)
     (old new : DiskState) : Type 0 where
   pub made : (new.calls ≡ old.calls + earlier + 1) × (new.image ≡ safe)

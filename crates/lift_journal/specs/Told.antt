@@ -1,12 +1,12 @@
 -- Which calls of a run fail. An inert device fails those that it was told to, and those for which
--- it wants memory.
+-- memory runs out.
 use Rattle.std.specs.Prelude.{◌≡◌, ◌⊎◌, ◌<◌, ◌≤◌, ℕ, true, Result, OnOk, OnErr, IfErr}
 use Rattle.lift_disk.specs.Disk.{DiskState}
 use Rattle.lift_journal.specs.declared.fault.JournalFault.{JournalFault}
 use Rattle.lift_journal.specs.declared.fault.JournalFault.TheVariants.{Disk, NotFormatted, Damaged}
 use Rattle.lift_journal.specs.declared.fault.JournalFault.TheVariants.{Full, Broken}
 
--- no call of the run failed: none was told to, and none wanted memory
+-- no call of the run failed: none was told to, and none ran out of memory
 pub record NoneFails (old new : DiskState) : Type 0 where
   pub told : old.is_inert → (call : ℕ) → old.calls < call → call ≤ new.calls → ¬ old.fails_at call
   pub short : new.is_short ≡ old.is_short

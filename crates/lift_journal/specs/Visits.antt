@@ -23,7 +23,7 @@ abbrev pub IsSized : Batch → Type 0
 IsSized batch = (1 ≤ length batch.records) × (length batch.records ≤ 63)
 
 -- The visitor was shown some batches that may begin a chain, whatever the device holds. They take
--- fewer sectors than so many.
+-- fewer sectors than this many.
 pub record HasTaken {V : Type 0} (takes : V → List Record → V → Type 0) (sectors : ℕ)
     (old new : V) : Type 0 where
   pub batches : List Batch
@@ -32,7 +32,7 @@ pub record HasTaken {V : Type 0} (takes : V → List Record → V → Type 0) (s
   pub few : used batches < sectors
   pub taken : TakesAll takes old batches new
 
--- Behind those calls a half was read in a row, up to a gate and not all of the batch there, if one
+-- After those calls a half was read in a row, up to a gate and not all of the batch there, if one
 -- is there. Just the batches before that gate were shown.
 pub record TakesAllRead {V : Type 0} (takes : V → List Record → V → Type 0) (before : List Access)
     (start end : ℕ) (image : Image) (was is : DiskState) (old new : V) : Type 0 where

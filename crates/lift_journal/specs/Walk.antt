@@ -7,7 +7,7 @@ use Rattle.lift_journal.specs.Order.{AreRecordsInOrder, IsComplete}
 use Rattle.lift_journal.specs.Layout.{Batch, records_of, sector_at, IsOpen, IsClosed, size_of}
 use Rattle.lift_journal.specs.Layout.{IsBody, IsChain, IsSound, NeverFall, used}
 
--- the batches from the first sector on, each behind an open gate; what stands behind them is left
+-- the batches from the first sector on, each after an open gate; what stands after them is left
 -- open
 abbrev pub IsFront : List Batch → ℕ → Image → Type 0
 IsFront [] number sectors = Unit {0}
@@ -16,7 +16,7 @@ IsFront (batch ∷ batches) number (gate ∷ rest) =
     IsOpen gate × IsBody number batch (take (size_of batch) rest)
     × IsFront batches (number + 1) (drop (size_of batch) rest)
 
--- behind this gate stands this batch, with the place of the next gate below the end
+-- after this gate stands this batch, with the place of the next gate below the end
 pub record IsBatchAt (image : Image) (gate end number : ℕ) (batch : Batch) : Type 0 where
   pub body : IsBody number batch (take (size_of batch) (drop (gate + 1) image))
   pub next : gate + 1 + size_of batch < end
@@ -38,7 +38,7 @@ pub record Reaches (image : Image) (start end gate : ℕ) (batches : List Batch)
   pub at : gate ≡ start + used batches
 
 -- A gate below the end that batches reach is damaged: it is open, and no batch that may stand
--- behind them is there, or it is closed, and they end within a checkpoint.
+-- after them is there, or it is closed, and they end within a checkpoint.
 pub record IsDamagedAt (image : Image) (start end gate : ℕ) : Type 0 where
   pub batches : List Batch
   pub below : gate < end

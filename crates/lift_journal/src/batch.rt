@@ -1,10 +1,10 @@
 //! A batch as it was read.
 use arrayvec::ArrayVec;
-use lift_base::Record;
+use lift_base::{MOST_ENTRIES, Record};
 use lift_record::Version;
 
 /// The records of a batch.
-pub type Records = ArrayVec<Record, 63>;
+pub type Records = ArrayVec<Record, MOST_ENTRIES>;
 
 /// A batch as it was read.
 #[derive(Drop)]

@@ -43,7 +43,7 @@ pub fn sectors_of(text: &[u8; 1024]) -> &[[u8; 512]]
     sectors
 }
 
-/// How many sectors a batch of so many records takes beside its gate.
+/// How many sectors a batch of this many records takes beside its gate.
 pub fn body_count(count: usize) -> usize
     ensures { result ≡ bodies count }
 {

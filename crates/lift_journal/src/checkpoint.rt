@@ -14,17 +14,15 @@ ghost use Rattle.lift_journal.specs.Switch.{IsOtherHalf, HasWritten, StopsSwitch
 ghost use Rattle.lift_journal.specs.Stops.{Misses};
 ghost use Rattle.lift_journal.specs.Told.{StopsAsTold};
 ghost use Rattle.lift_disk.specs.Trace.Access.{Write};
-ghost use Rattle.lift_journal.specs.Calls.{Follows, writes_from, puts, draft_calls};
+ghost use Rattle.lift_journal.specs.Calls.{Follows, Performs, writes_from, puts, draft_calls};
 ghost use Rattle.lift_journal.specs.Calls.{checkpoint_calls};
 
 use crate::body::{body_count, put_body, sectors_of};
 use crate::device::{mark, write_sectors};
 use arrayvec::ArrayVec;
-use lift_base::{Record, push_some};
+use lift_base::{MOST_ENTRIES, Record, push_some};
 use lift_disk::{Disk, DiskFault};
 use lift_register::Register;
-
-const BATCH_RECORDS: usize = 63;
 
 /// How many batches so many records take.
 pub fn batches_for(count: usize) -> usize
@@ -32,7 +30,7 @@ pub fn batches_for(count: usize) -> usize
     ensures value { result ≡ batch_count count }
     ensures limit { result ≤ 10 }
 {
-    (count + BATCH_RECORDS - 1) / BATCH_RECORDS
+    (count + MOST_ENTRIES - 1) / MOST_ENTRIES
 }
 
 /// Where the half that isn't picked begins, and the sector that picks it.
@@ -60,13 +58,13 @@ fn record_at(register: &Register, count: usize, place: usize) -> Option<Record>
 }
 
 /// One batch of a register's checkpoint: 63 records from this place on, or those that are left.
-fn base_batch(register: &Register, from: usize) -> ArrayVec<Record, 63>
+fn base_batch(register: &Register, from: usize) -> ArrayVec<Record, MOST_ENTRIES>
     requires { from ≤ 576 }
     ensures { result.items ≡ take 63 (drop from (base_records register.now)) }
 {
     let count = register.base_len();
     let mut batch = ArrayVec::new();
-    for place in 0..BATCH_RECORDS {
+    for place in 0..MOST_ENTRIES {
         push_some(&mut batch, record_at(register, count, from + place));
     }
     batch
@@ -99,14 +97,10 @@ fn write_open_batch<D: Disk>(disk: &mut D, gate: u32, body: &[[u8; 512]]) -> Res
 fn write_batches<D: Disk>(disk: &mut D, register: &Register, start: u32) -> Result<u32, DiskFault>
     requires there { start + 64 ≤ (D.state disk.old).size }
     requires fits { start + 64 < 2 ^ 32 }
-    ensures runs { RunsOn (D.state disk.old) (D.state disk.new) }
-    ensures made { Makes result (sectors_for (length (base_records register.now)))
+    ensures performs { Performs result
+        (draft_calls start 1 (checkpoint_of (base_records register.now)))
+        (sectors_for (length (base_records register.now)))
         (sectors_for (length (base_records register.now))) (D.state disk.old) (D.state disk.new) }
-    ensures cause { HasCause result (D.state disk.old) (D.state disk.new) }
-    ensures told { StopsAsTold result (D.state disk.old) (D.state disk.new) }
-    ensures follows { Follows result
-        (draft_calls start 1 (checkpoint_of (base_records register.now))) (D.state disk.old)
-        (D.state disk.new) }
     ensures touched { LooseWithin (IsInRange start (start + 64)) (D.state disk.old)
         → TouchesOnly (IsInRange start (start + 64)) (D.state disk.old) (D.state disk.new) }
     ensures gate { IfOk result (λ gate.
@@ -123,7 +117,7 @@ fn write_batches<D: Disk>(disk: &mut D, register: &Register, start: u32) -> Resu
 {
     let mut gate = start;
     for index in 0..batches_for(register.base_len()) {
-        let batch = base_batch(register, BATCH_RECORDS * index);
+        let batch = base_batch(register, MOST_ENTRIES * index);
         let bodies = body_count(batch.len());
         let mut text = [0; 1024];
         put_body(&mut text, &batch, index as u32 + 1);
@@ -137,11 +131,8 @@ fn write_batches<D: Disk>(disk: &mut D, register: &Register, start: u32) -> Resu
 /// Writes a sector and makes it safe.
 fn put_sector<D: Disk>(disk: &mut D, sector: u32, bytes: &[u8; 512]) -> Result<(), DiskFault>
     requires { sector < (D.state disk.old).size }
-    ensures runs { RunsOn (D.state disk.old) (D.state disk.new) }
-    ensures made { Makes result 2 1 (D.state disk.old) (D.state disk.new) }
-    ensures cause { HasCause result (D.state disk.old) (D.state disk.new) }
-    ensures follows { Follows result (puts sector bytes.now) (D.state disk.old) (D.state disk.new) }
-    ensures told { StopsAsTold result (D.state disk.old) (D.state disk.new) }
+    ensures performs { Performs result (puts sector bytes.now) 2 1 (D.state disk.old)
+        (D.state disk.new) }
     ensures touched { (low high : ℕ) → low ≤ sector → sector < high
         → LooseWithin (IsInRange low high) (D.state disk.old)
         → TouchesOnly (IsInRange low high) (D.state disk.old) (D.state disk.new) }
@@ -157,12 +148,8 @@ fn put_sector<D: Disk>(disk: &mut D, sector: u32, bytes: &[u8; 512]) -> Result<(
 /// Closes the chain in the half that isn't picked, and picks that half once it is safe.
 fn switch_half<D: Disk>(disk: &mut D, gate: u32, pick: &[u8; 512]) -> Result<(), DiskFault>
     requires { gate < (D.state disk.old).size }
-    ensures runs { RunsOn (D.state disk.old) (D.state disk.new) }
-    ensures made { Makes result 4 2 (D.state disk.old) (D.state disk.new) }
-    ensures cause { HasCause result (D.state disk.old) (D.state disk.new) }
-    ensures follows { Follows result (puts gate unmarked ++ puts 0 pick.now) (D.state disk.old)
-        (D.state disk.new) }
-    ensures told { StopsAsTold result (D.state disk.old) (D.state disk.new) }
+    ensures performs { Performs result (puts gate unmarked ++ puts 0 pick.now) 4 2
+        (D.state disk.old) (D.state disk.new) }
     // Until the chain is closed and safe, a crash leaves the pick; after it, just the pick is in
     // doubt.
     ensures any_moment { (low high : ℕ) → low ≤ gate → gate < high
@@ -194,15 +181,11 @@ pub fn write_checkpoint<D: Disk>(
     requires first { 2 ≤ start }
     requires there { start + 64 ≤ (D.state disk.old).size }
     requires fits { start + 64 < 2 ^ 32 }
-    ensures runs { RunsOn (D.state disk.old) (D.state disk.new) }
-    ensures made { Makes result (sectors_for (length (base_records register.now)) + 4)
+    ensures performs { Performs result
+        (checkpoint_calls start pick.now (checkpoint_of (base_records register.now)))
+        (sectors_for (length (base_records register.now)) + 4)
         (sectors_for (length (base_records register.now)) + 2) (D.state disk.old)
         (D.state disk.new) }
-    ensures cause { HasCause result (D.state disk.old) (D.state disk.new) }
-    ensures told { StopsAsTold result (D.state disk.old) (D.state disk.new) }
-    ensures follows { Follows result
-        (checkpoint_calls start pick.now (checkpoint_of (base_records register.now)))
-        (D.state disk.old) (D.state disk.new) }
     ensures gate { IfOk result (λ gate.
         (gate ≡ start + sectors_for (length (base_records register.now))) × (gate < start + 64)) }
     ensures any_moment { (end : ℕ) → start + 64 ≤ end → end ≤ (D.state disk.old).size

@@ -48,7 +48,7 @@ pub fn mark() -> [u8; 512]
     sector
 }
 
-/// Writes the body of a batch behind a closed gate, and a closed gate behind it.
+/// Writes the body of a batch after a closed gate, and a closed gate after it.
 fn store_behind<D: Disk>(disk: &mut D, gate: u32, body: &[[u8; 512]]) -> Result<(), DiskFault>
     requires there { gate + 1 + length body.now < (D.state disk.old).size }
     requires fits { gate + 1 + length body.now < 2 ^ 32 }
@@ -68,7 +68,7 @@ fn store_behind<D: Disk>(disk: &mut D, gate: u32, body: &[[u8; 512]]) -> Result<
     disk.sync()
 }
 
-/// Opens a gate, so that the batch behind it counts.
+/// Opens a gate, so that the batch after it counts.
 fn open_gate<D: Disk>(disk: &mut D, gate: u32) -> Result<(), DiskFault>
     requires { gate < (D.state disk.old).size }
     ensures performs { Performs result (puts gate marked) 2 1 (D.state disk.old)

@@ -11,7 +11,7 @@ pub enum JournalFault {
     /// The device lacks sectors, or its stamp isn't spelled right.
     NotFormatted,
     /// The gate in this sector breaks a rule of the chain: it is open and no lawful batch stands
-    /// behind it, or it closes a chain within a checkpoint.
+    /// after it, or it closes a chain within a checkpoint.
     Damaged(u32),
     /// The batch has no room in its half.
     Full,

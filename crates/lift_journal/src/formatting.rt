@@ -2,13 +2,12 @@
 ghost use Rattle.std.specs.Prelude.{◌≡◌, ◌≤◌, ◌<◌, ◌+◌, ◌*◌, [], ◌∷◌, false, OnOk, Some, slice_get};
 ghost use Rattle.std.specs.Prelude.{slice_set};
 ghost use Rattle.lift_base.specs.History.{IsWithinLimits};
-ghost use Rattle.lift_disk.specs.Disk.{HasCause, RunsOn, IsSynced, TouchesOnly};
+ghost use Rattle.lift_disk.specs.Disk.{IsSynced, TouchesOnly};
 ghost use Rattle.lift_journal.specs.Layout.{filled, stamp_bytes, Picks};
 ghost use Rattle.lift_journal.specs.Journal.{ReadsAs};
 ghost use Rattle.lift_disk.specs.Trace.Access.{Write, Sync};
-ghost use Rattle.lift_journal.specs.Calls.{Follows, Performs, puts, format_calls};
-ghost use Rattle.lift_journal.specs.Steps.{IsSyncedAt, Makes, IsFormatted, unmarked};
-ghost use Rattle.lift_journal.specs.Told.{StopsAsTold};
+ghost use Rattle.lift_journal.specs.Calls.{Performs, puts, format_calls};
+ghost use Rattle.lift_journal.specs.Steps.{IsSyncedAt, IsFormatted, unmarked};
 
 use crate::stamp::stamp_of;
 use lift_base::Shape;
@@ -54,15 +53,12 @@ fn put_stamp<D: Disk>(disk: &mut D, shape: &Shape) -> Result<(), DiskFault>
 pub fn format<D: Disk>(disk: &mut D, shape: Shape) -> Result<(), DiskFault>
     requires within { IsWithinLimits shape }
     requires room { 2 * shape.half + 2 ≤ (D.state disk.old).size }
-    ensures runs { RunsOn (D.state disk.old) (D.state disk.new) }
-    ensures cause { HasCause result (D.state disk.old) (D.state disk.new) }
-    ensures told { StopsAsTold result (D.state disk.old) (D.state disk.new) }
-    ensures made { Makes result 5 3 (D.state disk.old) (D.state disk.new) }
+    ensures performs { Performs result (format_calls shape) 5 3 (D.state disk.old)
+        (D.state disk.new) }
     // Also where it fails, no other sector is touched.
     ensures touched { TouchesOnly (IsFormatted (D.state disk.old)) (D.state disk.old)
         (D.state disk.new) }
     ensures synced { OnOk result ((D.state disk.old).is_honest → IsSynced (D.state disk.new)) }
-    ensures follows { Follows result (format_calls shape) (D.state disk.old) (D.state disk.new) }
     // Whatever was in doubt before: its first sync settles that.
     ensures empty { OnOk result ((D.state disk.old).is_honest
         → ReadsAs shape [] [] (D.state disk.new).image) }

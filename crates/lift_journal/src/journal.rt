@@ -26,7 +26,7 @@ use crate::place::{Place, find_place};
 use crate::reads::{AtGate, look};
 use crate::visitor::{Nobody, Visitor};
 use arrayvec::ArrayVec;
-use lift_base::{Record, Shape};
+use lift_base::{MOST_ENTRIES, Record, Shape};
 use lift_disk::{Arm, Disk, DiskFault};
 use lift_register::Register;
 use std::marker::Model;
@@ -108,7 +108,7 @@ impl<D: Disk> Journal<D> {
         self.place.shape
     }
 
-    /// Whether a batch of so many records (1 to 63) has room.
+    /// Whether a batch of this many records (1 to 63) has room.
     pub fn room(&self, count: usize) -> bool
         ensures room { IsTrue result ↔ (self.now.used + bodies count + 2 ≤ self.now.shape.half) }
         // Until a call of the device fails, an honest one has some batches.
@@ -168,9 +168,9 @@ impl<D: Disk> Journal<D> {
         }
     }
 
-    /// Adds a batch behind those that the journal holds. At `Ok` it is safe: from then on each crash
+    /// Adds a batch after those that the journal holds. At `Ok` it is safe: from then on each crash
     /// leaves an image that has it.
-    pub fn append(&mut self, batch: &ArrayVec<Record, 63>) -> Result<(), JournalFault>
+    pub fn append(&mut self, batch: &ArrayVec<Record, MOST_ENTRIES>) -> Result<(), JournalFault>
         requires some { 1 ≤ length batch.now.items }
         requires lawful { All IsLawful batch.now.items }
         requires entries { All IsEntry batch.now.items }
@@ -178,10 +178,13 @@ impl<D: Disk> Journal<D> {
         ensures becomes { self.old.is_broken ≡ false → (D.state self.old.device).is_honest
             → Becomes D.state self.old self.old.is_second
             (λ batches. batches ++ new_batch batch.now.items ∷ []) self.new result }
+        // At Ok the next batch goes after this one, else where this one would have gone.
         ensures goes { GoesTo self.old self.old.is_second
             (self.old.used + bodies (length batch.now.items) + 1) (self.old.number + 1) self.new
             result }
+        // A call of the device that fails breaks it; a broken journal rests.
         ensures breaks { BreaksByFault D.state self.old self.new result }
+        // Full just where there is no room, and then nothing is changed.
         ensures refuses { RefusesForRoom self.old (length batch.now.items) self.new result }
         // The body and the next gate, a sync, the gate, a sync.
         ensures calls { CallsDevice result
@@ -227,7 +230,7 @@ impl<D: Disk> Journal<D> {
         ensures goes { GoesTo self.old (not self.old.is_second)
             (sectors_for (length (base_records register.now)))
             (batch_count (length (base_records register.now)) + 1) self.new result }
-        // Behind a checkpoint any batch has room.
+        // After a checkpoint any batch has room.
         ensures roomy { OnOk result ((count : ℕ)
             → self.new.used + bodies count + 2 ≤ self.new.shape.half) }
         ensures breaks { BreaksByFault D.state self.old self.new result }
@@ -280,11 +283,11 @@ impl<D: Disk> Journal<D> {
         }
     }
 
-    /// The next batch, and the cursor goes on behind it; `None` at the end. It writes nothing.
+    /// The next batch, and the cursor goes on after it; `None` at the end. It writes nothing.
     pub fn next(
         &mut self,
         cursor: &mut Cursor,
-    ) -> Result<Option<ArrayVec<Record, 63>>, JournalFault>
+    ) -> Result<Option<ArrayVec<Record, MOST_ENTRIES>>, JournalFault>
         ensures gives { (D.state self.old.device).is_honest → (batches : List Batch)
             → Holds self.old.shape batches (D.state self.old.device).image
             → IsCursorIn batches cursor.old → GivesNext batches cursor.old cursor.new result }
@@ -399,7 +402,7 @@ impl<D: Disk> Journal<D> {
 impl<D: Arm> Journal<D> {
     ghost use Rattle.lift_disk.specs.Disk.{IsUnchanged, IsTold};
 
-    /// Tells the device anew which calls to fail. It changes no image.
+    /// Tells the device again which calls to fail. It changes no image.
     pub fn arm(&mut self, calls: u32)
         ensures same { IsUnchanged (D.state self.old.device) (D.state self.new.device) }
         ensures told { IsTold (D.fails_by calls (D.state self.old.device).calls)

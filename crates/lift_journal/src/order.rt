@@ -37,7 +37,7 @@ fn may_follow_last(terminal: Terminal, next: &Record) -> bool
     }
 }
 
-/// Whether a record may stand right behind that one.
+/// Whether a record may stand right after that one.
 #[inline(never)]
 fn may_stand_behind(last: &Record, next: &Record) -> bool
     ensures { IsTrue result ↔ MayFollow (Some last.now) next.now }
@@ -49,7 +49,7 @@ fn may_stand_behind(last: &Record, next: &Record) -> bool
     }
 }
 
-/// The same. Most records are entries behind entries.
+/// The same. Most records are entries after entries.
 fn may_come_next(last: &Record, next: &Record) -> bool
     ensures { IsTrue result ↔ MayFollow (Some last.now) next.now }
 {
@@ -78,7 +78,7 @@ fn is_in_order(records: &[Record]) -> bool
     true
 }
 
-/// Goes on behind these records, if they may stand in this order behind that one.
+/// Goes on after these records, if they may stand in this order after that one.
 pub fn pass_records(last: &mut Option<Record>, records: &[Record]) -> bool
     ensures ordered { IsTrue result ↔ IsInOrderBehind last.old records.now }
     ensures passed { IsTrue result → last.new ≡ last_behind last.old records.now }
@@ -93,7 +93,7 @@ pub fn pass_records(last: &mut Option<Record>, records: &[Record]) -> bool
     true
 }
 
-/// Whether a chain may end behind this record.
+/// Whether a chain may end after this record.
 pub fn may_end(last: &Option<Record>) -> bool
     ensures { IsTrue result ↔ MayEnd last.now }
 {

@@ -110,7 +110,7 @@ fn push_next(version: Version, text: &[u8; 1024], at: usize, records: &mut Recor
     true
 }
 
-/// Puts so many records behind the header of this text into a list, if they are spelled there.
+/// Puts this many records after the header of this text into a list, if they are spelled there.
 #[inline(never)]
 fn read_records(version: Version, text: &[u8; 1024], count: usize, records: &mut Records) -> bool
     requires few { count ≤ 63 }
@@ -140,7 +140,7 @@ fn is_zero_from(text: &[u8; 1024], at: usize) -> bool
     rest == &ZEROS[at..]
 }
 
-/// The records behind the header of a body of two sectors, if they and zeros stand there.
+/// The records after the header of a body of two sectors, if they and zeros stand there.
 pub fn parse(
     version: Version,
     count: usize,

@@ -1,19 +1,19 @@
 //! Where a formatted device goes on. This reads and writes nothing.
 ghost use Rattle.std.specs.Prelude.{ℕ, ◌≡◌, ◌⊎◌, ◌≤◌, ◌<◌, ◌+◌, ◌-◌, ◌*◌, ◌++◌, [], ◌∷◌, IsErrOf};
-ghost use Rattle.std.specs.Prelude.{IfOk, IfErr, OnOk, List};
+ghost use Rattle.std.specs.Prelude.{IfOk, IfErr, OnOk, OnErr, List};
 ghost use Rattle.lift_base.specs.declared.history.Shape.{Shape as ShapeValue};
 ghost use Rattle.lift_base.specs.History.{IsWithinLimits};
 ghost use Rattle.lift_disk.specs.Disk.{IsSynced, Image, MayLeave};
 ghost use Rattle.lift_journal.specs.Layout.{Batch, Holds, IsStamped, start_of};
 ghost use Rattle.lift_journal.specs.Journal.{HasNextPlace, StandsAt};
-ghost use Rattle.lift_journal.specs.Steps.{Examines, ReadsOnly, HasItsCause};
+ghost use Rattle.lift_journal.specs.Steps.{Examines};
 ghost use Rattle.lift_journal.specs.Walk.{IsDamagedAt};
-ghost use Rattle.lift_journal.specs.Opening.{RefusedFor};
+ghost use Rattle.lift_journal.specs.Opening.{RefusedFor, FixesImage};
 ghost use Rattle.lift_journal.specs.Fronts.{IsOfChain, IsOfStamp};
-ghost use Rattle.lift_journal.specs.Told.{NoneFails};
+ghost use Rattle.lift_journal.specs.Found.{FindsPlace};
 ghost use Rattle.lift_journal.specs.Visits.{TakesAll, HasTaken, TakesBefore, ShownBefore};
 ghost use Rattle.lift_disk.specs.Trace.Access.{Read};
-ghost use Rattle.lift_journal.specs.Calls.{reads_from, opening_calls};
+ghost use Rattle.lift_journal.specs.Calls.{reads_from};
 ghost use Rattle.lift_journal.specs.Behind.{StampBehind, EndsInHalf, RefusedBehind};
 
 use crate::fault::JournalFault;
@@ -121,21 +121,12 @@ fn place_of<D: Disk, V: Visitor>(
 
 /// Settles a device and finds its place. Each batch before it is shown to the visitor.
 pub fn find_place<D: Disk, V: Visitor>(disk: &mut D, visitor: &mut V) -> Result<Place, JournalFault>
-    ensures only { ReadsOnly (D.state disk.old) (D.state disk.new) }
-    ensures failures { OnOk result ((D.state disk.new).failures ≡ (D.state disk.old).failures) }
-    ensures told { OnOk result (NoneFails (D.state disk.old) (D.state disk.new)) }
-    ensures settled { OnOk result ((D.state disk.old).is_honest → IsSynced (D.state disk.new)) }
-    ensures place { IfOk result (λ place.
-        HasNextPlace (D.state disk.new).size place.shape place.start place.gate place.number) }
-    ensures stands { IfOk result (λ place. (D.state disk.old).is_honest
-        → StandsAt place.shape place.start place.gate place.number (D.state disk.new)) }
+    ensures examines { Examines result (D.state disk.old) (D.state disk.new) }
+    ensures finds { IfOk result (λ place. FindsPlace place (D.state disk.old) (D.state disk.new)) }
     ensures refused { IfErr result (λ fault.
         RefusedFor fault (D.state disk.old) (D.state disk.new)) }
-    ensures cause { IfErr result (λ fault.
-        HasItsCause fault (D.state disk.old) (D.state disk.new)) }
-    ensures read { IfOk result (λ place.
-        (D.state disk.new).trace ≡ (D.state disk.old).trace
-        ++ opening_calls place.start (place.gate - place.start + 1)) }
+    ensures fixed { OnErr result (((D.state disk.new).trace ≡ (D.state disk.old).trace)
+        ⊎ ((D.state disk.old).is_honest → FixesImage (D.state disk.old) (D.state disk.new))) }
     ensures behind { IfErr result (λ fault.
         RefusedBehind fault (D.state disk.old) (D.state disk.new)) }
     ensures shown { IfOk result (λ place. (D.state disk.old).is_honest → (batches : List Batch)

@@ -22,7 +22,7 @@ use lift_record::Header;
 pub enum AtGate {
     Closed,
     Batch(Stored),
-    /// The gate is open, and no batch of this number stands behind it.
+    /// The gate is open, and no batch of this number stands after it.
     Damaged,
 }
 
@@ -71,7 +71,7 @@ fn read_second<D: Disk>(disk: &mut D, sector: u32, is_wanted: bool) -> Result<[u
     read_sector(disk, sector)
 }
 
-/// What stands at an open gate, behind which this header is read: the second body sector is read,
+/// What stands at an open gate, after which this header is read: the second body sector is read,
 /// if it has one.
 fn read_rest<D: Disk>(
     disk: &mut D,

@@ -13,7 +13,7 @@ use Rattle.lift_register.specs.Fits.{Fits, FitFrom}
 use Rattle.lift_register.specs.Base.{BaseFits, BaseFitFrom, with_record, with_records}
 use Rattle.lift_journal.specs.Order.{IsEntry}
 
--- the record at one place of a checkpoint fits, and those behind it
+-- the record at one place of a checkpoint fits, and those after it
 pub base_here : (plan : Plan) (register : RegisterState) (records : List Record) (k : ℕ) (next : Record) → slice_get records k ≡ Some next
     → BaseFitFrom plan register (drop k records) → BaseFits plan register next × BaseFitFrom plan (with_record register next) (drop (suc k) records)
 base_here plan register [] k next is fit = absurd (cc is)
@@ -28,7 +28,7 @@ base_next register [] k next is = absurd (cc is)
 base_next register (first ∷ records) zero next is = let same : first ≡ next = cc is in ap (with_record register) same
 base_next register (first ∷ records) (suc k) next is = base_next (with_record register first) records k next is
 
--- the entry at one place fits, and those behind it
+-- the entry at one place fits, and those after it
 pub entry_here : (plan : Plan) (register : RegisterState) (entries : List Entry) (k : ℕ) (next : Entry) → slice_get entries k ≡ Some next
     → FitFrom plan register (drop k entries) → Fits plan register next × FitFrom plan (register_of register (next ∷ [])) (drop (suc k) entries)
 entry_here plan register [] k next is fit = absurd (cc is)

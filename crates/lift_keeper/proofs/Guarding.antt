@@ -168,7 +168,7 @@ entries_then (Done count ∷ first) later = entries_then first later
 entries_more : (entries : List Record) (batch : List Entry) → entries_of (entries ++ map EntryRecord batch) ≡ entries_of entries ++ batch
 entries_more entries batch = entries_then entries (map EntryRecord batch) ∙ ap (λ (l : List Entry). entries_of entries ++ l) (entries_same batch)
 
--- a batch behind the entries
+-- a batch after the entries
 pub batch_behind : (plan : Plan) (base entries : List Record) (register : RegisterState) (batch : List Entry) (records : List Record) → IsRegisterOf plan base entries register
     → FitFrom plan register batch → records ≡ map EntryRecord batch → IsRegisterOf plan base (entries ++ records) (register_of register batch)
 batch_behind plan base entries register batch records is fit kept =
@@ -336,7 +336,7 @@ module _ (plan : Plan) (shape : Shape) (is_second : Bool) (taken : ℕ) (registe
           reads.is_base (All-append IsEntry keeps.entries records reads.are_entries are) (batch_behind plan keeps.base keeps.entries register batch records keeps.is fit kept) (pick_at left leaves)
           (omega (arith, keeps.counts, used_push keeps.batches (new_batch records), ap bodies long))
 
-      -- so many calls were made before
+      -- this many calls were made before
       pub append_stops : (first : DiskState) (made : ℕ) → old.calls ≡ first.calls + made → StopsAdding plan shape.half is_second taken register batch made first new
       append_stops first made before = record {
         early = λ few _ left leaves. before_in left leaves (stops.early (omega (arith, few, before, ap bodies long)) honest_new left leaves);
@@ -363,7 +363,7 @@ pub answers_then : {T : Type 0} (r : Result T JournalFault) (old mid new : DiskS
 answers_then (Ok x) old mid new runs first second = record { ok = passes_then old mid new runs first second.ok; err = tt }
 answers_then (Err fault) old mid new runs first second = record { ok = tt; err = fault_then old mid new runs first fault second.err }
 
--- a commit that failed behind its checkpoint
+-- a commit that failed after its checkpoint
 pub adding_stops : (plan : Plan) (half : ℕ) (is_second : Bool) (taken : ℕ) (register : RegisterState) (batch : List Entry) (old mid new : DiskState) (count after : ℕ) (second : Bool) (now : ℕ)
     → count ≡ length batch → after ≡ half → second ≡ room_second is_second taken half count → now ≡ room_used register taken half count → mid.calls ≡ old.calls + room_calls register taken half count
     → mid.calls < new.calls → ((first : DiskState) (made : ℕ) → mid.calls ≡ first.calls + made → StopsAdding plan after second now register batch made first new)

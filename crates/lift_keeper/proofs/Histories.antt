@@ -1,4 +1,4 @@
--- The register of a checkpoint and the entries behind it.
+-- The register of a checkpoint and the entries after it.
 use Rattle.std.proofs.Common.{◌≡◌, List, [], ◌∷◌, ◌++◌, refl, sym, ◌∙◌, ap, subst, append_assoc}
 use Rattle.std.specs.Prelude.{All}
 use Rattle.std.proofs.lemmas.List.{append-nil}
@@ -18,7 +18,7 @@ use Rattle.lift_journal.specs.Layout.{Batch, records_of}
 use Rattle.lift_keeper.specs.Recovery.{AllFit, with_all, entries_of, IsRegisterOf}
 use Rattle.lift_keeper.proofs.Recoveries.{MakesRegister}
 
--- a checkpoint, and records behind it
+-- a checkpoint, and records after it
 base_with : (register : RegisterState) (base later : List Record) → All IsOfBase base → with_all register (base ++ later) ≡ with_all (with_records register base) later
 base_with register [] later is = refl
 base_with register (EntryRecord entry ∷ base) later is = absurd (All-head IsOfBase (EntryRecord entry) base is)

@@ -49,7 +49,7 @@ length_front first zero le = refl
 length_front [] (suc p) le = absurd (omega arith)
 length_front (x ∷ first) (suc p) le = omega (arith, length_front first p (omega arith))
 
--- a record can't be taken in, whatever stands behind it
+-- a record can't be taken in, whatever stands after it
 stops_before : (old new : RecoveryState) (first later : List Record) → StopsAt old new first → StopsAt old new (first ++ later)
 stops_before old new first later stops =
     let inside = slice_get_within first stops.place stops.misfit stops.there in
@@ -98,7 +98,7 @@ came_on old next new first later pass is came = record {
   stops = λ over. stops_behind old next.recovery new.recovery first later pass is (came.stops over);
 }
 
--- behind a record that can't be taken in nothing is
+-- after a record that can't be taken in nothing is
 rests_over : (old : ReadingState) (batches : List Batch) (new : ReadingState) → old.is_over ≡ true → TakesAll ReadsBatch old batches new → new ≡ old
 rests_over old [] new is all = all
 rests_over old (batch ∷ batches) new is all =
@@ -133,7 +133,7 @@ came_all old (batch ∷ batches) new whole few small all =
           (came_all all.0 batches new is (omega (arith, few, count, size)) (All-tail IsSmall batch batches small) all.2)
     ] refl
 
--- a half has not so many records
+-- a half has not this many records
 few_batches : (batches : List Batch) → length batches ≤ used batches
 few_batches [] = omega arith
 few_batches (batch ∷ batches) = omega (arith, few_batches batches)
@@ -197,7 +197,7 @@ module _ (plan : Plan) (shape : Shape) (batches : List Batch) (image : Image) (r
             stops.fails (passes_here state (last_behind None front) stops.misfit is_open may_here of_plan);
       }
 
-  -- no register: a record can't be taken, since the batches end no checkpoint that they have open
+  -- no register: a record can't be taken, because the batches end no checkpoint that they have open
   pub none_made : (reading.is_over ≡ true) ⊎ (reading.recovery.is_open ≡ true) → IsFirstMisfit plan (records_of batches) reading.recovery.taken
   none_made none =
       elim reading.is_over as (λ (b : Bool). reading.is_over ≡ b → IsFirstMisfit plan (records_of batches) reading.recovery.taken) [

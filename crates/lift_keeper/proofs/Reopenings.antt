@@ -1,5 +1,5 @@
 -- An opening of a journal, and the register that was read as it was opened.
-use Rattle.std.proofs.Common.{◌≡◌, ℕ, zero, suc, Bool, List, [], ◌∷◌, ◌++◌, Some, All, take, sym, ◌∙◌, ap, subst}
+use Rattle.std.proofs.Common.{◌≡◌, inr, ℕ, zero, suc, Bool, List, [], ◌∷◌, ◌++◌, Some, All, take, sym, ◌∙◌, ap, subst}
 use Rattle.std.specs.Prelude.{slice_get}
 use Rattle.std.proofs.lemmas.List.Elements.{All-head, All-tail}
 use Rattle.lift_base.specs.declared.history.Record.{Record}
@@ -233,6 +233,7 @@ module _ (plan : Plan) (old new : DiskState) (shape : Shape) (taken : ℕ) (open
       moments = opens.moments;
       writes = opens.writes;
       cause = cause_of fault none;
+      settled = inr (λ honest. record { none_loose = (opens.synced honest).none_loose; seen = opens.seen honest });
       good = good_of fault none;
     }
 
@@ -242,5 +243,6 @@ refused_journal plan old new fault refuses = record {
   moments = refuses.moments;
   writes = refuses.writes;
   cause = refuses.cause;
+  settled = refuses.settled;
   good = λ honest register is. ap (λ (f : JournalFault). Journal f) (refuses.good honest (shape_of plan is.half) is.reads.batches is.reads.holds);
 }

@@ -14,6 +14,8 @@ use Rattle.lift_register.specs.lemmas.EntryLemmas.{register_of-nothing}
 use Rattle.lift_journal.specs.declared.fault.JournalFault.TheVariants.{Disk}
 use Rattle.lift_journal.specs.Journal.{JournalView, ReadsAs}
 use Rattle.lift_journal.specs.Layout.{Holds, Picks}
+use Rattle.lift_journal.specs.Opening.{FixesImage}
+use Rattle.lift_journal.specs.lemmas.Chains.{all_same}
 use Rattle.lift_keeper.specs.declared.fault.KeeperFault.{KeeperFault}
 use Rattle.lift_keeper.specs.declared.fault.KeeperFault.TheVariants.{Journal}
 use Rattle.lift_keeper.specs.Images.{IsImageOf, IsImageIn, IsInDoubt}
@@ -120,12 +122,23 @@ module _ {D : Type 0} (plan : Plan) (journal : JournalView D) (register : Regist
         let now = now_after disk new (MayLeave disk) refuses.moments counts (refuses.moments.honest.1 honest) new.image (changes_nothing new.is_loose new.image) in
         ⊎_elim (λ is. refuses.good honest register is) (λ is. refuses.good honest (register_of register doubt) is) (doubt_of honest new.image now)
 
+    -- behind its sync a refused opening leaves one of the two registers for good
+    pub settled_one : (new : DiskState) (fault : KeeperFault) → RefusesReopening plan disk new fault
+        → (new.trace ≡ disk.trace) ⊎ (disk.is_honest → LeavesNow new (IsImageOf plan register) ⊎ LeavesNow new (IsImageOf plan (register_of register doubt)))
+    settled_one new fault refuses = ⊎_elim (λ same. inl same) (λ is. inr (λ honest. one_of (is honest) (doubt_of honest new.image (is honest).seen))) refuses.settled
+      where
+        each : (found : RegisterState) → FixesImage disk new → IsImageOf plan found new.image → LeavesNow new (IsImageOf plan found)
+        each found settled image honest_new left now = subst (λ (l : Image). IsImageOf plan found l) (sym (all_same new.is_loose new.image left settled.none_loose now)) image
+
+        one_of : FixesImage disk new → IsInDoubt plan register doubt new.image → LeavesNow new (IsImageOf plan register) ⊎ LeavesNow new (IsImageOf plan (register_of register doubt))
+        one_of settled found = ⊎_elim (λ image. inl (each register settled image)) (λ image. inr (each (register_of register doubt) settled image)) found
+
     -- what an opening gives
     pub reopened_one : (new : DiskState) (found : RegisterState) (half : ℕ) (is_second : Bool) (taken : ℕ) → Reopens plan disk new found half is_second taken → disk.is_honest → (found ≡ register) ⊎ (found ≡ register_of register doubt)
     reopened_one new found half is_second taken opens honest =
         ⊎_elim (λ is. inl (sym (opens.only honest register is))) (λ is. inr (sym (opens.only honest (register_of register doubt) is))) (doubt_of honest new.image (opens.seen honest))
 
-    -- a device that was told anew which calls to fail
+    -- a device that was told again which calls to fail
     pub armed_writer : (after : JournalView D) (new : DiskState) → after.shape ≡ journal.shape → after.is_second ≡ journal.is_second → after.used ≡ journal.used → after.is_broken ≡ journal.is_broken → IsUnchanged disk new
         → IsWriter plan after register doubt opened is_broken new
     armed_writer after new shape second taken broken same = record {

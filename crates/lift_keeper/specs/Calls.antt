@@ -18,8 +18,8 @@ use Rattle.lift_keeper.specs.Images.{IsImageIn}
 use Rattle.lift_keeper.specs.Writer.{WriterView, StopsCommit, commit_calls, commit_writes}
 use Rattle.lift_keeper.specs.Writer.{commit_used, commit_second}
 
--- A journal was opened and read to its end, with no other call: a half of so many sectors, which of
--- the two it is, and how many of its sectors are used.
+-- A journal was opened and read to its end, with no other call: a half of this many sectors, which
+-- of the two it is, and how many of its sectors are used.
 pub record ReadsAll (old new : DiskState) : Type 0 where
   pub half : ℕ
   pub is_second : Bool
@@ -43,8 +43,8 @@ FailsBy (Journal fault) old new = JournalFailsBy fault old new
 FailsBy OtherBuilding old new = NoneFails old new
 FailsBy (BadEntry place) old new = NoneFails old new
 
--- A commit of so many entries: it makes no call for none, else those of an append, and of a
--- checkpoint where room is wanted.
+-- A commit of this many entries: it makes no call for none, else those of an append, and of a
+-- checkpoint where there is no room.
 pub record CommitCalls {D T : Type 0} (state : D → DiskState) (old : WriterView D) (count : ℕ)
     (new : WriterView D) (result : Result T KeeperFault) : Type 0 where
   pub runs : RunsOn (state old.device) (state new.device)
@@ -61,7 +61,7 @@ pub record CommitCalls {D T : Type 0} (state : D → DiskState) (old : WriterVie
       → StopsCommit old.plan old.half old.is_second old.used old.register new.doubt
       (state old.device) (state new.device)
 
--- An opening that found a half of so many sectors, which of the two it is, and how many of its
+-- An opening that found a half of this many sectors, which of the two it is, and how many of its
 -- sectors are used: it makes the calls of its journal's opening, and no other.
 pub record OpeningCalls (plan : Plan) (old new : DiskState) (half : ℕ) (is_second : Bool)
     (taken : ℕ) : Type 0 where

@@ -47,7 +47,7 @@ pub record Commits {D T : Type 0} (state : D → DiskState) (old : WriterView D)
   pub stays : OnOk result ((new.is_broken ≡ false) × (new.doubt ≡ []))
   pub same : (new.plan ≡ old.plan) × (new.half ≡ old.half) × (new.opened ≡ old.opened)
 
--- It was the commit of a batch of so many entries, which lead to this register.
+-- It was the commit of a batch of this many entries, which lead to this register.
 pub record CommitsTo {D T : Type 0} (state : D → DiskState) (old : WriterView D) (count : ℕ)
     (register : RegisterState) (new : WriterView D) (result : Result T KeeperFault)
     : Type 0 where

@@ -23,7 +23,7 @@ abbrev pub IsInDoubt : Plan → RegisterState → List Entry → Image → Type 
 IsInDoubt plan register batch image = IsImageOf plan register image
     ⊎ IsImageOf plan (register_of register batch) image
 
--- the same, with so many sectors in a half: this half is picked, and so many of its sectors are
+-- the same, with this many sectors in a half: this half is picked, and this many of its sectors are
 -- used
 pub record IsImageIn (plan : Plan) (half : ℕ) (is_second : Bool) (taken : ℕ)
     (register : RegisterState) (image : Image) : Type 0 where

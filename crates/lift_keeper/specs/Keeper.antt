@@ -10,7 +10,7 @@ pub record KeeperView (D : Type 0) : Type 0 where
   pub state : State
   pub writer : WriterView D
 
--- What is true of every keeper that isn't broken: its batch fits behind what is safe, and the two
+-- What is true of every keeper that isn't broken: its batch fits after what is safe, and the two
 -- are what it shows.
 pub record IsKeeper (plan : Plan) (state : State) (other : Plan) (safe : RegisterState)
     (is_broken : Bool) : Type 0 where

@@ -13,7 +13,7 @@ use Rattle.lift_keeper.specs.Recovery.{RecoveryState, beginning, AllPass, all_pa
 -- what was taken in of the batches so far
 pub record ReadingState : Type 0 where
   pub recovery : RecoveryState
-  -- a record couldn't be taken, and none behind it is
+  -- a record couldn't be taken, and none after it is
   pub is_over : Bool
 
 -- before the first batch

@@ -1,11 +1,11 @@
 -- What a reopening does to a writer, whatever it answers.
 use Rattle.std.specs.Prelude.{◌≡◌, ◌⊎◌, true, false, [], Result, Err, IfErr, OnOk, OnErr}
-use Rattle.lift_disk.specs.Disk.{DiskState, LeavesOnly}
+use Rattle.lift_disk.specs.Disk.{DiskState, LeavesNow, LeavesOnly}
 use Rattle.lift_register.specs.Register.{register_of}
 use Rattle.lift_journal.specs.declared.fault.JournalFault.TheVariants.{Disk}
 use Rattle.lift_keeper.specs.declared.fault.KeeperFault.{KeeperFault}
 use Rattle.lift_keeper.specs.declared.fault.KeeperFault.TheVariants.{Journal}
-use Rattle.lift_keeper.specs.Images.{IsInDoubt}
+use Rattle.lift_keeper.specs.Images.{IsImageOf, IsInDoubt}
 use Rattle.lift_keeper.specs.Reopening.{Reopens, RefusesReopening}
 use Rattle.lift_keeper.specs.Writer.{WriterView}
 
@@ -28,6 +28,12 @@ pub record Recovers {D T : Type 0} (state : D → DiskState) (old new : WriterVi
       RefusesReopening old.plan (state old.device) (state new.device) fault)
   -- an honest device is refused for a failed call alone
   pub good : IfErr result (λ fault. (state old.device).is_honest → fault ≡ Journal Disk)
+  -- Its sync failed, so that no call succeeded; or from now on every crash leaves the same one of
+  -- the two.
+  pub settled : OnErr result (((state new.device).trace ≡ (state old.device).trace)
+      ⊎ ((state old.device).is_honest
+      → LeavesNow (state new.device) (IsImageOf old.plan old.register)
+      ⊎ LeavesNow (state new.device) (IsImageOf old.plan (register_of old.register old.doubt))))
   pub breaks : result ≡ Err (Journal Disk) → new.is_broken ≡ true
   pub stays : IfErr result (λ fault.
       (fault ≡ Journal Disk) ⊎ (new.is_broken ≡ old.is_broken))

@@ -49,14 +49,14 @@ entries_of (Row row ∷ later) = entries_of later
 entries_of (Last terminal last ∷ later) = entries_of later
 entries_of (Done count ∷ later) = entries_of later
 
--- the checkpoint fits, and the entries behind it; this is the register of the two
+-- the checkpoint fits, and the entries after it; this is the register of the two
 pub record IsRegisterOf (plan : Plan) (base entries : List Record)
     (register : RegisterState) : Type 0 where
   pub base_fits : BaseFitFrom plan empty base
   pub entries_fit : FitFrom plan (with_records empty base) (entries_of entries)
   pub is : register ≡ register_of (with_records empty base) (entries_of entries)
 
--- behind the record a checkpoint has begun and not ended
+-- after the record a checkpoint has begun and not ended
 abbrev pub leaves_open : Record → Bool
 leaves_open (EntryRecord entry) = false
 leaves_open (Row row) = true

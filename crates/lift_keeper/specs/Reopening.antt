@@ -1,12 +1,12 @@
 -- What an opening of a writer does to its device, whatever it answers: it writes nothing.
-use Rattle.std.specs.Prelude.{◌≡◌, ◌≢◌, ℕ, Bool, false, List, []}
+use Rattle.std.specs.Prelude.{◌≡◌, ◌≢◌, ◌⊎◌, ℕ, Bool, false, List, []}
 use Rattle.lift_base.specs.declared.history.Shape.{Shape}
 use Rattle.lift_building.specs.Plan.{Plan, shape_of}
 use Rattle.lift_disk.specs.Disk.{DiskState, MayLeave, IsSynced, LeavesNow, LeavesOnly}
 use Rattle.lift_register.specs.Register.{RegisterState}
 use Rattle.lift_journal.specs.declared.fault.JournalFault.TheVariants.{Disk}
 use Rattle.lift_journal.specs.Layout.{Batch, records_of, Holds}
-use Rattle.lift_journal.specs.Opening.{RefusedFor as JournalRefusedFor}
+use Rattle.lift_journal.specs.Opening.{RefusedFor as JournalRefusedFor, FixesImage}
 use Rattle.lift_keeper.specs.declared.fault.KeeperFault.{KeeperFault}
 use Rattle.lift_keeper.specs.declared.fault.KeeperFault.TheVariants.{Journal, OtherBuilding}
 use Rattle.lift_keeper.specs.declared.fault.KeeperFault.TheVariants.{BadEntry}
@@ -14,8 +14,8 @@ use Rattle.lift_keeper.specs.Images.{IsImageOf, IsImageIn}
 use Rattle.lift_keeper.specs.Recovery.{IsFirstMisfit}
 use Rattle.lift_keeper.specs.Writer.{WriterView}
 
--- It has opened: this is the register, in a half of so many sectors; this half is picked, and so
--- many of its sectors are used.
+-- It has opened: this is the register, in a half of this many sectors; this half is picked, and
+-- this many of its sectors are used.
 pub record Reopens (plan : Plan) (old new : DiskState) (register : RegisterState) (half : ℕ)
     (is_second : Bool) (taken : ℕ) : Type 0 where
   -- a crash at any moment leaves what one before it might have left
@@ -64,6 +64,8 @@ pub record RefusesReopening (plan : Plan) (old new : DiskState) (fault : KeeperF
   pub moments : LeavesOnly old new (MayLeave old)
   pub writes : new.writes ≡ old.writes
   pub cause : RefusedFor fault plan old new
+  -- its sync failed, so that no call succeeded; or no crash gives another image any more
+  pub settled : (new.trace ≡ old.trace) ⊎ (old.is_honest → FixesImage old new)
   -- an image of a register of the building is refused for a failed call alone
   pub good : old.is_honest → (register : RegisterState) → IsImageOf plan register new.image
       → fault ≡ Journal Disk

@@ -70,7 +70,7 @@ pub record IsWriter {D : Type 0} (plan : Plan) (journal : JournalView D) (regist
       → Keeps plan journal.shape journal.is_second journal.used register disk
   pub leaves : is_broken ≡ true → LeavesNow disk (IsInDoubt plan register doubt)
 
--- a batch of so many entries has room behind so many used sectors of a half
+-- a batch of this many entries has room after this many used sectors of a half
 abbrev pub has_room : (used half count : ℕ) → Bool
 has_room used half count = nat_le (used + bodies count + 2) half
 
@@ -93,8 +93,8 @@ abbrev pub room_second : Bool → (used half count : ℕ) → Bool
 room_second is_second used half count =
     if has_room used half count then is_second else not is_second
 
--- how many device calls a commit of so many entries makes, how many of them are writes, and the
--- sectors used behind it
+-- how many device calls a commit of this many entries makes, how many of them are writes, and the
+-- sectors used after it
 abbrev pub commit_calls : RegisterState → (used half count : ℕ) → ℕ
 commit_calls register used half count =
     if count == 0 then 0 else room_calls register used half count + (bodies count + 4)
@@ -119,7 +119,7 @@ StopsFolding plan half is_second taken register old new =
     (IsImageIn plan half (not is_second) (sectors_for (length (base_records register))) register)
     is_second (sectors_for (length (base_records register)) + 2) old new
 
--- The appending of a batch has failed, so many calls behind the beginning: a fill leaves the batch
+-- The appending of a batch has failed, this many calls after the beginning: a fill leaves the batch
 -- just where its byte is the mark.
 abbrev pub StopsAdding : Plan → ℕ → Bool → ℕ → RegisterState → List Entry → ℕ → DiskState
     → DiskState → Type 0
@@ -128,7 +128,7 @@ StopsAdding plan half is_second taken register batch before old new =
     (IsImageIn plan half is_second (taken + (bodies (length batch) + 1))
     (register_of register batch)) false (before + (bodies (length batch) + 2)) old new
 
--- A commit has failed: within its checkpoint, if it needs one, or behind it.
+-- A commit has failed: within its checkpoint, if it needs one, or after it.
 pub record StopsCommit (plan : Plan) (half : ℕ) (is_second : Bool) (taken : ℕ)
     (register : RegisterState) (batch : List Entry) (old new : DiskState) : Type 0 where
   pub folding : new.calls ≤ old.calls + room_calls register taken half (length batch)

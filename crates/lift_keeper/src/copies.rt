@@ -9,7 +9,7 @@ ghost use Rattle.lift_register.specs.Prelude.{IsWellFormed};
 ghost use Rattle.lift_journal.specs.Order.{IsEntry};
 
 use arrayvec::ArrayVec;
-use lift_base::{Entry, Record, push_some};
+use lift_base::{Entry, MOST_ENTRIES, Record, push_some};
 use lift_building::Building;
 use lift_register::Register;
 
@@ -44,7 +44,10 @@ pub fn apply_all(register: &mut Register, building: &Building, entries: &[Entry]
 }
 
 /// The records that keep these entries, in the place of others.
-pub fn put_records(batch: &ArrayVec<Entry, 63>, records: &mut ArrayVec<Record, 63>)
+pub fn put_records(
+    batch: &ArrayVec<Entry, MOST_ENTRIES>,
+    records: &mut ArrayVec<Record, MOST_ENTRIES>,
+)
     requires lawful { All (λ (e : EntryValue). IsLawful (EntryRecord e)) batch.now.items }
     ensures kept { records.new.items ≡ map EntryRecord batch.now.items }
     ensures length { length records.new.items ≡ length batch.now.items }

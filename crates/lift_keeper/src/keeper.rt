@@ -14,7 +14,7 @@ ghost use Rattle.lift_keeper.specs.Prelude.{OpensByCalls, RefusedCalls, Reopenin
 use crate::copies::copy_of;
 use crate::fault::KeeperFault;
 use crate::writer::Writer;
-use lift_base::{Body, Number, Reply, Terminal};
+use lift_base::{Body, MOST_CARS, Number, Reply, Terminal};
 use lift_building::Building;
 use lift_decider::Decider;
 use lift_disk::{Arm, Disk};
@@ -123,7 +123,7 @@ impl<'b, D: Disk> Keeper<'b, D> {
 
     /// The schedules of the cars that have told where they are, each with its car's open calls:
     /// their positions, and where they stop.
-    pub fn positions(&self) -> &[Option<Schedule>; 16]
+    pub fn positions(&self) -> &[Option<Schedule>; MOST_CARS]
         ensures positions { positions_of result.now ≡ self.now.state.positions }
         ensures own { AreSchedulesOf self.now.state.register result.now }
     {
@@ -167,8 +167,10 @@ impl<'b, D: Disk> Keeper<'b, D> {
 
     /// Makes the batch safe, and begins another.
     pub fn commit(&mut self) -> Result<(), KeeperFault>
+        // What a crash may leave at each moment of it, why it fails, and what stays.
         ensures commits { Commits
             D.state self.old.writer self.old.state.batch self.new.writer result }
+        // How many calls the device gets, and what a commit that it stopped leaves.
         ensures calls { CommitCalls
             D.state self.old.writer (length self.old.state.batch) self.new.writer result }
         // What is safe at Ok is what it shows.
@@ -240,7 +242,7 @@ impl<'b, D: Disk> Keeper<'b, D> {
 impl<'b, D: Arm> Keeper<'b, D> {
     ghost use Rattle.lift_disk.specs.Disk.{IsUnchanged, IsTold};
 
-    /// Tells the device anew which calls to fail. It changes no image.
+    /// Tells the device again which calls to fail. It changes no image.
     pub fn arm(&mut self, calls: u32)
         ensures same { IsUnchanged (D.state self.old.writer.device)
             (D.state self.new.writer.device) }

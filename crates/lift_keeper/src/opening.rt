@@ -19,7 +19,7 @@ fn is_of<D: Disk>(journal: &Journal<D>, building: &Building) -> bool
     shape == building.shape(shape.half)
 }
 
-/// The register of an opened journal: that of its checkpoint and the entries behind it, which were
+/// The register of an opened journal: that of its checkpoint and the entries after it, which were
 /// read as it was opened. It makes no call of the device.
 ///
 /// `OtherBuilding` where the journal is of a building of another shape, then `BadEntry` with the

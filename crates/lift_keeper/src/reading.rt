@@ -5,7 +5,7 @@ ghost use Rattle.lift_keeper.specs.Reading.{reading_from, GivesAtEnd};
 
 use crate::recovery::Recovery;
 use arrayvec::ArrayVec;
-use lift_base::Record;
+use lift_base::{MOST_ENTRIES, Record};
 use lift_building::Building;
 use lift_journal::Visitor;
 use lift_register::Register;
@@ -18,7 +18,7 @@ const MOST_RECORDS: u32 = 4_000_000_000;
 #[derive(Drop)]
 pub struct Reading<'b> {
     recovery: Recovery<'b>,
-    /// A record didn't fit: none behind it is taken.
+    /// A record didn't fit: none after it is taken.
     is_over: bool,
 }
 
@@ -61,7 +61,7 @@ impl<'b> Visitor for Reading<'b> {
 
     ghost takes = { ReadsBatch };
 
-    fn visit(&mut self, records: &ArrayVec<Record, 63>) {
+    fn visit(&mut self, records: &ArrayVec<Record, MOST_ENTRIES>) {
         if self.is_over {
             return;
         }

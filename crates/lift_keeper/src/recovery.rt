@@ -150,7 +150,7 @@ impl<'b> Recovery<'b> {
     }
 }
 
-/// Whether a checkpoint has begun and not ended behind this record.
+/// Whether a checkpoint has begun and not ended after this record.
 fn leaves_open(content: &Record) -> bool
     ensures { result ≡ leaves_open content.now }
 {

@@ -18,12 +18,12 @@ ghost use Rattle.lift_keeper.specs.Writer.{Keeps, Guards, StopsFolding, StopsCom
 ghost use Rattle.lift_keeper.specs.Writer.{room_writes, room_used, room_second};
 
 use arrayvec::ArrayVec;
-use lift_base::Record;
+use lift_base::{MOST_ENTRIES, Record};
 use lift_disk::Disk;
 use lift_journal::{Journal, JournalFault};
 use lift_register::Register;
 
-/// Makes room for a batch of so many records, by a checkpoint of the register where the journal
+/// Makes room for a batch of this many records, by a checkpoint of the register where the journal
 /// lacks it.
 fn make_room<D: Disk>(
     journal: &mut Journal<D>,
@@ -68,12 +68,12 @@ fn make_room<D: Disk>(
     journal.replace(register)
 }
 
-/// Makes a batch safe behind what the journal holds. A crash at any moment leaves the register from
+/// Makes a batch safe after what the journal holds. A crash at any moment leaves the register from
 /// before, or the one with the batch.
 pub fn store<D: Disk>(
     journal: &mut Journal<D>,
     register: &Register,
-    records: &ArrayVec<Record, 63>,
+    records: &ArrayVec<Record, MOST_ENTRIES>,
 ) -> Result<(), JournalFault>
     requires whole { journal.old.is_broken ≡ false }
     requires some { 1 ≤ length records.now.items }

@@ -16,7 +16,7 @@ use crate::opening::recovered;
 use crate::reading::Reading;
 use crate::store::store;
 use arrayvec::ArrayVec;
-use lift_base::{Entry, Record};
+use lift_base::{Entry, MOST_ENTRIES, Record};
 use lift_building::Building;
 use lift_disk::{Arm, Disk};
 use lift_journal::{Journal, JournalFault};
@@ -32,11 +32,11 @@ pub struct Writer<'b, D: Disk> {
     register: Register,
     is_broken: bool,
     /// The batch that a fault left in doubt.
-    doubt: Snapshot<ArrayVec<Entry, 63>>,
+    doubt: Snapshot<ArrayVec<Entry, MOST_ENTRIES>>,
     /// The journal when it was last opened.
     opened: Snapshot<Journal<D>>,
     /// Room for the records of a batch, so that none is made for each.
-    records: ArrayVec<Record, 63>,
+    records: ArrayVec<Record, MOST_ENTRIES>,
 }
 
 impl<'b, D: Disk> Model for Writer<'b, D> {
@@ -130,7 +130,7 @@ impl<'b, D: Disk> Writer<'b, D> {
     }
 
     /// Makes a batch safe. At `Ok` the safe register is the one with the batch.
-    pub fn commit(&mut self, batch: &ArrayVec<Entry, 63>) -> Result<(), KeeperFault>
+    pub fn commit(&mut self, batch: &ArrayVec<Entry, MOST_ENTRIES>) -> Result<(), KeeperFault>
         requires fits { self.old.is_broken ≡ false
             → FitFrom self.old.plan self.old.register batch.now.items }
         ensures commits { Commits D.state self.old batch.now.items self.new result }
@@ -192,7 +192,7 @@ impl<'b, D: Disk> Writer<'b, D> {
 impl<'b, D: Arm> Writer<'b, D> {
     ghost use Rattle.lift_disk.specs.Disk.{IsUnchanged, IsTold};
 
-    /// Tells the device anew which calls to fail. It changes no image.
+    /// Tells the device again which calls to fail. It changes no image.
     pub fn arm(&mut self, calls: u32)
         ensures same { IsUnchanged (D.state self.old.device) (D.state self.new.device) }
         ensures told { IsTold (D.fails_by calls (D.state self.old.device).calls)

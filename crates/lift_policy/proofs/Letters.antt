@@ -71,7 +71,7 @@ some_of (x ∷ letters) h = omega arith
 pub letters_of : (plan : Plan) (view : ViewState) (call : NewCall) (letters : List ℕ) → letters ≡ eligible_cars plan view call → (letters ≡ [] → ⊥) → AreLetters letters
 letters_of plan view call letters e h = record { some = some_of letters h; rising = rw e (eligible_cars-rise plan view call) }
 
--- ---- the building has no car behind its last one
+-- ---- the building has no car after its last one
 
 -- no number from this one on passes
 abbrev pub NoneFrom : (ℕ → Bool) → ℕ → Type 0
@@ -112,7 +112,7 @@ eligible_so_far plan view call letters n all few so_far =
     ∙ ap (λ (m : ℕ). filter p (range_with_len 0 m)) e
     ∙ sym (eligible_cars-is plan view call)
 
--- ---- where none of the first cars may take a call, the eligible ones are those behind
+-- ---- where none of the first cars may take a call, the eligible ones are those after
 
 -- those of the letters from this one on that pass
 unfoldable pub passing_from : (ℕ → Bool) → ℕ → List ℕ

@@ -6,7 +6,7 @@ ghost use Rattle.lift_policy.specs.Eligible.{can_take, is_eligible, eligible_car
 
 use crate::view::View;
 use arrayvec::ArrayVec;
-use lift_base::Letter;
+use lift_base::{Letter, MOST_CARS};
 use lift_building::Building;
 use lift_cost::NewCall;
 use lift_register::{Register, persons};
@@ -26,7 +26,7 @@ pub fn can_take(building: &Building, register: &Register, call: NewCall, car: Le
 /// The cars that may take a call: one at least, by rising letter.
 #[derive(Drop)]
 pub struct Eligible {
-    letters: ArrayVec<Letter, 16>,
+    letters: ArrayVec<Letter, MOST_CARS>,
 }
 
 impl Model for Eligible {
@@ -92,7 +92,7 @@ pub(crate) fn is_none_eligible(building: &Building, view: &View, call: &NewCall)
 }
 
 /// The cars that may take a call, by rising letter.
-fn letters_among(building: &Building, view: &View, call: &NewCall) -> ArrayVec<Letter, 16>
+fn letters_among(building: &Building, view: &View, call: &NewCall) -> ArrayVec<Letter, MOST_CARS>
     ensures { result.items ≡ eligible_cars building.now view.now call.now }
 {
     let mut letters = ArrayVec::new();

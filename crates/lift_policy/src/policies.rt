@@ -12,7 +12,7 @@ use crate::policy::Policy;
 use crate::view::View;
 use crate::waits::wait_of;
 use arrayvec::ArrayVec;
-use lift_base::Letter;
+use lift_base::{Letter, MOST_CARS};
 use lift_building::Building;
 use lift_cost::{NewCall, cost_of};
 use lift_register::persons;
@@ -69,7 +69,7 @@ fn pick<M: Measure>(
         result }
 {
     let letters = eligible.letters();
-    let mut measures = ArrayVec::<u64, 16>::new();
+    let mut measures = ArrayVec::<u64, MOST_CARS>::new();
     for car in letters {
         measures.push(policy.measure(building, view, call, *car));
     }

@@ -5,7 +5,7 @@ ghost use Rattle.lift_base.specs.declared.travel.Position.{Position as PositionV
 ghost use Rattle.lift_register.specs.Register.{rows_of};
 ghost use Rattle.lift_policy.specs.View.{positions_of, AreSchedulesOf};
 
-use lift_base::{Letter, Position};
+use lift_base::{Letter, MOST_CARS, Position};
 use lift_register::Register;
 use lift_stops::Schedule;
 
@@ -36,12 +36,12 @@ fn schedule_at(register: &Register, index: u8, position: &Option<Position>) -> O
 /// The schedules of all cars at their positions, made from their open calls.
 pub fn schedules_at(
     register: &Register,
-    positions: &[Option<Position>; 16],
-) -> [Option<Schedule>; 16]
+    positions: &[Option<Position>; MOST_CARS],
+) -> [Option<Schedule>; MOST_CARS]
     ensures own { AreSchedulesOf register.now result }
     ensures positions { positions_of result ≡ positions.now }
 {
-    let mut schedules: [Option<Schedule>; 16] = Default::default();
+    let mut schedules: [Option<Schedule>; MOST_CARS] = Default::default();
     for index in 0..16u8 {
         let place = usize::from(index);
         schedules[place] = schedule_at(register, index, &positions[place]);

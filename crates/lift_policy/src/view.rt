@@ -6,7 +6,7 @@ ghost use Rattle.lift_policy.specs.View.{position_of, positions_of, AreSchedules
 ghost use Rattle.lift_policy.specs.Eligible.{is_eligible};
 
 use crate::eligible::can_take;
-use lift_base::{Letter, Position, Row};
+use lift_base::{Letter, MOST_CARS, Position, Row};
 use lift_building::Building;
 use lift_cost::NewCall;
 use lift_register::Register;
@@ -17,7 +17,7 @@ use std::marker::Model;
 #[derive(Drop)]
 pub struct View<'a> {
     register: &'a Register,
-    schedules: &'a [Option<Schedule>; 16],
+    schedules: &'a [Option<Schedule>; MOST_CARS],
 }
 
 impl<'a> Model for View<'a> {
@@ -36,7 +36,7 @@ impl<'a> Model for View<'a> {
 impl<'a> View<'a> {
     /// The schedules are those of the cars that have told where they are, each with its car's open
     /// calls.
-    pub fn new(register: &'a Register, schedules: &'a [Option<Schedule>; 16]) -> Self
+    pub fn new(register: &'a Register, schedules: &'a [Option<Schedule>; MOST_CARS]) -> Self
         requires { AreSchedulesOf register.now schedules.now }
         ensures { result ≡ record {
           register = register.now;

@@ -22,16 +22,10 @@ use crate::unwritten::{ShownImage, UnwrittenFile};
 use lift_base::text::Counted;
 use lift_building::Building;
 use lift_disk::{Buffered, FileFault, FileOpener, SectorFile};
-use lift_replay::{InputFault, read_all};
+use lift_replay::{InputFault, MOST_BYTES, MOST_CALLS, read_all};
 use std::alloc::Global;
 use std::io::Read;
 use std::str;
-
-/// A building's text has so many bytes at most, as many as a script.
-const MOST_BYTES: usize = 1_048_576;
-
-/// The file is read in so many calls at most.
-const MOST_CALLS: u32 = 2_097_152;
 
 /// What a building's file comes to that couldn't be read.
 fn unread(fault: InputFault) -> Fault
@@ -45,8 +39,8 @@ fn unread(fault: InputFault) -> Fault
     }
 }
 
-/// The bytes of a building's file. Reading stops behind one byte more than there may be, and the
-/// file is refused then.
+/// The bytes of a building's file, as many as a script may have. Reading stops behind one byte more,
+/// and the file is refused then.
 fn bytes_of<R: Read + Drop>(alloc: Global, reader: &mut Counted<R>) -> Result<Vec<u8>, Fault>
     requires uncalled { IsUncalled reader.old }
     ensures whole { IfOk result (λ bytes.

@@ -34,7 +34,7 @@ one_behind : (row : Row) (entry : Entry) → row_behind entry row ≡ row_with r
 one_behind row (Allot kiosk number from to car party) = sym (open_part-allot row kiosk number from to car party)
 one_behind row (Stop car number floor dir) = stop_behind row car number floor dir
 
--- a row's part after an entry and others is that of the rows behind the entry
+-- a row's part after an entry and others is that of the rows after the entry
 part_then : (row : Row) (entry : Entry) (later : List Entry) → open_part (record { row = row; later = entry ∷ later }) ≡ flat_map open_part (calls_before (row_behind entry row) later)
 part_then row entry later =
     let call : Call = record { row = row; later = entry ∷ [] } in

@@ -2,3 +2,4 @@ pub mod Follows
 pub mod ReadLemmas
 pub mod SameLemmas
 pub mod BuildingLaws
+pub mod Opening

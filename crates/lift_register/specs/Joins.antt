@@ -16,7 +16,7 @@ abbrev pub NothingChangesNothing : Type 0
 NothingChangesNothing = (register : RegisterState) → IsWellFormed register
     → register_of register [] ≡ register
 
--- two lists fit one after the other exactly where the first fits, and the later one behind it
+-- two lists fit one after the other exactly where the first fits, and the later one after it
 abbrev pub FittingJoins : Type 0
 FittingJoins = (plan : Plan) (register : RegisterState) (first later : List Entry)
     → IsWellFormed register

@@ -13,7 +13,8 @@ use crate::rows::{push_row, same_lasts, same_rows, serve_car};
 use crate::rules::{is_possible_call, is_possible_stop, last_fits, note_ranges, persons};
 use arrayvec::ArrayVec;
 use lift_base::{
-    Content, Entry, Last, Letter, MOST_DONE, Party, Record, Row, Shape, Stop, Terminal,
+    Content, Entry, Last, Letter, MOST_CARS, MOST_DONE, MOST_ROWS, MOST_TERMINALS, Party, Record,
+    Row, Shape, Stop, Terminal,
 };
 use lift_building::Building;
 use std::marker::Model;
@@ -21,8 +22,8 @@ use std::marker::Model;
 /// The open calls of each car, each terminal's last accepted command, and the count of done calls.
 #[derive(Drop)]
 pub struct Register {
-    rows: [ArrayVec<Row, 32>; 16],
-    lasts: [Option<Last>; 63],
+    rows: [ArrayVec<Row, MOST_ROWS>; MOST_CARS],
+    lasts: [Option<Last>; MOST_TERMINALS],
     done: u32,
 }
 
@@ -67,7 +68,7 @@ impl Register {
     {
         Register {
             rows: Default::default(),
-            lasts: [None; 63],
+            lasts: [None; MOST_TERMINALS],
             done: 0,
         }
     }

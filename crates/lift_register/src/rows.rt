@@ -1,44 +1,46 @@
 //! The open calls of each car.
 ghost use Rattle.std.specs.Prelude.{◌≡◌, ◌↔◌, IsTrue, ◌+◌, ◌<◌, ◌≤◌, [], ◌∷◌, ◌++◌, length};
-ghost use Rattle.std.specs.Prelude.{slice_index_or, slice_set, take};
+ghost use Rattle.std.specs.Prelude.{slice_index_or, slice_set};
 ghost use Rattle.std.specs.List.{flat_map};
 ghost use Rattle.lift_base.specs.History.{row_after};
 ghost use Rattle.lift_register.specs.Rows.{row_lists};
 
 use arrayvec::ArrayVec;
-use lift_base::{Last, Letter, Row, Stop, count_unchanged};
+use lift_base::{Last, Letter, MOST_CARS, MOST_ROWS, MOST_TERMINALS, Row, Stop, count_unchanged};
 
-/// Takes a stop of a car into the car's rows, moves those that are open still to the front in their
-/// order, and answers how many these are.
-fn keep_open(rows: &mut [Row], stop: &Stop) -> usize
-    ensures rows { take result rows.new ≡ flat_map (row_after stop.now) rows.old }
-    ensures kept { result ≤ length rows.old }
+/// Takes a stop of a car into the car's rows. Those that it doesn't change aren't written.
+fn keep_open(rows: &mut ArrayVec<Row, 32>, stop: &Stop)
+    ensures rows { rows.new.items ≡ flat_map (row_after stop.now) rows.old.items }
+    ensures fewer { length rows.new.items ≤ length rows.old.items }
 {
-    let first = count_unchanged(rows, stop);
-    let mut kept = first;
-    for index in first..rows.len() {
-        if let Some(row) = rows[index].after(*stop) {
-            rows[kept] = row;
-            kept += 1;
+    let mut index = count_unchanged(rows, stop);
+    while index < rows.len() {
+        match rows[index].after(*stop) {
+            Some(row) => {
+                rows[index] = row;
+                index += 1;
+            }
+            None => {
+                rows.remove(index);
+            }
         }
+        index += count_unchanged(&rows[index..], stop);
     }
-    kept
 }
 
 /// Takes a stop of a car into the car's rows, and answers how many calls it ends.
-fn serve(rows: &mut ArrayVec<Row, 32>, stop: Stop) -> u32
+fn serve(rows: &mut ArrayVec<Row, MOST_ROWS>, stop: Stop) -> u32
     ensures rows { rows.new.items ≡ flat_map (row_after stop) rows.old.items }
     ensures ended { result + length rows.new.items ≡ length rows.old.items }
     ensures limit { length rows.old.items ≤ 32 }
 {
     let count = rows.len();
-    let kept = keep_open(rows.as_mut_slice(), &stop);
-    rows.truncate(kept);
-    (count - kept) as u32
+    keep_open(rows, &stop);
+    (count - rows.len()) as u32
 }
 
 /// Adds an open call to the rows of its car.
-pub fn push_row(rows: &mut [ArrayVec<Row, 32>; 16], row: Row)
+pub fn push_row(rows: &mut [ArrayVec<Row, MOST_ROWS>; MOST_CARS], row: Row)
     requires { length (slice_index_or (row_lists rows.old) row.car []) < 32 }
     ensures car { row.car < 16 }
     ensures rows { row_lists rows.new
@@ -50,7 +52,7 @@ pub fn push_row(rows: &mut [ArrayVec<Row, 32>; 16], row: Row)
 }
 
 /// Takes a stop of a car, and answers how many calls it ends.
-pub fn serve_car(rows: &mut [ArrayVec<Row, 32>; 16], car: Letter, stop: Stop) -> u32
+pub fn serve_car(rows: &mut [ArrayVec<Row, MOST_ROWS>; MOST_CARS], car: Letter, stop: Stop) -> u32
     ensures rows { row_lists rows.new
         ≡ slice_set (row_lists rows.old) car
         (flat_map (row_after stop) (slice_index_or (row_lists rows.old) car [])) }
@@ -65,14 +67,20 @@ pub fn serve_car(rows: &mut [ArrayVec<Row, 32>; 16], car: Letter, stop: Stop) ->
 }
 
 /// Whether both have the same open calls in each car.
-pub fn same_rows(rows: &[ArrayVec<Row, 32>; 16], others: &[ArrayVec<Row, 32>; 16]) -> bool
+pub fn same_rows(
+    rows: &[ArrayVec<Row, MOST_ROWS>; MOST_CARS],
+    others: &[ArrayVec<Row, MOST_ROWS>; MOST_CARS],
+) -> bool
     ensures { IsTrue result ↔ (row_lists rows.now ≡ row_lists others.now) }
 {
     rows == others
 }
 
 /// Whether both have the same last commands.
-pub fn same_lasts(lasts: &[Option<Last>; 63], others: &[Option<Last>; 63]) -> bool
+pub fn same_lasts(
+    lasts: &[Option<Last>; MOST_TERMINALS],
+    others: &[Option<Last>; MOST_TERMINALS],
+) -> bool
     ensures { IsTrue result ↔ (lasts.now ≡ others.now) }
 {
     lasts == others

@@ -105,14 +105,14 @@ impl<'d, 'b, P: Policy + Drop> Allocator<'d, 'b, P> {
         ensures decides { DecidesAlong self.now.plan (P.chooses self.now.policy) self.now.start
             (self.now.end.sent ++ self.now.hand) self.now.state }
         ensures sealed { self.now.state.batch ≡ [] }
-        // With no batch in hand decisions read what is behind all that was sent.
+        // With no batch in hand decisions read what is after all that was sent.
         ensures behind { self.now.hand ≡ [] → self.now.state ≡ self.now.end.state }
     {
         self.scanner.register()
     }
 
-    /// Tells it what a terminal has asked so far: behind its next turn the last of it, or a later ask,
-    /// is taken. By the desk's rule what its seats took there was asked. It stores nothing.
+    /// Tells it what a terminal has asked so far: after its next turn the last of it, or a later
+    /// ask, is taken. By the desk's rule what its seats took there was asked. It stores nothing.
     pub fn tell_terminal(&mut self, seat: &mut Seat)
         requires { IsSeatOf self.old.desk seat.old }
         ensures seat { seat.new ≡ seat.old }

@@ -3,6 +3,7 @@
 ghost use Rattle.std.specs.Prelude.{◌≡◌, []};
 ghost use Rattle.lift_decider.specs.Decider.{state_of};
 
+use lift_base::MOST_CARS;
 use lift_decider::Decider;
 use lift_register::Register;
 use lift_stops::Schedule;
@@ -14,7 +15,7 @@ use std::snapshot::Snapshot;
 #[derive(Drop)]
 pub struct Basis {
     register: Snapshot<Register>,
-    schedules: Snapshot<[Option<Schedule>; 16]>,
+    schedules: Snapshot<[Option<Schedule>; MOST_CARS]>,
 }
 
 impl Model for Basis {
@@ -29,7 +30,7 @@ impl Model for Basis {
 
 impl Basis {
     /// These calls, and cars with these schedules.
-    pub(crate) fn of(register: &Register, schedules: &[Option<Schedule>; 16]) -> Self
+    pub(crate) fn of(register: &Register, schedules: &[Option<Schedule>; MOST_CARS]) -> Self
         ensures { result ≡ state_of register.now schedules.now [] }
     {
         Basis {

@@ -6,7 +6,7 @@ ghost use Rattle.lift_parts.specs.Batch.{AreBelow, AreNoted, IsDecided, commands
 
 use crate::basis::Basis;
 use arrayvec::ArrayVec;
-use lift_base::Entry;
+use lift_base::{Entry, MOST_ENTRIES};
 use lift_building::Building;
 use lift_desk::{Desk, TakeSeat};
 use lift_parts::Taken;
@@ -14,12 +14,12 @@ use std::marker::Model;
 use std::snapshot::Snapshot;
 
 /// What one scan took and decided. Contracts also see in which building it was decided, what
-/// decisions read before it and behind it, at which desk it was taken, and the turn of the last ask
+/// decisions read before it and after it, at which desk it was taken, and the turn of the last ask
 /// that was taken before, of each terminal.
 #[derive(Drop)]
 pub struct Batch {
-    commands: ArrayVec<Taken, 63>,
-    entries: ArrayVec<Entry, 63>,
+    commands: ArrayVec<Taken, MOST_ENTRIES>,
+    entries: ArrayVec<Entry, MOST_ENTRIES>,
     building: Snapshot<Building>,
     before: Basis,
     after: Basis,
@@ -45,8 +45,8 @@ impl Batch {
     /// A batch that was decided in this building from one state to another, of commands that these
     /// seats of this desk took next.
     pub(crate) fn new(
-        commands: ArrayVec<Taken, 63>,
-        entries: ArrayVec<Entry, 63>,
+        commands: ArrayVec<Taken, MOST_ENTRIES>,
+        entries: ArrayVec<Entry, MOST_ENTRIES>,
         building: &Building,
         before: Basis,
         after: Basis,
@@ -77,7 +77,7 @@ impl Batch {
 
     /// What was accepted of it, in its order. It fits where it was decided, and the replies are
     /// those of the same run.
-    pub fn entries(&self) -> &ArrayVec<Entry, 63>
+    pub fn entries(&self) -> &ArrayVec<Entry, MOST_ENTRIES>
         ensures value { result.now.items ≡ self.now.entries }
         ensures fits { FitFrom self.now.building self.now.before.register self.now.entries }
         ensures decided { IsDecided self.now }
@@ -87,7 +87,7 @@ impl Batch {
         &self.entries
     }
     /// What was taken, by rising terminal, at most one command of each.
-    pub fn into_commands(self) -> ArrayVec<Taken, 63>
+    pub fn into_commands(self) -> ArrayVec<Taken, MOST_ENTRIES>
         ensures value { result.items ≡ self.commands }
         ensures at_desk { AreBelow (length self.desk) (commands_in self.commands) }
         ensures noted { AreNoted self.desk self.turns self.commands }

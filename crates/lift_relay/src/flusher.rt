@@ -196,7 +196,7 @@ impl<'d, 'b, D: Disk, K> Flusher<'d, 'b, D, K> {
         ensures finds { length self.old.end.received < length self.old.end.known
             → (batch : BatchState) × IsBatchTurn self.old self.new batch result }
         // Whatever has happened, its group's history goes on: what was received is safe, and its
-        // commands have their replies, or are answered Unknown behind a fault. Each image that a
+        // commands have their replies, or are answered Unknown after a fault. Each image that a
         // crash at any moment of the turn may leave shows all that was given before.
         ensures history { (base : RegisterState) (safe : List Entry) (given : List Held)
             → History base (group_behind self.old) safe given

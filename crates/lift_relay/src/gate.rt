@@ -1,7 +1,7 @@
 //! What says whether a run goes on, and an allocator that turns only where it said so.
 //!
 //! Each stage is a type of its own, with what may be done there and no more: so a thread that has one
-//! can't have a turn behind the gate's no before all that was sent was received, also where it never
+//! can't have a turn after the gate's no before all that was sent was received, also where it never
 //! returns.
 
 ghost use Rattle.std.specs.Prelude.{◌≡◌, [], length, true, false, IfOk, IfErr};
@@ -19,7 +19,7 @@ use std::sync::Wait;
 use std::thread;
 
 /// Says whether both parts go on, and is told how far they are, so that their threads may wait here
-/// in place of turning for nothing. What a run sends and receives behind the last turn of both is
+/// in place of turning for nothing. What a run sends and receives after the last turn of both is
 /// not told.
 pub trait Gate {
     // What it tells where it goes on.
@@ -39,8 +39,8 @@ pub trait Gate {
         thread::yield_now();
     }
 
-    /// The allocator has sent so many batches, the last ones in its last turn. The next turn looks
-    /// at what was asked before this returns.
+    /// The allocator has sent this many batches, the last ones in its last turn. The next turn
+    /// looks at what was asked before this returns.
     fn has_sent<R: Wait>(&self, _rt: &R, _count: u64) {}
 
     /// The flusher's turn received nothing.
@@ -48,7 +48,7 @@ pub trait Gate {
         thread::yield_now();
     }
 
-    /// The flusher has received so many batches, the last one in its last turn, and all of their
+    /// The flusher has received this many batches, the last one in its last turn, and all of their
     /// commands are answered.
     fn has_flushed<R: Wait>(&self, _rt: &R, _count: u64) {}
 }

@@ -141,7 +141,7 @@ impl<'d, 'b, D: Disk, P: Policy + Drop, K> HeldClerk<'d, 'b, D, P, K> {
         self.clerk.keeper()
     }
 
-    /// It behind one turn more, and what that answers. Whatever had been answered before, each image
+    /// It after one turn more, and what that answers. Whatever had been answered before, each image
     /// that a crash at any moment of the turn may leave keeps, and what the turn answers is kept
     /// from then on. Where the device fails first in it, the witness hears of that.
     pub fn turn<V: Witness>(self, witness: &mut V) -> (Self, Result<Counts, KeeperFault>)
@@ -149,8 +149,7 @@ impl<'d, 'b, D: Disk, P: Policy + Drop, K> HeldClerk<'d, 'b, D, P, K> {
         K: HeardBy<V>,
         ensures turn { TurnsOnce
             D.state (P.chooses self.entry.policy) self.entry result.0 result.1 }
-        ensures advances { TurnAdvances
-            D.state (P.chooses self.entry.policy) self.entry result.0 result.1 }
+        ensures advances { TurnAdvances D.state self.entry result.0 result.1 }
         ensures heard { FailureHeard V.hears self.entry.keeper.writer.is_broken
             result.0.keeper.writer.is_broken witness.old witness.new }
     {
@@ -180,7 +179,7 @@ impl<'d, 'b, D: Disk, P: Policy + Drop, K> HeldClerk<'d, 'b, D, P, K> {
     }
 }
 
-/// A clerk's work in two parts, for whatever key. Where memory was wanting the clerk comes back.
+/// A clerk's work in two parts, for whatever key. Where memory ran out the clerk comes back.
 pub(crate) fn part<'d, 'b, D: Disk, P: Policy + Drop, K>(
     alloc: Global,
     clerk: Clerk<'d, 'b, D, P>,

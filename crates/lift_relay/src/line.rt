@@ -31,10 +31,10 @@ pub struct EndView {
     pub known: LinkedList<Batch>,
     pub building: Building,
     pub desk: Desk,
-    /// What decisions read behind all that was sent, and behind all that was received.
+    /// What decisions read after all that was sent, and after all that was received.
     pub ahead: Basis,
     pub behind: Basis,
-    /// The turns of the terminals behind all that was sent, and behind all that was received.
+    /// The turns of the terminals after all that was sent, and after all that was received.
     pub turns_ahead: LinkedList<u64>,
     pub turns_behind: LinkedList<u64>,
 }

@@ -13,7 +13,6 @@ ghost use Rattle.lift_parts.specs.Turns.{first_of};
 ghost use Rattle.lift_relay.specs.Pair.{ComesFrom};
 ghost use Rattle.lift_relay.specs.Pair.{HaveTurned, IfDone, IfRan, IsRun, HaveRun};
 ghost use Rattle.lift_relay.specs.Heard.{FailureHeard};
-ghost use Rattle.lift_parts.specs.Turns.{IsSameAllocator, IsSameFlusher};
 ghost use Rattle.lift_clerk.specs.History.{History};
 ghost use Rattle.lift_parts.specs.History.{GoesOnTo, group_behind};
 
@@ -42,7 +41,7 @@ pub enum RunFault {
     Spawn(NoThread),
 }
 
-/// Tells the gate what a turn of the allocator did, before which so many batches had been sent.
+/// Tells the gate what a turn of the allocator did, before which this many batches had been sent.
 fn tell_of_allocator<R: Wait, G: Gate, P: Policy + Drop>(
     rt: &R,
     allocator: &Allocator<'_, '_, P>,
@@ -81,7 +80,7 @@ fn allocate<'d, 'b, R: Wait, G: Gate, P: Policy + Drop>(
     unreachable!()
 }
 
-/// Tells the gate what a turn of the flusher did, before which so many batches had been received.
+/// Tells the gate what a turn of the flusher did, before which this many batches had been received.
 fn tell_of_flusher<R: Wait, G: Gate, D: Disk, K>(
     rt: &R,
     flusher: &Flusher<'_, '_, D, K>,
@@ -320,7 +319,7 @@ where
 }
 
 /// Runs both parts of one `split` while the gate goes on: the allocator's turns on a thread of its
-/// own, the flusher's on this one. Each tells the gate behind its turns how far it is, and waits
+/// own, the flusher's on this one. Each tells the gate after its turns how far it is, and waits
 /// there. Once both have stopped, what is in hand is sent, and all that was sent is received and
 /// made safe.
 ///
@@ -358,8 +357,6 @@ where
     ensures closed { result.1 ≢ Some (RunFault.Spawn tt) → G.closed gate.now }
     ensures broken { (fault : KeeperFault) → result.1 ≡ Some (RunFault.Keeper fault)
         → flusher.new.writer.is_broken ≡ true }
-    ensures same_allocator { IsSameAllocator allocator.old allocator.new }
-    ensures same_flusher { IsSameFlusher flusher.old flusher.new }
     ensures of_one { AreOfOne allocator.new flusher.new }
     // What was received, and then what the line holds, is what was sent; after a run it holds
     // nothing.

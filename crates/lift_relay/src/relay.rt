@@ -34,7 +34,7 @@ pub struct Key {
 impl<V: Witness> HeardBy<V> for Key {}
 
 /// A clerk's work in two parts, with a line of four batches between them. A broken clerk may be
-/// split; its batch in doubt stays so. Where memory was wanting the clerk comes back as it was.
+/// split; its batch in doubt stays so. Where memory ran out the clerk comes back as it was.
 pub fn split<'d, 'b, D: Disk, P: Policy + Drop>(
     alloc: Global,
     clerk: Clerk<'d, 'b, D, P>,
@@ -52,7 +52,7 @@ pub fn split<'d, 'b, D: Disk, P: Policy + Drop>(
 }
 
 /// Tells each of two parts that come of one `split` how much was sent and how much was received.
-/// Behind it the allocator's next turn sends where fewer than four batches wait, and the flusher's
+/// After it the allocator's next turn sends where fewer than four batches wait, and the flusher's
 /// receives where one does. It changes nothing else.
 pub fn tell<'d, 'b, D: Disk, P: Policy + Drop, K>(
     allocator: &mut Allocator<'d, 'b, P>,

@@ -13,7 +13,7 @@ ghost use Rattle.lift_parts.specs.Batch.{turns_after};
 ghost use Rattle.lift_parts.specs.Scan.{ScansAhead, turns_in};
 
 use arrayvec::ArrayVec;
-use lift_base::Terminal;
+use lift_base::{MOST_ENTRIES, Terminal};
 use lift_decider::Decider;
 use lift_desk::{Ask, Desk, Note, TakeSeat};
 use lift_parts::Taken;
@@ -70,7 +70,7 @@ fn decide<P: Policy>(
 }
 
 /// Adds a command to a list of 63 at most, if there is one.
-fn keep(list: &mut ArrayVec<Taken, 63>, item: Option<Taken>)
+fn keep(list: &mut ArrayVec<Taken, MOST_ENTRIES>, item: Option<Taken>)
     requires { length list.old.items < 63 }
     ensures { list.new.items ≡ list.old.items ++ option_to_list item }
 {
@@ -87,7 +87,7 @@ pub fn scan<P: Policy>(
     seat: &mut TakeSeat,
     decider: &mut Decider<'_>,
     policy: &P,
-) -> ArrayVec<Taken, 63>
+) -> ArrayVec<Taken, MOST_ENTRIES>
     requires seated { IsClerkOf desk.now seat.old }
     requires settled { decider.old.state.batch ≡ [] }
     ensures scans { ScansAhead (P.chooses policy.now) decider.old.plan seat.old seat.new
@@ -108,7 +108,7 @@ pub fn scan<P: Policy>(
 {
     decisions_keep(policy);
     let _shown = decider.register();
-    let mut taken: ArrayVec<Taken, 63> = ArrayVec::new();
+    let mut taken: ArrayVec<Taken, MOST_ENTRIES> = ArrayVec::new();
     for t in 0..desk.len() {
         let terminal = Terminal::new(t as u8).unwrap();
         let ask = desk.take(seat, terminal);

@@ -30,8 +30,8 @@ use std::mem;
 
 /// Makes batches safe and answers them. No call of it waits: so what it ensures holds, and no answer
 /// stands before its batch is safe, whatever a thread does that has it. The seats and the writer are
-/// reached by its calls alone, and behind them by those of the clerk that it is joined to, which only
-/// who has a `K` gets back.
+/// reached by its calls alone, and after them by those of the clerk that it is joined to, which
+/// only who has a `K` gets back.
 #[derive(Drop)]
 pub struct Settler<'d, 'b, D: Disk, K> {
     desk: &'d Desk,

@@ -15,7 +15,7 @@ use lift_replay::{ScriptLine, Terminals, Verdict, parse};
 use std::alloc::Global;
 use std::sync::Wait;
 
-/// What comes behind a line.
+/// What comes after a line.
 #[derive(Drop)]
 pub(crate) enum Next<'d, 'b> {
     /// Further lines, of this group.
@@ -32,18 +32,6 @@ pub(crate) struct Station<'d, 'b> {
     building: &'b Building,
     terminals: Terminals<'d>,
     ghost count: { length terminals.seats.items ≡ 16 + length building.now.kiosks },
-}
-
-/// Whether the building has the car or the kiosk that a line names, if it names one.
-fn is_known(building: &Building, line: &ScriptLine) -> bool {
-    match *line {
-        ScriptLine::Place { car, .. } => car.get() < building.cars(),
-        ScriptLine::Stop { car, .. } => car.get() < building.cars(),
-        ScriptLine::Stops { car } => car.get() < building.cars(),
-        ScriptLine::Call { kiosk, .. } => kiosk < building.kiosks(),
-        ScriptLine::Cost { kiosk, .. } => kiosk < building.kiosks(),
-        _ => true,
-    }
 }
 
 /// Carries out a line that shows, arms or cuts: it works on the whole clerk.
@@ -167,7 +155,7 @@ impl<'d, 'b> Station<'d, 'b> {
             return Ok(Next::Lines(group));
         }
         match parse(text) {
-            Some(line) if is_known(self.building, &line) => {
+            Some(line) if line.is_known(self.building) => {
                 self.carry_out(rt, alloc, report, group, &line)
             }
             _ => {

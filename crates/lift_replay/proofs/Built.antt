@@ -67,7 +67,7 @@ module _ (plan : Plan) where
     | inr none ↦ inr (λ i j k within_i within_j within_k. direct i j k (λ longer. none i within_i (j, within_j, (k, within_k, longer))))
   ]
 
--- a text has a first fault, which is no want of memory, or says a building
+-- a text has a first fault, which is not that memory ran out, or says a building
 pub faulty_or_says : (text : List ℕ) → ((fault : BuildingFault) × (fault ≢ Memory tt) × IsFirstFault text fault) ⊎ ((plan : Plan) × IsTextOf text plan × IsBuilding plan)
 faulty_or_says text = by_read (plan_of text) refl
   where

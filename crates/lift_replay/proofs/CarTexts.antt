@@ -15,7 +15,7 @@ no_more_cars : (i : ℕ) → 16 ≤ i → take i cars ≡ cars
 unfolding cars
 no_more_cars i past = take_all i cars (omega (arith, length-range_with_len 0 16, past))
 
--- behind the lines of the cars before it stand those of this car
+-- after the lines of the cars before it stand those of this car
 pub lines_more : (f : ℕ → List ℕ) (head : List ℕ) (i : ℕ) → i < 16 → (head ++ flat_map f (take i cars)) ++ f i ≡ head ++ flat_map f (take (i + 1) cars)
 lines_more f head i below = flat_map_more f head (take i cars) i ∙ ap (λ list. head ++ flat_map f list) (sym (next_car i below))
 

@@ -67,7 +67,7 @@ torn_told old new n piece mid after told is appends none = record {
   front = (drop n mid, ap (λ l. (take n mid ++ l) ++ drop n mid) none ∙ ap (λ l. l ++ drop n mid) (append-nil (take n mid)) ∙ take-append-drop n mid ∙ is);
 }
 
--- a front of what goes on behind what was reported
+-- a front of what goes on after what was reported
 pub more_part : (old mid new : Option (List ℕ)) (piece next after added more : List ℕ) → Reports old mid piece next added → ReportsPart mid new next after more → ReportsPart old new piece after (added ++ more)
 more_part old mid new piece next after added more first second = record {
   written = first.written ++ second.written;
@@ -162,7 +162,7 @@ longer_part old new piece after all more part = record {
   );
 }
 
--- a power cut ended the lines at a desk, and what stands behind it failed
+-- a power cut ended the lines at a desk, and what stands after it failed
 pub cut_part : (plan : Plan) (count later : ℕ) (g : ScriptGroup) (script rest : List (List ℕ)) (outcome : Outcome) (clerk : ScriptClerk) (seats : List TerminalSeat) (end : End) (old mid new : Option (List ℕ)) (piece next after : List ℕ)
     → end ≡ Power outcome → (added : List ℕ) × LinesEnd plan count g script added later rest clerk seats end × Reports old mid piece next added
     → ((h : ScriptGroup) → Shows plan h clerk seats → ReportsPart mid new next after (cut_text (open_count (left_by outcome h).register)))

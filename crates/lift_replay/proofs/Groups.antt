@@ -72,7 +72,7 @@ heard_length : (terminals : List Asking) → length (having_heard terminals) ≡
 heard_length [] = refl
 heard_length (a ∷ terminals) = ap suc (heard_length terminals)
 
--- what a turn takes and what is heard behind it
+-- what a turn takes and what is heard after it
 pub record TakesAll (terminals : List Asking) (visits : List Visit) (replies : List Reply) (after : List TerminalSeat) (known : List ClerkPlace) (heard : List ℕ) : Type 0 where
   pub commands : commands_at 0 visits ≡ waiting_from 0 terminals
   pub text : heard ≡ heard_replies_text (waiting_from 0 terminals) replies
@@ -182,7 +182,7 @@ passes_all (Some left) need old new inert fused calls none = elim (leb_tells nee
       none.told inert (old.calls + left + 1) call (omega (arith, calls, past)) ((fused.told (old.calls + left + 1) call).1 (omega arith)))
 ]
 
--- the fuse behind it
+-- the fuse after it
 pub fused_on : (passing : Option ℕ) (need : ℕ) (old new : DiskState) → passes passing need ≡ true → IsFused passing old → new.calls ≡ old.calls + need → NoneFails old new
     → ((call : ℕ) → new.calls < call → new.fails_at call ↔ old.fails_at call) → IsFused (passing_after passing need) new
 fused_on None need old new ok fused calls none keeps = record {

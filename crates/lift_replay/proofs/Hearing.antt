@@ -104,7 +104,7 @@ hears_none seats i k seat new word at inside is waits looked nothing finds =
     let heard : HasHeard seat new [] = record { word = word; reply = None; waited = waits; looked = looked; hears = nothing; shown = refl; finds = finds } in
     rw (same_seat seats i k seat at inside is) (rw (other_seat seats i k new at inside) (inr heard))
 
--- a terminal at its turn: those before it have heard, and those behind it are as they were
+-- a terminal at its turn: those before it have heard, and those after it are as they were
 pub next_heard : (olds mids news : List TerminalSeat) (n : ℕ) (lines line : List ℕ) → n < length olds → length mids ≡ length olds
     → news ≡ set mids n (seat_at news n) → AllHear (take n olds) (take n mids) lines → seat_at mids n ≡ seat_at olds n
     → Hears (seat_at mids n) (seat_at news n) line → AllHear (take (n + 1) olds) (take (n + 1) news) (lines ++ line)

@@ -1,4 +1,4 @@
--- Clerk and terminals stay in step: an ask, and a turn behind which all that was answered is heard.
+-- Clerk and terminals stay in step: an ask, and a turn after which all that was answered is heard.
 use Rattle.std.proofs.Common.{◌≡◌, ℕ, zero, suc, ◌+◌, ◌<◌, ◌≤◌, false, cond, List, [], ◌∷◌, ◌++◌, length, All, Option, Some, None, IfSome, refl, sym, ap, ◌∙◌, subst, inl, inr, arith, length-append}
 use Rattle.std.proofs.lemmas.List.Elements.{All-head, All-tail}
 use mathlib.Core.List.{IsPrefix}
@@ -156,7 +156,7 @@ no_more : (commands : List Command) (replies : List Reply) → length replies �
 no_more [] replies same none = refl
 no_more (c ∷ commands) replies same none = absurd (omega (arith, ap length none))
 
--- one terminal, and those behind it
+-- one terminal, and those after it
 hear_one : (k : ℕ) (a : Asking) (askings : List Asking) (w : Option Ask) (place : ClerkPlace) (v : Visit) (replies : List Reply) (seat : TerminalView) (old new : TerminalSeat) (news : List TerminalSeat) (line others : List ℕ) (known : ℕ → ClerkView)
     → a.waiting ≡ w → v.found ≡ w → IsInStep a seat place.view → FindsAt place v → All IsReply replies → length replies ≡ length (command_at k w ++ waiting_from (suc k) askings)
     → old.view ≡ with_told_answers seat (with_reply (with_taking place.view v.word) w replies).answered

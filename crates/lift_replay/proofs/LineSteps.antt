@@ -231,7 +231,7 @@ module _ (computed : StepsAreDecisions IsEtdChoice etd_pick) (plan : Plan) (g : 
     (shows : Shows plan g old seats) (count : length seats ≡ 16 + length plan.kiosks) (long : (device_of new).is_short ≡ false)
     (so_far later : ℕ) (first : ScriptGroup) (script rest behind : List (List ℕ)) (line before told : List ℕ) (number : ℕ)
     (at : rest ≡ line ∷ behind) (next_number : number ≡ later + 1) (leads : Continues plan so_far first script before later g rest) where
-  -- what the rest tells, as the line and what is behind it
+  -- what the rest tells, as the line and what is after it
   onward : (next : ScriptGroup) (text : List ℕ) → ((more : List ℕ) (verdict : Verdict) → TellsLines plan (suc later) next behind more verdict → TellsLines plan later g (line ∷ behind) (text ++ more) verdict)
       → Continues plan so_far first script (before ++ text) number next behind
   onward next text step more verdict tells =
@@ -247,7 +247,7 @@ module _ (computed : StepsAreDecisions IsEtdChoice etd_pick) (plan : Plan) (g : 
       → Continues plan so_far first script (before ++ text) number (after_line plan g wanted) behind
   carries wanted text spells known other is = onward (after_line plan g wanted) text (λ more verdict tells. inr (inl (wanted, more, other, spells, known, tells, ap (λ t. t ++ more) is)))
 
-  -- a line behind which the next is carried out
+  -- a line after which the next is carried out
   abbrev pub GoesOn : Type 0
   GoesOn = (next : ScriptGroup) × Shows plan next new after × Continues plan so_far first script (before ++ told) number next behind
 

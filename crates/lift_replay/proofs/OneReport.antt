@@ -18,7 +18,7 @@ use Rattle.lift_replay.specs.Script.{SaysBuilding, RefusesBuilding}
 use Rattle.lift_replay.specs.Source.{IsScript, LacksDivider, divider, ended}
 use Rattle.lift_replay.proofs.Once.{lines_one}
 
--- the lines above the first divider, and those behind it
+-- the lines above the first divider, and those after it
 parted : (above others script lines : List (List ℕ)) → All (λ line. line ≢ divider) above → All (λ line. line ≢ divider) others → above ++ divider ∷ script ≡ others ++ divider ∷ lines
     → (above ≡ others) × (script ≡ lines)
 parted [] [] script lines a b e = (refl, cons_tail e)

@@ -68,7 +68,7 @@ pub run_told : (plan : Plan) (count later : ℕ) (g : ScriptGroup) (script rest 
     → (added : List ℕ) × TellsLines plan count g script added verdict × Reports old new piece after added
 run_told plan count later g script rest verdict clerk seats end old new piece after is (added, ends, reports) = (added, subst (LinesEnd plan count g script added later rest clerk seats) is ends, reports)
 
--- a segment behind those before it
+-- a segment after those before it
 pub segment_more : (plan : Plan) (count later later2 : ℕ) (g next : ScriptGroup) (script rest behind : List (List ℕ)) (before : List ℕ) (end : SegmentEnd) (keeper : KeeperView FusedDisk) (old mid new : Option (List ℕ)) (piece kept after : List ℕ)
     → end ≡ Cut keeper → Continues plan count g script before later next rest → Reports old mid piece kept before
     → (added : List ℕ) × SegmentEnds plan later next rest added later2 behind end × Reports mid new kept after added

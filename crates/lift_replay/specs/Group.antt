@@ -37,7 +37,7 @@ pub record Asking : Type 0 where
   pub turns : ℕ
   pub waiting : Option Ask
 
--- a batch that the device stopped, once its commit had made so many calls
+-- a batch that the device stopped, once its commit had made this many calls
 pub record Stopped : Type 0 where
   pub made : ℕ
   pub batch : List Entry
@@ -119,7 +119,7 @@ having_heard [] = []
 having_heard (asking ∷ terminals) =
     record { turns = asking.turns; waiting = None } ∷ having_heard terminals
 
--- the state behind these commands, each decided on what the earlier ones left, and the replies to
+-- the state after these commands, each decided on what the earlier ones left, and the replies to
 -- them
 abbrev pub state_by : Plan → State → List Command → State
 state_by plan state [] = state
@@ -153,7 +153,7 @@ state_decided plan g = state_by plan (state_to_decide_on g) (waiting_commands g)
 abbrev pub calls_for : ScriptGroup → State → ℕ
 calls_for g state = commit_calls g.register g.used half (length state.batch)
 
--- whether so many calls pass
+-- whether this many calls pass
 abbrev pub passes : Option ℕ → ℕ → Bool
 passes None calls = true
 passes (Some left) calls = nat_le calls left
@@ -218,15 +218,15 @@ abbrev pub turned : Option Stopped → Plan → ScriptGroup → ScriptGroup
 turned None plan g = after_commit (is_made plan g) g (state_decided plan g)
 turned (Some stopped) plan g = record g { terminals = having_heard g.terminals }
 
--- what a recovery finds: a register, in this half, of which so many sectors are used
+-- what a recovery finds: a register, in this half, of which this many sectors are used
 pub record Found : Type 0 where
   pub register : RegisterState
   pub is_second : Bool
   pub used : ℕ
 
--- A mark is written after so many calls, and then made safe. Of a run that is stopped a cut leaves
--- what was there before, or what the mark makes of it; where it fills the mark's sector, that goes
--- by its byte.
+-- A mark is written after this many calls, and then made safe. Of a run that is stopped a cut
+-- leaves what was there before, or what the mark makes of it; where it fills the mark's sector,
+-- that goes by its byte.
 abbrev pub by_mark : Outcome → Bool → (before behind marked others : Found) → Found
 by_mark Keep is_written before behind marked others = if is_written then behind else before
 by_mark Lose is_written before behind marked others = before
@@ -248,7 +248,7 @@ folded g = record {
   used = sectors_for (length (base_records g.register));
 }
 
--- once there is room for so many entries, and with these
+-- once there is room for this many entries, and with these
 abbrev pub with_room : ScriptGroup → ℕ → Found
 with_room g count = record {
   register = g.register;
@@ -271,7 +271,7 @@ in_folding outcome g made =
     (if g.is_second then found_while_whole g else folded g)
     (if g.is_second then folded g else found_while_whole g)
 
--- behind it, so many calls within the append: the mark is the batch's gate
+-- after it, this many calls within the append: the mark is the batch's gate
 abbrev pub in_append : Outcome → ScriptGroup → List Entry → ℕ → Found
 in_append outcome g batch made =
     at_mark outcome (bodies (length batch) + 2) made (with_room g (length batch))

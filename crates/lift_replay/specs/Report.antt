@@ -43,7 +43,7 @@ rows_text calls done = codes "rows " ++ decimal calls ++ 32 ∷ decimal done ++ 
 abbrev pub car_text : RegisterState → ℕ → List ℕ
 car_text register car = flat_map row_text (rows_of register car)
 
--- the open calls of a register by rising car, in each in order of allotment, behind how many are
+-- the open calls of a register by rising car, in each in order of allotment, after how many are
 -- open and how many are done
 abbrev pub register_text : RegisterState → List ℕ
 register_text register =
@@ -115,7 +115,7 @@ building_text fault = codes "BUILDING " ++ decimal (fault_number fault) ++ floor
 abbrev pub AppendsFront : (old new : Option (List ℕ)) → List ℕ → Type 0
 AppendsFront old new text = (written : List ℕ) × IsPrefix written text × Appends old new written
 
--- The report grew by this. A part of it was written, behind what had been kept back, and the rest
+-- The report grew by this. A part of it was written, after what had been kept back, and the rest
 -- is kept back.
 pub record Reports (old new : Option (List ℕ)) (before after added : List ℕ) : Type 0 where
   pub written : List ℕ

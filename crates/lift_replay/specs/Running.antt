@@ -19,7 +19,7 @@ use Rattle.lift_replay.specs.Script.{IsBadLine}
 use Rattle.lift_replay.specs.Shows.{Shows, IsKeeperOf}
 use Rattle.lift_replay.specs.Told.{ScriptClerk}
 
--- These lines, behind `count` others, tell this of a group, and the run of them has this verdict:
+-- These lines, after `count` others, tell this of a group, and the run of them has this verdict:
 -- skipped ones tell nothing, a malformed one ends the run, and each other tells what it asks for
 -- and leaves the group to the next.
 abbrev pub TellsLines : Plan → ℕ → ScriptGroup → List (List ℕ) → List ℕ → Verdict → Type 0
@@ -32,7 +32,7 @@ TellsLines plan count g (line ∷ lines) text verdict =
     × (text ≡ line_text plan g wanted ++ more))
     ⊎ (IsBadLine plan line × (text ≡ bad_text (suc count)) × (verdict ≡ Bad)))
 
--- What the later lines tell of the later group, behind this text, all of them tell of the first
+-- What the later lines tell of the later group, after this text, all of them tell of the first
 -- one.
 abbrev pub Continues : Plan → (count : ℕ) → ScriptGroup → List (List ℕ) → List ℕ → (later : ℕ)
     → ScriptGroup → List (List ℕ) → Type 0

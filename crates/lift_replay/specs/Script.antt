@@ -19,7 +19,7 @@ IsBadLine plan line = (¬ IsSkipped line)
     × (((wanted : ScriptLine) → Spells line wanted → ⊥)
     ⊎ ((wanted : ScriptLine) × Spells line wanted × (¬ IsKnown plan wanted)))
 
--- the building is refused, with its first fault; want of memory is no fault of a script
+-- the building is refused, with its first fault; out of memory is no fault of a script
 abbrev pub RefusesBuilding : (building report : List ℕ) → Type 0
 RefusesBuilding building report = (fault : BuildingFault) × (fault ≢ Memory tt)
     × IsFirstFault building fault × (report ≡ building_text fault)

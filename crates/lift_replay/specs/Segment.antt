@@ -11,7 +11,7 @@ abbrev pub IsPowerCut : End → Type 0
 IsPowerCut (Over verdict) = ⊥
 IsPowerCut (Power outcome) = Unit {0}
 
--- behind a power cut the keeper that goes on is so
+-- after a power cut the keeper that goes on is so
 abbrev pub IfCut : SegmentEnd → (KeeperView FusedDisk → Type 0) → Type 0
 IfCut (Run verdict) P = Unit {0}
 IfCut (Cut keeper) P = P keeper

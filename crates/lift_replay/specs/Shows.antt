@@ -47,7 +47,7 @@ pub record AreInStep (terminals : List Asking) (seats : List TerminalSeat)
 abbrev pub IsFound : Plan → Found → Image → Type 0
 IsFound plan found image = IsImageIn plan half found.is_second found.used found.register image
 
--- of the calls to come just those behind so many fail, and no growth was refused
+-- of the calls to come just those after this many fail, and no growth was refused
 pub record IsFused (passing : Option ℕ) (disk : DiskState) : Type 0 where
   pub told : IsTold (IfArmed AllAfter passing disk.calls) disk
   pub short : disk.is_short ≡ false
@@ -57,7 +57,7 @@ abbrev pub IsCutAs : Plan → ScriptGroup → DiskState → Type 0
 IsCutAs plan g disk = (outcome : Outcome) (image : Image) → IsLeftBy outcome disk image
     → MayLeave disk image → IsFound plan (left_by outcome g) image
 
--- While nothing is stopped the keeper stands there; behind that each cut leaves what the stopped
+-- While nothing is stopped the keeper stands there; after that each cut leaves what the stopped
 -- commit's calls say.
 abbrev pub Stands : Option Stopped → Plan → ScriptGroup → KeeperView FusedDisk → Type 0
 Stands None plan g keeper = (keeper.writer.is_broken ≡ false)

@@ -15,7 +15,7 @@ divider = codes "---"
 abbrev pub ended : List (List ℕ) → List ℕ
 ended lines = flat_map (λ line. line ++ 10 ∷ []) lines
 
--- A text is a script: its lines up to the first divider are the building's, and those behind it are
+-- A text is a script: its lines up to the first divider are the building's, and those after it are
 -- carried out.
 pub record IsScript (text building : List ℕ) (script : List (List ℕ)) : Type 0 where
   pub above : List (List ℕ)

@@ -137,7 +137,7 @@ pub record OutcomeTells (old new : ScriptClerk) (seats after : List TerminalSeat
 abbrev pub shown_text : ScriptClerk → List ℕ → List ℕ → List ℕ
 shown_text clerk line text = unless_broken clerk.keeper.writer.is_broken line text
 
--- The device of the clerk is told to fail every call after so many, and nothing else changes.
+-- The device of the clerk is told to fail every call after this many, and nothing else changes.
 pub record IsArmed (calls : ℕ) (old new : ScriptClerk) : Type 0 where
   pub told : IsTold (AllAfter calls (fuse_state_of old.keeper.writer.device).calls)
       (fuse_state_of new.keeper.writer.device)

@@ -6,12 +6,12 @@ use Rattle.lift_replay.specs.declared.input.InputFault.TheVariants.{Memory as No
 use Rattle.lift_replay.specs.declared.script.ReplayFault.{ReplayFault}
 use Rattle.lift_replay.specs.declared.script.ReplayFault.TheVariants.{Memory, Read, Write}
 
--- a script whose bytes were not read is undone for the same
+-- a script whose bytes were not read fails for the same cause
 abbrev pub of_input : InputFault → ReplayFault
 of_input (NoRoom no_memory) = Memory no_memory
 of_input Unread = Read
 
--- so many calls of a writer, of which each took a byte at least
+-- this many calls of a writer, of which each took a byte at least
 abbrev pub Took : {W : Type 0} → (gives : W → List ℕ → Option ℕ → W → Type 0) → (calls : ℕ)
     → (before after : W) → Type 0
 Took gives zero before after = after ≡ before

@@ -1,14 +1,14 @@
 //! All bytes of a reader, within bounds.
 
-ghost use Rattle.std.specs.Prelude.{◌≡◌, ℕ, List, ◌+◌, ◌≤◌, ◌<◌, ◌^◌, ◌++◌, length, vec_len, IfOk};
-ghost use Rattle.std.specs.Prelude.{OnErr, OnOk, IfSome, ◌⊎◌, true, false};
+ghost use Rattle.std.specs.Prelude.{◌≡◌, ◌⊎◌, List, ◌+◌, ◌≤◌, ◌<◌, ◌^◌, ◌++◌, vec_len, IfOk, OnOk};
+ghost use Rattle.std.specs.Prelude.{ℕ, Some, None, true, false};
 ghost use Rattle.std.specs.Io.KnownBytes.{Consumes, IsAtEnd, Keeps};
-ghost use Rattle.lift_replay.specs.Reading.{IsOfUse, TakesByEach, TakesUpTo};
+ghost use Rattle.lift_replay.specs.Reading.{GivesInput, IsLastCall, LeavesUnread, ReadsUpTo};
+ghost use Rattle.lift_replay.specs.Reading.{ReaderFails};
 
 use crate::refused::{NoMemory, add_bytes};
-use lift_base::text::{Counted, ReadFault};
+use lift_base::text::{Counted, Inlet, ReadFault};
 use std::alloc::Global;
-use std::io::Read;
 
 /// Why the bytes were not read.
 #[derive(Clone, Copy, PartialEq, Eq)]
@@ -19,12 +19,12 @@ pub enum InputFault {
     Memory(NoMemory),
 }
 
-/// A call of the reader is for so many bytes at most.
+/// A call of the reader is for this many bytes at most.
 const CHUNK: usize = 16_384;
 
 /// One call of the reader, which adds what it gives to the bytes, as long as these are no more than
 /// `most` and one. The answer is whether anything came.
-fn read_some<R: Read + Drop>(
+fn read_some<R: Inlet + Drop>(
     input: &mut Counted<R>,
     buffer: &mut [u8; CHUNK],
     bytes: &mut Vec<u8>,
@@ -32,22 +32,22 @@ fn read_some<R: Read + Drop>(
 ) -> Result<bool, InputFault>
     requires room { vec_len bytes.old ≤ most }
     requires limit { most < 2 ^ 63 }
-    ensures calls { input.new.calls ≡ input.old.calls + 1 }
+    ensures one_call { IsLastCall most R.remaining bytes.old.items input.old input.new }
     ensures gave { OnOk result ((more : List ℕ) × (bytes.new.items ≡ bytes.old.items ++ more)
         × Consumes (R.remaining input.old.reader) (R.remaining input.new.reader) more) }
-    ensures taken { (more : List ℕ) × (vec_len bytes.old + length more ≤ most + 1)
-        × Consumes (R.remaining input.old.reader) (R.remaining input.new.reader) more
-        × IsOfUse more input.new }
-    ensures grows { result ≡ Ok true → vec_len bytes.old < vec_len bytes.new }
-    ensures kept { result ≡ Err InputFault.Read
-        → Keeps (R.remaining input.old.reader) (R.remaining input.new.reader) }
-    ensures end { result ≡ Ok false → IsAtEnd (R.remaining input.new.reader) }
-    ensures found_end { result ≡ Ok false → input.new.ended ≡ true }
-    ensures ended { IfOk result (λ came. came ≡ true → input.new.ended ≡ input.old.ended) }
+    ensures some { result ≡ Ok true → (vec_len bytes.old < vec_len bytes.new)
+        × (input.new.ended ≡ input.old.ended) }
+    ensures end { result ≡ Ok false → (input.new.ended ≡ true)
+        × IsAtEnd (R.remaining input.new.reader) }
     ensures ok { OnOk result (input.new.failed ≡ input.old.failed) }
-    ensures failed { result ≡ Err InputFault.Read → input.new.failed ≡ true }
+    ensures failed { result ≡ Err InputFault.Read → (input.new.failed ≡ true)
+        × Keeps (R.remaining input.old.reader) (R.remaining input.new.reader) }
     ensures refused { result ≡ Err (InputFault.Memory tt) → input.new.failed ≡ input.old.failed }
     ensures bound { OnOk result (vec_len bytes.new ≤ most + 1) }
+    ensures one { result ≡ Ok true → (buffer : List ℕ) × (count : ℕ)
+        × R.gives input.old.reader buffer (Some count) input.new.reader × (0 < count) }
+    ensures one_err { result ≡ Err InputFault.Read → (buffer : List ℕ)
+        × R.gives input.old.reader buffer None input.new.reader }
 {
     let room = CHUNK.min(most - bytes.len() + 1);
     let part = &mut buffer[..room];
@@ -63,8 +63,8 @@ fn read_some<R: Read + Drop>(
 }
 
 /// All bytes of a reader that was not called yet. Reading stops once more than `most` have come;
-/// that the end was not found in so many calls is a fault.
-pub fn read_all<R: Read + Drop>(
+/// that the end was not found in this many calls is a fault.
+pub fn read_all<R: Inlet + Drop>(
     alloc: Global,
     input: &mut Counted<R>,
     most: usize,
@@ -74,22 +74,16 @@ pub fn read_all<R: Read + Drop>(
     requires fresh { input.old.calls ≡ 0 }
     requires unhurt { input.old.failed ≡ false }
     requires before_end { input.old.ended ≡ false }
-    ensures whole { IfOk result (λ bytes. vec_len bytes ≤ most
-        → IfSome (R.remaining input.old.reader) (λ all. bytes.items ≡ all)) }
-    ensures front { IfOk result (λ bytes.
-        Consumes (R.remaining input.old.reader) (R.remaining input.new.reader) bytes.items) }
-    ensures bound { IfOk result (λ bytes. vec_len bytes ≤ most + 1) }
-    ensures ended { IfOk result (λ bytes. vec_len bytes ≤ most
-        → (input.new.ended ≡ true) × IsAtEnd (R.remaining input.new.reader)) }
-    ensures taken { TakesUpTo (most + 1) R.remaining input.old.reader input.new.reader }
-    ensures taken_till_fault { result ≡ Err InputFault.Read
-        → TakesUpTo most R.remaining input.old.reader input.new.reader }
-    ensures each_call { TakesByEach most R.remaining input.old input.new }
-    ensures few_calls { input.new.calls ≤ calls }
-    ensures unfailed { OnOk result (input.new.failed ≡ false) }
-    ensures cause { result ≡ Err InputFault.Read
-        → (input.new.failed ≡ true) ⊎ ((input.new.calls ≡ calls) × (input.new.ended ≡ false)) }
+    ensures gives { IfOk result (λ bytes.
+        GivesInput most R.remaining input.old input.new bytes.items) }
+    ensures reads { ReadsUpTo most calls R.remaining input.old input.new }
+    ensures unread { result ≡ Err InputFault.Read
+        → LeavesUnread most calls R.remaining input.old input.new }
     ensures refused { result ≡ Err (InputFault.Memory tt) → input.new.failed ≡ false }
+    // Where a call failed it was the last.
+    ensures fails { result ≡ Err InputFault.Read
+        → ReaderFails R.gives input.old.reader input.new.reader
+        ⊎ ((input.new.calls ≡ calls) × (input.new.ended ≡ false)) }
 {
     let mut buffer = [0u8; CHUNK];
     let mut bytes = Vec::new(alloc);

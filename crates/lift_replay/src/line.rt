@@ -1,4 +1,8 @@
+ghost use Rattle.std.specs.Prelude.{◌↔◌, IsTrue};
+ghost use Rattle.lift_replay.specs.Known.{IsKnown};
+
 use lift_base::{Floor, Letter, Number, Party, Position, Stop};
+use lift_building::Building;
 use lift_disk::Outcome;
 
 /// What a line of a script asks for.
@@ -36,7 +40,7 @@ pub enum ScriptLine {
     },
     /// The open calls.
     Rows,
-    /// After so many device calls, at most 1,000,000, every call fails.
+    /// After this many device calls, at most 1,000,000, every call fails.
     Fuse {
         calls: u32,
     },
@@ -44,4 +48,23 @@ pub enum ScriptLine {
     Cut {
         outcome: Outcome,
     },
+}
+
+impl ScriptLine {
+    /// Whether the building has the car or the kiosk that the line names, if it names one.
+    pub fn is_known(&self, building: &Building) -> bool
+        ensures { IsTrue result ↔ IsKnown building.now self.now }
+    {
+        match *self {
+            ScriptLine::Place { car, .. } => car.get() < building.cars(),
+            ScriptLine::Stop { car, .. } => car.get() < building.cars(),
+            ScriptLine::Stops { car } => car.get() < building.cars(),
+            ScriptLine::Call { kiosk, .. } => kiosk < building.kiosks(),
+            ScriptLine::Cost { kiosk, .. } => kiosk < building.kiosks(),
+            ScriptLine::Turn => true,
+            ScriptLine::Rows => true,
+            ScriptLine::Fuse { .. } => true,
+            ScriptLine::Cut { .. } => true,
+        }
+    }
 }

@@ -1,7 +1,7 @@
 //! What each line of a script does, and what it reports.
 
-ghost use Rattle.std.specs.Prelude.{◌≡◌, ◌<◌, ◌+◌, ◌↔◌, ◌++◌, ℕ, List, length, string_bytes};
-ghost use Rattle.std.specs.Prelude.{IsTrue, OnOk, IfOk, codes};
+ghost use Rattle.std.specs.Prelude.{◌≡◌, ◌<◌, ◌+◌, ◌++◌, ℕ, List, length, string_bytes};
+ghost use Rattle.std.specs.Prelude.{OnOk, IfOk, codes};
 ghost use Rattle.lift_building.specs.Plan.{kiosk_floor_of};
 ghost use Rattle.lift_policy.specs.Step.{view_of};
 ghost use Rattle.lift_replay.specs.Known.{IsKnown};
@@ -98,23 +98,6 @@ fn push_turn_of(report: &mut String, station: &mut Station) -> Result<(), NoMemo
     push_taken(report, &mut station.clerk)?;
     station.terminals.tell_all(&mut station.clerk);
     station.terminals.push_all_heard(report)
-}
-
-/// Whether the building has the car or the kiosk that a line names, if it names one.
-fn is_known(building: &Building, line: &ScriptLine) -> bool
-    ensures { IsTrue result ↔ IsKnown building.now line.now }
-{
-    match *line {
-        ScriptLine::Place { car, .. } => car.get() < building.cars(),
-        ScriptLine::Stop { car, .. } => car.get() < building.cars(),
-        ScriptLine::Stops { car } => car.get() < building.cars(),
-        ScriptLine::Call { kiosk, .. } => kiosk < building.kiosks(),
-        ScriptLine::Cost { kiosk, .. } => kiosk < building.kiosks(),
-        ScriptLine::Turn => true,
-        ScriptLine::Rows => true,
-        ScriptLine::Fuse { .. } => true,
-        ScriptLine::Cut { .. } => true,
-    }
 }
 
 /// The stop list of a car, where it is known to be safe.
@@ -286,7 +269,7 @@ pub fn push_line(
         return Ok(None);
     }
     match parse(text) {
-        Some(line) if is_known(station.building, &line) => carry_out(report, station, &line),
+        Some(line) if line.is_known(station.building) => carry_out(report, station, &line),
         _ => {
             push_bad(report, number)?;
             Ok(Some(End::Run(Verdict::Bad)))

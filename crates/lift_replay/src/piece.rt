@@ -7,7 +7,7 @@ ghost use Rattle.lift_replay.specs.Writing.{FailsAtLast, TakesSomeEachCall};
 
 use lift_base::text::{Outlet, WriteFault, put_all};
 
-/// A piece is written once it has so many bytes.
+/// A piece is written once it has this many bytes.
 const PIECE_BYTES: usize = 32_768;
 
 /// Writes a piece of whole lines, and empties it, also where the writer doesn't take all of it.

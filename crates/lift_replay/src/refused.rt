@@ -1,9 +1,9 @@
 //! What takes memory, and the evidence that none was left.
 
 ghost use Rattle.std.specs.Prelude.{◌≡◌, ◌≤◌, ◌<◌, ◌+◌, ◌++◌, ◌∷◌, [], length, vec_len, string_bytes};
-ghost use Rattle.std.specs.Prelude.{is_ok, if◌then◌else◌, false, replicate, IfOk, OnOk};
+ghost use Rattle.std.specs.Prelude.{is_ok, if◌then◌else◌, IfOk, OnOk};
 ghost use Rattle.lift_desk.specs.Seats.{AreSeatsOf, IsClerkOf, OwesNothing, clerk_of, seats_from};
-ghost use Rattle.lift_disk.specs.Disk.{IsSynced, IsUnarmed};
+ghost use Rattle.lift_disk.specs.Blank.{IsBlankDisk};
 ghost use Rattle.lift_disk.specs.Outcomes.{state_of};
 
 use lift_desk::{Desk, DeskParts};
@@ -79,21 +79,10 @@ pub(crate) fn empty_piece(alloc: Global) -> Result<String, NoMemory>
     }
 }
 
-/// A device in memory of so many sectors of zeros.
+/// A device in memory of this many sectors of zeros.
 pub(crate) fn empty_disk(alloc: Global, sectors: u32) -> Result<MemDisk, NoMemory>
     requires { sectors ≤ 130 }
-    ensures zeros { IfOk result (λ disk.
-        (state_of disk).image ≡ replicate sectors (replicate 512 0)) }
-    ensures synced { IfOk result (λ disk. IsSynced (state_of disk)) }
-    ensures same { IfOk result (λ disk. (state_of disk).synced ≡ (state_of disk).image) }
-    ensures honest { IfOk result (λ disk. (state_of disk).is_honest) }
-    ensures inert { IfOk result (λ disk. (state_of disk).is_inert) }
-    ensures unarmed { IfOk result (λ disk. IsUnarmed (state_of disk)) }
-    ensures short { IfOk result (λ disk. (state_of disk).is_short ≡ false) }
-    ensures failures { IfOk result (λ disk. (state_of disk).failures ≡ 0) }
-    ensures calls { IfOk result (λ disk. (state_of disk).calls ≡ 0) }
-    ensures writes { IfOk result (λ disk. (state_of disk).writes ≡ 0) }
-    ensures trace { IfOk result (λ disk. (state_of disk).trace ≡ []) }
+    ensures blank { IfOk result (λ disk. IsBlankDisk sectors (state_of disk)) }
 {
     match MemDisk::new(alloc, sectors) {
         Ok(disk) => Ok(disk),
@@ -101,7 +90,7 @@ pub(crate) fn empty_disk(alloc: Global, sectors: u32) -> Result<MemDisk, NoMemor
     }
 }
 
-/// A desk of so many terminals, with all its seats.
+/// A desk of this many terminals, with all its seats.
 pub(crate) fn new_desk(alloc: Global, terminals: usize) -> Result<DeskParts, NoMemory>
     requires { (1 ≤ terminals) × (terminals ≤ 63) }
     ensures count { IfOk result (λ parts. (length parts.desk ≡ terminals)

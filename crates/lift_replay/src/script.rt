@@ -3,7 +3,8 @@
 ghost use Rattle.std.specs.Prelude.{◌≡◌, ◌≢◌, ◌⊎◌, ◌+◌, ◌<◌, ◌≤◌, ◌++◌, ℕ, List, [], length};
 ghost use Rattle.std.specs.Prelude.{string_bytes, true, false, OnOk, OnErr, IfOk};
 ghost use Rattle.std.specs.Io.KnownBytes.{Appends};
-ghost use Rattle.lift_replay.specs.Reading.{IsInputRead, TakesByEach, TakesUpTo, most_bytes};
+ghost use Rattle.lift_replay.specs.Reading.{IsInputRead, LeavesUnread, ReadsUpTo, most_bytes};
+ghost use Rattle.lift_replay.specs.Reading.{most_calls};
 ghost use Rattle.lift_replay.specs.Report.{AppendsFront, Reports, building_text};
 ghost use Rattle.lift_replay.specs.Group.{first_group};
 ghost use Rattle.lift_replay.specs.Running.{TellsLines, TellsPart};
@@ -65,7 +66,7 @@ impl From<WriteFault> for ReplayFault {
     }
 }
 
-/// A script has so many bytes at most.
+/// A script has this many bytes at most.
 pub const MOST_BYTES: usize = 1_048_576;
 
 /// The reader is called so often at most.
@@ -210,19 +211,15 @@ pub fn run<R: Read + Drop, W: Outlet>(
     // The writer is told where one of its calls failed, and nowhere else; that call was the last.
     ensures writes { IsCalled W.gives writer.old writer.new result }
     ensures unread { result ≡ Err ReplayFault.Read
-        → (input.new.failed ≡ true) ⊎ ((input.new.calls ≡ 2097152) × (input.new.ended ≡ false)) }
+        → LeavesUnread most_bytes most_calls R.remaining input.old input.new }
     ensures failed { input.new.failed ≡ true → result ≡ Err ReplayFault.Read }
     // A report is written, or refused by the writer, only of a script that was read; a good one was
     // read to its end.
     ensures read { OnOk result (IsInputRead R.remaining input.old input.new) }
     ensures output { result ≡ Err ReplayFault.Write → IsInputRead R.remaining input.old input.new }
     ensures good { result ≡ Ok Verdict.Good → input.new.ended ≡ true }
-    // Reading stops a byte above what a script may have, and fails only below that.
-    ensures taken { TakesUpTo (most_bytes + 1) R.remaining input.old.reader input.new.reader }
-    ensures taken_till_fault { result ≡ Err ReplayFault.Read
-        → TakesUpTo most_bytes R.remaining input.old.reader input.new.reader }
-    ensures each_call { TakesByEach most_bytes R.remaining input.old input.new }
-    ensures few_calls { input.new.calls ≤ 2097152 }
+    // Reading stops behind one byte more than a script may have.
+    ensures reads { ReadsUpTo most_bytes most_calls R.remaining input.old input.new }
 {
     let bytes = match read_all(alloc, input, MOST_BYTES, MOST_CALLS) {
         Ok(bytes) => bytes,

@@ -9,7 +9,7 @@ use crate::refused::{NoMemory, add, add_char};
 use memchr::memchr;
 use std::alloc::Global;
 
-/// The text before the first line feed and the text behind it, none where there is no line feed.
+/// The text before the first line feed and the text after it, none where there is no line feed.
 fn split_at_end(text: &str) -> Option<(&str, &str)>
     ensures cut { IfSome result (λ parts. text.now ≡ parts.0.now ++ 10 ∷ parts.1.now) }
     ensures first { IfSome result (λ parts. All (λ other. other ≢ 10) parts.0.now) }
@@ -20,7 +20,7 @@ fn split_at_end(text: &str) -> Option<(&str, &str)>
 }
 
 /// A line without its end (a line feed, with a carriage return before it or none), and what stands
-/// behind it; none where the text is at its end. The last line may lack its end.
+/// after it; none where the text is at its end. The last line may lack its end.
 fn next_line(text: &str) -> Option<(&str, &str)>
     ensures first { IfSome result (λ found. lines text.now ≡ found.0.now ∷ lines found.1.now) }
     ensures shorter { IfSome result (λ found. length found.1.now < length text.now) }
@@ -38,7 +38,7 @@ fn next_line(text: &str) -> Option<(&str, &str)>
     }
 }
 
-/// The lines before the first that is `---`, each with its end, and the text behind that one; none
+/// The lines before the first that is `---`, each with its end, and the text after that one; none
 /// where there is no such line.
 pub fn split_script<'a>(alloc: Global, text: &'a str) -> Result<Option<(String, &'a str)>, NoMemory>
     ensures found { IfOk result (λ found.

@@ -1,7 +1,7 @@
-//! Buildings' texts: the right answer, where memory is not wanting.
+//! Buildings' texts: the right answer, where there is memory.
 use lift_building::{Building, BuildingFault};
 
-/// Whether the text comes to this fault, or to none, or to want of memory.
+/// Whether the text comes to this fault, or to none, or runs out of memory.
 #[test]
 fn memory_or_the_right_answer(rt: HostRuntime) {
     for (flight, wanted) in [

@@ -62,7 +62,8 @@ fn a_reader_that_fails(rt: HostRuntime) {
     assert!(rt; reader.calls == 1);
 }
 
-/// A reader that never ends is left after so many calls, and once a byte more than wanted has come.
+/// A reader that never ends is left after this many calls, and once a byte more than wanted has
+/// come.
 #[test]
 fn a_reader_that_does_not_end(rt: HostRuntime) {
     for (most, calls) in [(100, 10), (5, 6)] {

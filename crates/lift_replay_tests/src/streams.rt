@@ -7,8 +7,8 @@ use std::io;
 use std::io::{Read, Write};
 use std::test::Fail;
 
-/// A writer that takes so many bytes, some of them in each call, and keeps them. Then it fails, or
-/// takes nothing.
+/// A writer that takes this many bytes, some of them in each call, and keeps them. Then it fails,
+/// or takes nothing.
 #[derive(Drop)]
 struct Narrow {
     room: usize,
@@ -35,7 +35,7 @@ impl Write for Narrow {
     }
 }
 
-/// Whether a bad script with this report comes to what it should where the writer takes so many
+/// Whether a bad script with this report comes to what it should where the writer takes this many
 /// bytes: the whole report, or as much of it as there is room for. Where memory is refused it comes
 /// to any front of it.
 fn comes_to(alloc: Global, script: &[u8], report: &[u8], room: usize) -> Result<bool, AllocError> {
@@ -71,7 +71,7 @@ fn a_reader_fails(rt: HostRuntime) {
 const SMALL: &str =
     "floors = 2\ndoor_ms = 0\nkiosks = [0]\nflight = [[0, 1], [1, 0]]\ncars = [{ places = 1 }]\n---\n";
 
-/// A text, so many times, between two others.
+/// A text, this many times, between two others.
 fn repeated(
     alloc: Global,
     front: &str,
@@ -181,7 +181,7 @@ fn readers_halt_at_each_call(rt: HostRuntime) {
     assert!(rt; end == Ok(Verdict::Good) && report.as_slice() == CALLED);
 }
 
-/// Whether a writer that takes so many bytes, two at most in a call, and then fails or takes
+/// Whether a writer that takes this many bytes, two at most in a call, and then fails or takes
 /// nothing, has the report's front.
 fn halts_writing(alloc: Global, room: usize, fails: bool) -> bool {
     let mut writer = Narrow {
@@ -199,7 +199,7 @@ fn halts_writing(alloc: Global, room: usize, fails: bool) -> bool {
     end == wanted && CALLED.starts_with(writer.taken.as_slice()) && writer.taken.len() == room
 }
 
-/// A writer that fails, or takes nothing, behind each byte of the report.
+/// A writer that fails, or takes nothing, after each byte of the report.
 #[test]
 fn writers_halt_behind_each_byte(rt: HostRuntime) {
     let mut right = 0usize;

@@ -19,10 +19,9 @@ ghost use Rattle.lift_serve.specs.Open.{first_told, told_behind};
 use crate::connections::{Awaited, Ended, Left, Over};
 use crate::pager::Pager;
 use crate::relaying::Parts;
-use crate::seating::TERMINALS;
 use crate::serving::{ServeFault, Served, unserved};
 use crate::socket::{Listening, ListeningCloser};
-use lift_base::two_owners;
+use lift_base::{MOST_TERMINALS, two_owners};
 use lift_desk::{Desk, DeskParts};
 use lift_disk::Disk;
 use lift_policy::Policy;
@@ -285,7 +284,7 @@ pub(crate) fn room_for_pagers(alloc: Global) -> Result<Vec<Pager>, Lacking>
     ensures none { IfOk result (λ pagers. pagers.items ≡ []) }
     ensures lack { IfErr result (λ lacking. lacking ≡ ServeFault.Memory) }
 {
-    match Vec::with_capacity(alloc, TERMINALS) {
+    match Vec::with_capacity(alloc, MOST_TERMINALS) {
         Ok(pagers) => Ok(pagers),
         Err(_) => Err(no_memory()),
     }

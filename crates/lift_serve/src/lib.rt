@@ -9,6 +9,7 @@ mod held;
 mod keeping;
 mod lacks;
 mod lobby;
+mod opened;
 mod pace;
 mod pager;
 mod port;

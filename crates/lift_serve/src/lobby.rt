@@ -7,7 +7,7 @@ ghost use Rattle.lift_serve.specs.Lobby.{AskedState, IsLobbyOf, IsSamePlace, IsT
 use crate::connections::Ticket;
 use crate::held::Held;
 use arrayvec::ArrayVec;
-use lift_base::Terminal;
+use lift_base::{MOST_TERMINALS, Terminal};
 use lift_desk::Desk;
 use std::marker::Model;
 use std::snapshot::Snapshot;
@@ -17,7 +17,7 @@ use std::snapshot::Snapshot;
 #[derive(Drop)]
 pub struct Lobby<'d> {
     desk: &'d Desk,
-    places: ArrayVec<Option<Held<'d>>, 63>,
+    places: ArrayVec<Option<Held<'d>>, MOST_TERMINALS>,
 }
 
 impl<'d> Model for Lobby<'d> {
@@ -100,7 +100,7 @@ impl<'d> Model for Returned<'d> {
 
 impl<'d> Lobby<'d> {
     /// Of a desk, with these places of its terminals.
-    pub fn new(desk: &'d Desk, places: ArrayVec<Option<Held<'d>>, 63>) -> Self
+    pub fn new(desk: &'d Desk, places: ArrayVec<Option<Held<'d>>, MOST_TERMINALS>) -> Self
         requires { IsLobbyOf desk.now places.items }
         ensures { result ≡ record { desk = desk.now; places = places.entry.items } }
     {

@@ -12,14 +12,11 @@ use crate::lobby::Lobby;
 use crate::pager::Pager;
 use crate::serving::ServeFault;
 use arrayvec::ArrayVec;
-use lift_base::{Content, Letter, Number, Terminal};
+use lift_base::{Content, Letter, MOST_TERMINALS, Number, Terminal};
 use lift_desk::{Desk, Seat};
 use lift_kiosk::LastLetter;
 use lift_register::Register;
 use std::alloc::Global;
-
-/// How many terminals there are at most.
-pub(crate) const TERMINALS: usize = 63;
 
 /// The letter that a kiosk's last call got.
 fn letter_in(content: &Content) -> Option<Letter>
@@ -55,7 +52,7 @@ pub(crate) fn new_pagers(alloc: Global) -> Result<Vec<Pager>, Lacking>
     ensures lack { IfErr result (λ lacking. lacking ≡ ServeFault.Memory) }
 {
     let mut pagers = room_for_pagers(alloc)?;
-    for index in 0..TERMINALS {
+    for index in 0..MOST_TERMINALS {
         let pager = Pager::new(Terminal::new(index as u8).unwrap());
         push(&mut pagers, pager)?;
     }
@@ -78,7 +75,7 @@ fn held_of<'d>(desk: &'d Desk, pagers: &'d [Pager], seat: Seat, register: &Regis
 }
 
 /// The place of the next terminal.
-fn add<'d>(places: &mut ArrayVec<Option<Held<'d>>, 63>, held: Held<'d>)
+fn add<'d>(places: &mut ArrayVec<Option<Held<'d>>, MOST_TERMINALS>, held: Held<'d>)
     requires next { held.seat.terminal ≡ length places.old.items }
     ensures { places.new.items ≡ places.old.items ++ Some held.entry ∷ [] }
 {

@@ -1,30 +1,28 @@
 //! The serving of a building on a socket.
 
-ghost use Rattle.std.specs.Prelude.{◌≡◌, ◌≤◌, ◌+◌, [], All, Option, None, Some, IfOk, IfErr, IfSome};
-ghost use Rattle.std.specs.Prelude.{IsErr, IsSome, length, ℕ};
+ghost use Rattle.std.specs.Prelude.{◌≡◌, [], Option, None, Some, IfOk, IfErr, IfSome, IsErr};
+ghost use Rattle.std.specs.Prelude.{IsSome, ℕ};
 ghost use Rattle.std.specs.declared.net.tcp.TcpListener.{TcpListener as Listener};
 ghost use Rattle.std.specs.Thread.{IsSend, IsSync};
-ghost use Rattle.lift_desk.specs.Seats.{AreSeatsOf, clerk_of, seats_from};
+ghost use Rattle.lift_desk.specs.Seats.{clerk_of};
 ghost use Rattle.lift_serve.specs.Lobby.{AreInOrder, found_seats};
 ghost use Rattle.lift_relay.specs.Heard.{FailureHeard};
 ghost use Rattle.lift_relay.specs.declared.pair.RunFault.{RunFault as Fault};
 ghost use Rattle.lift_serve.specs.Open.{AreEndedAt, IsEndAt};
 ghost use Rattle.lift_serve.specs.Relaying.{ComesTo, HaveRunOn, Relayed};
-ghost use Rattle.lift_serve.specs.Visits.{IsNewSeat};
 
 use crate::connections::{Connection, Connections, Left, Over, Reading};
 use crate::lacks::{
-    EndAt, GivenUp, Lacking, Refusal, ServingEnd, closer_of, open_desk, part, start_accepting,
-    start_session,
+    EndAt, GivenUp, Lacking, Refusal, ServingEnd, part, start_accepting, start_session,
 };
 use crate::lobby::Lobby;
+use crate::opened::{Opened, open};
 use crate::pace::{Bells, Closing, Pace};
-use crate::pager::Pager;
 use crate::relaying::{Parts, run_parts, turn_rejoined, unrun};
-use crate::seating::{lobby_of, new_pagers};
+use crate::seating::lobby_of;
 use crate::shared::Shared;
 use crate::socket::{Arrival, Listening};
-use lift_desk::{DeskParts, Seat};
+use lift_base::MOST_CARS;
 use lift_disk::Disk;
 use lift_parts::{parts_are_clerks, turns_keep_what_was_given};
 use lift_policy::Policy;
@@ -305,110 +303,6 @@ pub(crate) fn unserved<'b, D: Disk + Drop, K: Drop, V: Witness + Drop>(
     }
 }
 
-/// Serves at the clerk's desk, whose seats wait in this lobby.
-fn serve_from<'d, 'b, R, D, P, K, V>(
-    rt: &R,
-    alloc: Global,
-    listener: &Listening,
-    sessions: u32,
-    connections: Connections,
-    pagers: &[Pager],
-    lobby: Lobby<'d>,
-    clerk: HeldClerk<'d, 'b, D, P, K>,
-    witness: V,
-) -> Served<'b, D, K, V>
-where
-    R: Threads + Wait + Clock + Sync,
-    D: Disk + Drop,
-    P: Policy + Drop + Send,
-    K: HeardBy<V> + Drop,
-    V: Witness + Drop,
-    requires desk { lobby.desk ≡ clerk.desk }
-    requires unused { clerk.seat ≡ clerk_of clerk.desk }
-    requires all { lobby.places
-        ≡ found_seats clerk.keeper.state.register clerk.desk (seats_from 0 clerk.desk) }
-    requires count { length clerk.desk ≡ 16 + length clerk.keeper.writer.plan.kiosks }
-    ensures comes { ComesTo P.chooses D.state clerk.entry.policy clerk.entry.keeper result.keeper
-        result.end.fault }
-    ensures heard { FailureHeard V.hears clerk.entry.keeper.writer.is_broken
-        result.keeper.writer.is_broken witness result.witness }
-    ensures ended { IfSome result.end.ended (AreEndedAt listener.now sessions) }
-    ensures counted { result.end.fault ≡ None → IsSome result.end.ended }
-{
-    let lobby = Mutex::new(lobby);
-    let connections = Mutex::new(connections);
-    let bells = Bells::new(pagers);
-    let reading = Reading::new();
-    let closing = Closing::new();
-    let shared = Shared {
-        building: clerk.keeper().building(),
-        listener,
-        sessions,
-        lobby: &lobby,
-        bells: &bells,
-        reading: &reading,
-        closing: &closing,
-        connections: &connections,
-    };
-    match run(rt, alloc, shared, clerk, witness) {
-        Ok((clerk, over, witness)) => {
-            let lacks = connections.into_inner().into_lacks();
-            lacks.behind(over, clerk.leave(), witness)
-        }
-        Err((clerk, lacking, witness)) => {
-            let lacks = connections.into_inner().into_lacks();
-            lacks.unserved(lacking, clerk.leave(), witness)
-        }
-    }
-}
-
-/// Serves at the clerk's desk, whose seats these are.
-fn serve_at<'b, R, D, P, K, V>(
-    rt: &R,
-    alloc: Global,
-    listener: &Listening,
-    sessions: u32,
-    connections: Connections,
-    pagers: &[Pager],
-    seats: Vec<Seat>,
-    clerk: HeldClerk<'_, 'b, D, P, K>,
-    witness: V,
-) -> Served<'b, D, K, V>
-where
-    R: Threads + Wait + Clock + Sync,
-    D: Disk + Drop,
-    P: Policy + Drop + Send,
-    K: HeardBy<V> + Drop,
-    V: Witness + Drop,
-    requires pagers { 63 ≤ length pagers.now }
-    requires in_order { AreInOrder pagers.now }
-    requires unused { clerk.seat ≡ clerk_of clerk.desk }
-    requires new { All IsNewSeat seats.items }
-    requires seats { AreSeatsOf clerk.desk seats.items }
-    requires all { seats.items ≡ seats_from 0 clerk.desk }
-    requires count { length clerk.desk ≡ 16 + length clerk.keeper.writer.plan.kiosks }
-    ensures comes { ComesTo P.chooses D.state clerk.entry.policy clerk.entry.keeper result.keeper
-        result.end.fault }
-    ensures heard { FailureHeard V.hears clerk.entry.keeper.writer.is_broken
-        result.keeper.writer.is_broken witness result.witness }
-    ensures ended { IfSome result.end.ended (AreEndedAt listener.now sessions) }
-    ensures counted { result.end.fault ≡ None → IsSome result.end.ended }
-{
-    let register = clerk.keeper().register();
-    let lobby = lobby_of(clerk.desk(), pagers, seats, register);
-    serve_from(
-        rt,
-        alloc,
-        listener,
-        sessions,
-        connections,
-        pagers,
-        lobby,
-        clerk,
-        witness,
-    )
-}
-
 /// Serves the keeper's building on a listening socket until so many connections have ended, those
 /// that were refused included: each has a thread of its own, beside the allocator's and the
 /// flusher's. A fault of the device ends nothing: what is asked from then on is answered Unknown.
@@ -450,30 +344,42 @@ where
         keeper,
         policy,
     } = prepared;
-    let terminals = 16 + usize::from(keeper.keeper().building().kiosks());
-    let DeskParts { desk, seats, clerk } = match open_desk(alloc, terminals) {
-        Ok(parts) => parts,
-        Err(lacking) => return unserved(keeper, witness, lacking.told()),
-    };
-    let pagers = match new_pagers(alloc) {
-        Ok(pagers) => pagers,
-        Err(lacking) => return unserved(keeper, witness, lacking.told()),
-    };
-    let closer = match closer_of(&listening) {
-        Ok(closer) => closer,
-        Err(refusal) => return unserved(keeper, witness, refusal),
-    };
-    let connections = Connections::new(alloc, closer);
-    let clerk = keeper.at(&desk, clerk, policy);
-    serve_at(
-        rt,
-        alloc,
-        &listening,
-        sessions,
-        connections,
-        &pagers,
+    let terminals = MOST_CARS + usize::from(keeper.keeper().building().kiosks());
+    let Opened {
+        desk,
         seats,
         clerk,
-        witness,
-    )
+        pagers,
+        closer,
+    } = match open(alloc, &listening, terminals) {
+        Ok(opened) => opened,
+        Err(refusal) => return unserved(keeper, witness, refusal),
+    };
+    let clerk = keeper.at(&desk, clerk, policy);
+    let register = clerk.keeper().register();
+    let lobby = Mutex::new(lobby_of(&desk, &pagers, seats, register));
+    let connections = Mutex::new(Connections::new(alloc, closer));
+    let bells = Bells::new(&pagers);
+    let reading = Reading::new();
+    let closing = Closing::new();
+    let shared = Shared {
+        building: clerk.keeper().building(),
+        listener: &listening,
+        sessions,
+        lobby: &lobby,
+        bells: &bells,
+        reading: &reading,
+        closing: &closing,
+        connections: &connections,
+    };
+    match run(rt, alloc, shared, clerk, witness) {
+        Ok((clerk, over, witness)) => {
+            let lacks = connections.into_inner().into_lacks();
+            lacks.behind(over, clerk.leave(), witness)
+        }
+        Err((clerk, lacking, witness)) => {
+            let lacks = connections.into_inner().into_lacks();
+            lacks.unserved(lacking, clerk.leave(), witness)
+        }
+    }
 }

@@ -58,7 +58,7 @@ struct Shared {
     ended: AtomicU64,
 }
 
-/// Whether a word comes to be so much at least, within so many looks.
+/// Whether a word comes to be so much at least, within this many looks.
 fn comes_to(word: &AtomicU64, least: u64) -> bool {
     for _ in 0..LIMIT {
         if word.load(Ordering::SeqCst) >= least {
@@ -80,7 +80,7 @@ impl Shared {
         }
     }
 
-    /// Holds the first sync behind a call until it is released, as by a second call. True where it
+    /// Holds the first sync after a call until it is released, as by a second call. True where it
     /// wasn't.
     fn is_held_in_vain(&self) -> bool {
         if self.asked.load(Ordering::SeqCst) == 0 || self.held.swap(1, Ordering::SeqCst) == 1 {
@@ -204,7 +204,7 @@ fn one_calls<R: Clock + Net<Listener = TcpListener, Stream = TcpStream>>(
     // All of its looks would be made in that time without their rests.
     thread::sleep(rt, Duration::from_millis(HELD_MS));
     let is_over = is_held && follows_step(&last, "-");
-    // Its end is counted just behind its closing.
+    // Its end is counted just after its closing.
     thread::sleep(rt, Duration::from_millis(100));
     let is_over = is_over && follows_step(&kiosk, ">CALL 2 8");
     shared.released.store(1, Ordering::SeqCst);
@@ -234,8 +234,8 @@ fn call<R: Clock + Net<Listener = TcpListener, Stream = TcpStream>>(
     }
 }
 
-/// Serves until so many connections have ended, while one kiosk calls or both do: how many calls
-/// are open behind it.
+/// Serves until this many connections have ended, while one kiosk calls or both do: how many calls
+/// are open after it.
 fn serve_callers<
     R: Threads + Wait + Clock + Abort + Net<Listener = TcpListener, Stream = TcpStream> + Sync,
 >(rt: &R, alloc: Global, shared: &Shared, sessions: u32, are_both: bool) -> Result<u32, Fail> {

@@ -189,7 +189,7 @@ pub(crate) fn end_server<R: Net<Listener = TcpListener, Stream = TcpStream>>(
 
 /// Whether all goes as the script has it. Its lines: `1+` connection 1 is made; `1>TEXT` it says
 /// this line, `1~TEXT` these bytes; `1<TEXT` it hears just this line; `1.` it hears that the other
-/// end is closed; `1-` the same, behind closing its own; `1!` it is reset; `1*TEXT` it is made and
+/// end is closed; `1-` the same, after closing its own; `1!` it is reset; `1*TEXT` it is made and
 /// says this line, again for a second while it is `BUSY`; `1=` other connections are made and
 /// closed until the server has ended.
 pub(crate) fn follows<R: Clock + Net<Listener = TcpListener, Stream = TcpStream>>(

@@ -80,7 +80,7 @@ const A_DAY: &str = "\
 0.
 ";
 
-/// The start behind it.
+/// The start after it.
 const THE_NEXT_DAY: &str = "\
 1+
 1>KIOSK 0
@@ -140,7 +140,7 @@ const SHORTEST: &str = "\
 2.
 ";
 
-/// A car is placed. The second call of the device fails then, and all behind it: nobody knows what
+/// A car is placed. The second call of the device fails then, and all after it: nobody knows what
 /// becomes of a command.
 const FAILING: &str = "\
 1+
@@ -165,7 +165,7 @@ const FAILING: &str = "\
 1.
 ";
 
-/// Behind a power cut that kept nothing of it.
+/// After a power cut that kept nothing of it.
 const BEHIND: &str = "\
 1+
 1>CAR A
@@ -225,7 +225,7 @@ fn follow<R: Clock + Net<Listener = TcpListener, Stream = TcpStream>>(
     }
 }
 
-/// The keeper behind the serving, where the script was followed and nothing but the device failed.
+/// The keeper after the serving, where the script was followed and nothing but the device failed.
 fn served<
     'b,
     R: Threads + Wait + Clock + Abort + Net<Listener = TcpListener, Stream = TcpStream> + Sync,

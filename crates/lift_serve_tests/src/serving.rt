@@ -36,9 +36,9 @@ struct Own {
 
 impl HeardBy<NoWitness> for Own {}
 
-/// Serves on a socket until so many connections have ended, while a thread calls and another one
-/// watches. The keeper behind it; none where there was no thread for these, or another fault than the
-/// device's, or where connections have not ended.
+/// Serves on a socket until this many connections have ended, while a thread calls and another one
+/// watches. The keeper after it; none where there was no thread for these, or another fault than
+/// the device's, or where connections have not ended.
 pub(crate) fn serve_beside<'b, R, D, P, C>(
     rt: &R,
     alloc: Global,

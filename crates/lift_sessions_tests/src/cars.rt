@@ -101,7 +101,7 @@ const LINES: [Row; 4] = [
             ..CAR
         }],
     ),
-    // no answer in time; the session behind the turn brings it in, and greets with its number
+    // no answer in time; the session after the turn brings it in, and greets with its number
     (
         Case {
             replies: &[Told::Stopped(None)],

@@ -50,7 +50,7 @@ impl Car for Recorder<'_> {
 #[derive(Clone, Copy)]
 struct Trip {
     replies: &'static [Told],
-    /// The clerk looks only after so many rests.
+    /// The clerk looks only after this many rests.
     idle: u32,
     /// Whether stop 3 at floor 1, up, was asked before.
     is_asked: bool,
@@ -58,7 +58,7 @@ struct Trip {
     begins: u8,
     /// The last number that is known to be in.
     last: u32,
-    /// So many asks may be made by each drive.
+    /// This many asks may be made by each drive.
     lines: u32,
     /// How each drive ends, and the last number then.
     ends: &'static [(Ending, u32)],
@@ -142,21 +142,21 @@ fn successes(alloc: Global, trips: &[Trip]) -> Result<usize, AllocError> {
 /// A stop at floor 3 for those who go down.
 const NEXT: Option<(u8, Dir)> = Some((3, Dir::Down));
 
-/// It is gone to behind the first ask.
+/// It is gone to after the first ask.
 const HALT: Halt = Halt {
     asks: 1,
     floor: 3,
     dir: Dir::Down,
 };
 
-/// It is gone to again behind the second ask.
+/// It is gone to again after the second ask.
 const AGAIN: Halt = Halt { asks: 2, ..HALT };
 
 const PLACE: Asked = Asked::Place(0, 0, Dir::Up);
 
 const TRIPS: [Trip; 10] = [
     // The car takes its passengers at floor 0 to floor 5, and is idle there. It goes to each stop
-    // before it reports it: to the first behind its first ask, to the second behind its second.
+    // before it reports it: to the first after its first ask, to the second after its second.
     Trip {
         replies: &[
             Told::Placed(Some((0, Dir::Up))),

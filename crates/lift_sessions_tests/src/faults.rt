@@ -21,7 +21,7 @@ const KIOSK_CASE: Case = Case {
     ..CASE
 };
 
-/// A car is told its stop at floor 0, and is idle behind it.
+/// A car is told its stop at floor 0, and is idle after it.
 const CAR_VISIT: Visit = Visit {
     input: b"PLACE 0 up\nHELLO\nSTOP 1 0 up\n",
     output: b"READY 0\nNEXT 0 up\nBAD\nIDLE\n",
@@ -34,7 +34,7 @@ const CAR_CASE: Case = Case {
     ..CASE
 };
 
-/// Where a session ends early: so many bytes were written, and this command is known to be in.
+/// Where a session ends early: this many bytes were written, and this command is known to be in.
 fn ends_so(
     alloc: Global,
     is_of_car: bool,
@@ -54,8 +54,8 @@ fn ends_so(
     comes_out(alloc, &case, &[visit])
 }
 
-/// Behind at least so many calls of the reader, and fewer than so many, so many bytes are written,
-/// and this command is known to be in.
+/// After at least this many calls of the reader, and fewer than this many, this many bytes are
+/// written, and this command is known to be in.
 const READS: [(bool, u64, u64, usize, Last); 8] = [
     (false, 0, 9, 8, (0, None)),
     (false, 9, 15, 14, (1, Some(0))),
@@ -85,8 +85,8 @@ fn readers_fail(rt: HostRuntime) -> Result<(), Fail> {
     Ok(())
 }
 
-/// Where the writer took at least so many bytes, and fewer than so many, this command is known to
-/// be in.
+/// Where the writer took at least this many bytes, and fewer than this many, this command is known
+/// to be in.
 const WRITES: [(bool, usize, usize, Last); 5] = [
     (false, 0, 8, (0, None)),
     (false, 8, 18, (1, Some(0))),
@@ -95,7 +95,7 @@ const WRITES: [(bool, usize, usize, Last); 5] = [
     (true, 22, 27, (1, None)),
 ];
 
-/// A writer that fails, or takes nothing more, after so many bytes: these were written, and what
+/// A writer that fails, or takes nothing more, after this many bytes: these were written, and what
 /// was heard counts.
 #[test]
 fn writers_fail(rt: HostRuntime) -> Result<(), Fail> {
@@ -116,7 +116,7 @@ fn writers_fail(rt: HostRuntime) -> Result<(), Fail> {
     Ok(())
 }
 
-/// With so many lines, and so many calls of the reader, so many bytes are written.
+/// With this many lines, and this many calls of the reader, this many bytes are written.
 const LIMITS: [(bool, u32, u32, usize, End, Last); 14] = [
     (false, 0, 100, 8, End::Limit, (0, None)),
     (false, 1, 100, 14, End::Limit, (1, Some(0))),

@@ -106,7 +106,7 @@ const LINES: [Row; 10] = [
             ..KIOSK
         }],
     ),
-    // no answer in time; the session behind the turn brings it in
+    // no answer in time; the session after the turn brings it in
     (
         Case {
             replies: &[Told::Car(0)],
@@ -201,7 +201,7 @@ fn lines_are_answered(rt: HostRuntime) -> Result<(), Fail> {
     Ok(())
 }
 
-/// What a session over a desk's own port writes, whose clerk doesn't turn, and the seat behind it.
+/// What a session over a desk's own port writes, whose clerk doesn't turn, and the seat after it.
 fn unanswered<'d>(alloc: Global, port: DeskPort<'d>) -> (Vec<u8>, DeskPort<'d>)
     ensures { result.1.desk ≡ port.entry.desk }
 {

@@ -44,7 +44,7 @@ fn stop_of(stop: Option<(u8, Dir)>) -> Option<Stop> {
     Some(Stop { floor, dir })
 }
 
-/// The reply of this place; Unknown behind the last one.
+/// The reply of this place; Unknown after the last one.
 fn reply_at(replies: &[Told], place: usize) -> Reply {
     match replies.get(place) {
         Some(Told::Car(index)) => Reply::Car(car(*index)),
@@ -72,7 +72,7 @@ pub(crate) struct Served<'d> {
     port: DeskPort<'d>,
     clerk: ClerkSeat,
     replies: &'d [Told],
-    /// The clerk looks only after so many rests.
+    /// The clerk looks only after this many rests.
     idle: u32,
     /// What the clerk took.
     pub taken: Vec<Asked>,

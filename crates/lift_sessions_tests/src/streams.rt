@@ -9,13 +9,13 @@ fn fault() -> io::Error {
 /// Gives this text, a byte at each call, and fails at one call.
 #[derive(Drop)]
 pub(crate) struct Slow {
-    /// So many letters C come before the text.
+    /// This many letters C come before the text.
     pub filling: usize,
     pub text: &'static [u8],
     pub given: usize,
     /// Whether the text comes again and again.
     pub is_endless: bool,
-    /// So many calls succeed before one fails.
+    /// This many calls succeed before one fails.
     pub calls: u64,
 }
 
@@ -44,7 +44,7 @@ impl Read for Slow {
     }
 }
 
-/// Takes so many bytes, two at most in a call, and then fails or takes nothing.
+/// Takes this many bytes, two at most in a call, and then fails or takes nothing.
 #[derive(Drop)]
 pub(crate) struct Narrow {
     pub taken: Vec<u8>,

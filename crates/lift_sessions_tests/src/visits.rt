@@ -20,7 +20,7 @@ pub(crate) struct Visit {
     pub begins: Last,
     pub input: &'static [u8],
     pub output: &'static [u8],
-    /// So many bytes of that output have to come, where it has more.
+    /// This many bytes of that output have to come, where it has more.
     pub most: usize,
     pub end: End,
     pub ends: Last,
@@ -29,13 +29,13 @@ pub(crate) struct Visit {
 /// How the streams of sessions go.
 #[derive(Clone, Copy)]
 pub(crate) struct Streams {
-    /// So many letters C come before the input.
+    /// This many letters C come before the input.
     pub filling: usize,
     /// Whether the input comes again and again.
     pub is_endless: bool,
-    /// So many calls of the reader succeed before one fails.
+    /// This many calls of the reader succeed before one fails.
     pub calls: u64,
-    /// The writer takes so many bytes, and then fails or takes nothing.
+    /// The writer takes this many bytes, and then fails or takes nothing.
     pub room: usize,
     pub fails: bool,
 }
@@ -44,9 +44,9 @@ pub(crate) struct Streams {
 #[derive(Clone, Copy)]
 pub(crate) struct Case {
     pub replies: &'static [Told],
-    /// The clerk looks only after so many rests.
+    /// The clerk looks only after this many rests.
     pub idle: u32,
-    /// So many asks are answered before.
+    /// This many asks are answered before.
     pub rounds: u32,
     pub limits: Limits,
     pub streams: Streams,

@@ -4,3 +4,4 @@ pub mod Leavings
 pub mod Kept
 pub mod Served
 pub mod Dropped
+pub mod Opening

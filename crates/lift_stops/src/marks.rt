@@ -15,7 +15,7 @@ ghost use Rattle.lift_stops.specs.Marks.{all_marked};
 use crate::leaving::Leaving;
 use crate::stops::pass_of;
 use arrayvec::ArrayVec;
-use lift_base::{Dir, Floor, Halt, Pass, Position, Row};
+use lift_base::{Dir, Floor, Halt, MOST_HALTS, Pass, Position, Row};
 
 /// The halts of a car, a set for each pass. Bit n of a set stands for the floor before which a car
 /// that travels all floors in the pass's direction reaches n others.
@@ -78,7 +78,7 @@ fn mark_legs(set: u64, row: &Row) -> u64
 }
 
 /// Appends the halts of a pass in this direction, in the order of travel.
-fn push_pass(halts: &mut ArrayVec<Halt, 66>, pass: Pass, dir: Dir, set: u64)
+fn push_pass(halts: &mut ArrayVec<Halt, MOST_HALTS>, pass: Pass, dir: Dir, set: u64)
     requires { length halts.old.items + length (marked set) ≤ 66 }
     ensures { halts.new.items ≡ halts.old.items ++ halts_marked pass dir set }
 {
@@ -126,7 +126,7 @@ impl Marks {
     }
 
     /// Writes the halts of a car in this direction, in the order in which it makes them.
-    fn write(&self, halts: &mut ArrayVec<Halt, 66>, dir: Dir)
+    fn write(&self, halts: &mut ArrayVec<Halt, MOST_HALTS>, dir: Dir)
         requires { length (all_marked self.now dir) ≤ 66 }
         ensures { halts.new.items ≡ all_marked self.now dir }
     {
@@ -159,7 +159,7 @@ fn marks_of(rows: &[Row], position: &Position, leaving: &mut Leaving) -> Marks
 /// Writes the halts that a car at this position still has to make for these calls, in the order in
 /// which it makes them, and who leaves there.
 pub fn write_halts(
-    halts: &mut ArrayVec<Halt, 66>,
+    halts: &mut ArrayVec<Halt, MOST_HALTS>,
     leaving: &mut Leaving,
     rows: &[Row],
     position: &Position,

@@ -1,7 +1,7 @@
 //! The stop list of a car, kept while its position and its calls change.
 
 ghost use Rattle.std.specs.Prelude.{◌≡◌, ◌≢◌, ◌+◌, ◌<◌, ◌≤◌, List, [], ◌∷◌, ◌++◌, length, Contains};
-ghost use Rattle.std.specs.Prelude.{All, IsTrue, take};
+ghost use Rattle.std.specs.Prelude.{All, IsTrue, false};
 ghost use Rattle.std.specs.List.{flat_map};
 ghost use Rattle.lift_base.specs.declared.history.Row.{Row as RowValue};
 ghost use Rattle.lift_base.specs.History.{row_after};
@@ -14,10 +14,10 @@ use crate::leaving::Leaving;
 use crate::marks::write_halts;
 use crate::stops::{drop_halts, insert_row, is_ahead, pass_of, stop_of};
 use arrayvec::ArrayVec;
-use lift_base::{Halt, Pass, Position, Row, Stop, count_unchanged};
+use lift_base::{Halt, MOST_HALTS, Pass, Position, Row, Stop, count_unchanged};
 use std::marker::Model;
 
-fn copy_of(halts: &[Halt]) -> ArrayVec<Halt, 66>
+fn copy_of(halts: &[Halt]) -> ArrayVec<Halt, MOST_HALTS>
     requires { length halts.now ≤ 66 }
     ensures { result.items ≡ halts.now }
 {
@@ -26,41 +26,32 @@ fn copy_of(halts: &[Halt]) -> ArrayVec<Halt, 66>
     copy
 }
 
-/// Takes a stop into the calls of a car that is there: moves those that are open still to the front
-/// in their order, and answers how many these are. Those who leave are counted no more.
-fn keep_open(rows: &mut [Row], leaving: &mut Leaving, stop: &Stop) -> usize
-    ensures rows { take result rows.new ≡ flat_map (row_after stop.now) rows.old }
-    ensures kept { result ≤ length rows.old }
-    ensures leaving { AreCounted rows.old (position_after stop.now) leaving.old
-        → AreCounted (flat_map (row_after stop.now) rows.old) (position_after stop.now)
-        leaving.new }
-{
-    let position = &position_at(stop);
-    let first = count_unchanged(rows, stop);
-    let mut kept = first;
-    for index in first..rows.len() {
-        let row = &rows[index];
-        match row.after(*stop) {
-            Some(after) => {
-                rows[kept] = after;
-                kept += 1;
-            }
-            None => leaving.remove(position, row),
-        }
-    }
-    kept
-}
-
 /// Takes a stop into the calls of a car that is there: those that are open still stay in their
-/// order, and those who leave are counted no more.
-fn serve_rows(rows: &mut ArrayVec<Row, 33>, leaving: &mut Leaving, stop: &Stop)
+/// order, and those who leave are counted no more. The answer is whether it changes any; the others
+/// aren't written.
+fn serve_rows(rows: &mut ArrayVec<Row, 33>, leaving: &mut Leaving, stop: &Stop) -> bool
     ensures rows { rows.new.items ≡ flat_map (row_after stop.now) rows.old.items }
     ensures leaving { AreCounted rows.old.items (position_after stop.now) leaving.old
         → AreCounted (flat_map (row_after stop.now) rows.old.items) (position_after stop.now)
         leaving.new }
+    ensures unchanged { result ≡ false → rows.new.items ≡ rows.old.items }
 {
-    let kept = keep_open(rows.as_mut_slice(), leaving, stop);
-    rows.truncate(kept);
+    let position = &position_at(stop);
+    let mut index = count_unchanged(rows, stop);
+    if index == rows.len() {
+        return false;
+    }
+    while index < rows.len() {
+        match rows[index].after(*stop) {
+            Some(row) => {
+                rows[index] = row;
+                index += 1;
+            }
+            None => leaving.remove(position, &rows.remove(index)),
+        }
+        index += count_unchanged(&rows[index..], stop);
+    }
+    true
 }
 
 /// Where a car is that makes a stop.
@@ -74,7 +65,8 @@ fn position_at(stop: &Stop) -> Position
 }
 
 /// Whether a car that goes from one position to another makes each of its calls in the pass in which
-/// it made it before, since it goes on in its direction and leaves no halt of its first pass behind.
+/// it made it before, because it goes on in its direction and leaves no halt of its first pass
+/// after.
 fn keeps_passes(halts: &[Halt], position: &Position, next: &Position) -> bool
     ensures { (rows : List RowValue) → halts.now ≡ stop_list rows position.now
         → All HasFloors rows → IsTrue result → KeepsPasses rows position.now next.now }
@@ -99,7 +91,7 @@ fn keeps_passes(halts: &[Halt], position: &Position, next: &Position) -> bool
 pub struct Schedule {
     position: Position,
     rows: ArrayVec<Row, 33>,
-    halts: ArrayVec<Halt, 66>,
+    halts: ArrayVec<Halt, MOST_HALTS>,
     leaving: Leaving,
 }
 
@@ -156,7 +148,9 @@ impl Schedule {
           rows = flat_map (row_after stop.now) self.old.rows;
         } }
     {
-        serve_rows(&mut self.rows, &mut self.leaving, stop);
+        if !serve_rows(&mut self.rows, &mut self.leaving, stop) {
+            return;
+        }
         drop_halts(&mut self.halts, &self.rows, &self.position);
     }
 
@@ -195,7 +189,7 @@ impl Schedule {
     }
 
     /// The halts with one call more.
-    pub fn halts_with(&self, row: &Row) -> ArrayVec<Halt, 66>
+    pub fn halts_with(&self, row: &Row) -> ArrayVec<Halt, MOST_HALTS>
         requires { length self.now.rows ≤ 32 }
         ensures { result.items ≡ stop_list (self.now.rows ++ row.now ∷ []) self.now.position }
     {

@@ -19,7 +19,7 @@ ghost use Rattle.lift_stops.specs.Schedule.{position_after};
 use crate::leaving::Leaving;
 use crate::marks::{bit_of, write_halts};
 use arrayvec::ArrayVec;
-use lift_base::{Dir, Floor, Halt, Pass, Position, Row, Stop};
+use lift_base::{Dir, Floor, Halt, MOST_HALTS, Pass, Position, Row, Stop};
 
 /// Whether a floor is at another one, or ahead of it in a direction.
 pub fn is_ahead(dir: Dir, floor: Floor, other: Floor) -> bool
@@ -106,7 +106,7 @@ pub struct Split<'h> {
     pub before: &'h [Halt],
     /// Whether the halt is in the list.
     pub is_there: bool,
-    /// The halts behind it.
+    /// The halts after it.
     pub behind: &'h [Halt],
 }
 
@@ -130,7 +130,7 @@ pub fn split_at<'h>(halts: &'h [Halt], dir: Dir, halt: &Halt) -> Split<'h>
 }
 
 /// Puts a halt at its place, unless it is there already.
-fn insert_halt(halts: &mut ArrayVec<Halt, 66>, dir: Dir, halt: &Halt)
+fn insert_halt(halts: &mut ArrayVec<Halt, MOST_HALTS>, dir: Dir, halt: &Halt)
     requires { array_vec_len halts.old < 66 }
     ensures halts { halts.new.items ≡ put (rank_of dir) halt.now halts.old.items }
     ensures count { array_vec_len halts.new ≤ array_vec_len halts.old + 1 }
@@ -143,7 +143,7 @@ fn insert_halt(halts: &mut ArrayVec<Halt, 66>, dir: Dir, halt: &Halt)
 }
 
 /// Puts the halts of a call at their places.
-pub fn insert_row(halts: &mut ArrayVec<Halt, 66>, position: &Position, row: &Row)
+pub fn insert_row(halts: &mut ArrayVec<Halt, MOST_HALTS>, position: &Position, row: &Row)
     requires { array_vec_len halts.old < 65 }
     ensures halts { (rows : List RowValue) → halts.old.items ≡ stop_list rows position.now
         → halts.new.items ≡ stop_list (rows ++ row.now ∷ []) position.now }
@@ -181,7 +181,7 @@ fn is_needed(rows: &[Row], position: &Position, halt: &Halt) -> bool
 }
 
 /// Takes a halt out unless some call needs it still.
-fn drop_halt(halts: &mut ArrayVec<Halt, 66>, rows: &[Row], position: &Position, halt: &Halt)
+fn drop_halt(halts: &mut ArrayVec<Halt, MOST_HALTS>, rows: &[Row], position: &Position, halt: &Halt)
     ensures { (p : HaltValue → Bool) → halts.old.items ≡ filter p (all_halts position.now.dir)
         → halts.new.items ≡ filter (λ other. p other && (not (same_halt halt.now other)
         || is_needed rows.now position.now halt.now)) (all_halts position.now.dir) }
@@ -195,7 +195,7 @@ fn drop_halt(halts: &mut ArrayVec<Halt, 66>, rows: &[Row], position: &Position, 
 
 /// Takes the halts where a car is out, unless some call needs them still: these are all that are
 /// left of the calls before a stop there.
-pub fn drop_halts(halts: &mut ArrayVec<Halt, 66>, rows: &[Row], position: &Position)
+pub fn drop_halts(halts: &mut ArrayVec<Halt, MOST_HALTS>, rows: &[Row], position: &Position)
     ensures { (before : List RowValue) (stop : StopValue)
         → position.now ≡ position_after stop → rows.now ≡ flat_map (row_after stop) before
         → halts.old.items ≡ stop_list before position.now
@@ -210,7 +210,7 @@ pub fn drop_halts(halts: &mut ArrayVec<Halt, 66>, rows: &[Row], position: &Posit
 
 /// The halts that a car at this position still has to make for these calls, in the order in which
 /// it makes them.
-pub fn stop_list(rows: &[Row], position: Position) -> ArrayVec<Halt, 66>
+pub fn stop_list(rows: &[Row], position: Position) -> ArrayVec<Halt, MOST_HALTS>
     requires { length rows.now ≤ 33 }
     ensures halts { result.items ≡ stop_list rows.now position }
     // No halt stands twice.

@@ -1,4 +1,4 @@
--- The flusher works on in the midst of a scan.
+-- The flusher works on within a scan.
 use Rattle.std.proofs.Common.{ℕ, ◌≡◌, ◌≢◌, ◌+◌, ◌-◌, ◌≤◌, false, not, ◌&&◌, eqb, List, [], ◌∷◌, ◌++◌, length, map, take, drop, Option, Some, None, refl, sym, ap, subst, ◌∙◌, arith}
 use Rattle.std.specs.Prelude.{IsTrue, nat_lt, find, reverse, count_by, option_map, option_and_then}
 use Rattle.std.proofs.lemmas.Bool.{false≢true}
@@ -26,7 +26,7 @@ use Rattle.lift_world.proofs.Scans.{taken_as}
 use Rattle.lift_world.specs.lemmas.Steps.{if_from, then_from, mapped, taken_next}
 use Rattle.lift_world.specs.lemmas.Ordered.{Ordered, ordered_from, end_above, flies_to, none_owed}
 
--- a part of a front stays, whatever comes behind it
+-- a part of a front stays, whatever comes after it
 part_of : (front ys : List Entry) (s u : ℕ) → s ≤ u → u ≤ length front → take (u - s) (drop s (front ++ ys)) ≡ take (u - s) (drop s front)
 part_of front ys s u low high =
     let l = length-drop s front in
@@ -201,7 +201,7 @@ flusher_comes_first w terminal letter event taken later order is takes h =
     (sym (flusher_passes_scans w t.command t.decision event order is) ∙ ap (λ (x : World). next x event) t.is ∙ h) in
     (m.0, m.1, t.still event m.0 is m.1 ∙ ap (λ (x : World). Some x) m.2)
 
--- Behind a seal the flusher works on as before it.
+-- After a seal the flusher works on as before it.
 module _ (w : World) where
   abbrev last : SealedBatch
   last = record { commands = w.taken; upto = length w.accepted }

@@ -81,8 +81,8 @@ pulls_some w after h none =
     let q : pulled w [] ≡ Some after = ap (pulled w) (sym none) ∙ p in
     cc
 
--- What others do passes through all that the flusher does: behind it the flusher's events are possible just where they are
--- before it, and behind them it is.
+-- What others do passes through all that the flusher does: after it the flusher's events are possible just where they are
+-- before it, and after them it is.
 pub record Through (other : Event) (w after : World) : Type 0 where
   pub does : World → World
   pub is : does w ≡ after
@@ -213,7 +213,7 @@ queued_first w e events few is none =
     absurd (omega arith)
 
 module _ (other : Event) (on : IsTrue (goes_on other)) (isnt : is_flushers other ≡ false) where
-  -- what another did before an event of the flusher it might have done behind it
+  -- what another did before an event of the flusher it might have done after it
   swapped : (e : Event) (w taken after : World) → Ordered w → IsTrue (is_flushers e) → (e ≡ Pull → w.queue ≢ []) → next w other ≡ Some taken → next taken e ≡ Some after
       → (before : World) × (next w e ≡ Some before) × (next before other ≡ Some after)
   swapped e w taken after order is some h g =
@@ -240,7 +240,7 @@ module _ (other : Event) (on : IsTrue (goes_on other)) (isnt : is_flushers other
       let d = goes_behind his w taken m.0 order are few h m.1 in
       joined his (other ∷ theirs) w d.0 d.1 ∙ one other theirs d.0 m.0 d.2 ∙ m.2
 
-  -- what the flusher can do alone it can do behind it
+  -- what the flusher can do alone it can do after it
   goes_before : (events : List Event) (w taken made : World) → Ordered w → AllFlushers events → next w other ≡ Some taken → goes events w ≡ Some made
       → (after : World) × (goes events taken ≡ Some after) × (next made other ≡ Some after)
   goes_before [] w taken made order are h g = (taken, refl, ap (λ (o : Option World). option_and_then (λ (x : World). next x other) o) (sym g) ∙ h)

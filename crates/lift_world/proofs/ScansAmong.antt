@@ -32,7 +32,7 @@ use Rattle.lift_world.proofs.Ahead.{decided_on, passes, flusher_passes_seals}
 use Rattle.lift_world.proofs.Relay.{seals_scan, sealed_scan}
 use Rattle.lift_world.proofs.Interleaved.{Untouched, untouched, pulls_some}
 
--- behind what was decided terminals and the flusher go on as before it
+-- after what was decided terminals and the flusher go on as before it
 module _ (w : World) (state : State) (more : List Taken) where
   abbrev behind : World → World
   behind x = decided_on x state more
@@ -53,7 +53,7 @@ module _ (w : World) (state : State) (more : List Taken) where
   passes_decided (Cut kept) order is = absurd (false≢true is)
   passes_decided (Reopen kept) order is = absurd (false≢true is)
 
--- and behind a seal
+-- and after a seal
 seal_passes : (w : World) (event : Event) (after : World) → IsTrue (is_flushers event) → next w event ≡ Some after → next (sealing w) event ≡ Some (sealing after)
 seal_passes w event after is h =
     flusher_passes_seals w event is (λ pull. pulls_some w after (ap (next w) (sym pull) ∙ h)) ∙ ap (option_map sealing) h
@@ -128,7 +128,7 @@ untouched_looks : (looks : List Look) (w last : World) → LooksStand w looks la
 untouched_looks [] w last s = never_touched w last s
 untouched_looks (look ∷ looks) w last s = still_untouched w s.0 last (untouched_goes look.before w s.0 s.1 s.2) (untouched_looks looks s.0 last s.5)
 
--- behind a take the looks at other terminals stand
+-- after a take the looks at other terminals stand
 looks_behind : (command : Command) (d : Decision) (looks : List Look) (w last : World) → Ordered w → AllByRecursion (λ (c : Command). c.terminal ≢ command.terminal) (looked_commands looks)
     → LooksStand w looks last → LooksStand (deciding w command d) looks (deciding last command d)
 looks_behind command d [] w last order apart s = ap (λ (x : World). deciding x command d) s
@@ -184,7 +184,7 @@ beside_parts : (xs ys : List Event) → AreBeside (xs ++ ys) → AreBeside xs ×
 beside_parts [] ys h = (tt, h)
 beside_parts (x ∷ xs) ys h = let r = beside_parts xs ys h.1 in ((h.0, r.0), r.1)
 
--- the seal of a scan, and what comes between and behind
+-- the seal of a scan, and what comes between and after
 seal_goes : (between behind : List Event) (w last after : World) (command : Command) (commands : List Command) (reply : Reply) (replies : List Reply) (state : State) → Ordered last → Untouched w last → IsBetweenScans w
     → is_off last.power ≡ false → AreBeside (between ++ behind) → goes (between ++ behind) last ≡ Some after
     → goes (between ++ Seal ∷ behind) (scanned last (command ∷ commands) (reply ∷ replies) state) ≡ Some (allocated after (command ∷ commands) (reply ∷ replies) state)

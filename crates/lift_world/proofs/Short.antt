@@ -59,7 +59,7 @@ decided_one w command letter d made =
           omega arith)
     ]
 
--- where the first queued batch begins, and that no batch has more entries than commands; behind a fault or a cut no more than 63
+-- where the first queued batch begins, and that no batch has more entries than commands; after a fault or a cut no more than 63
 pub record Counts (accepted safe sealed : ℕ) (flight : SealedBatch) (phase : Phase) (queue : List SealedBatch) (power : Power) (taken : List Taken) : Type 0 where
   pub flying : flight.upto ≤ safe + 63
   pub begins : ℕ
@@ -219,7 +219,7 @@ all_push : {A : Type 0} (P : A → Type 0) (xs : List A) (x : A) → AllByRecurs
 all_push P [] x all one = (one, tt)
 all_push P (y ∷ xs) x all one = (all.0, all_push P xs x all.1 one)
 
--- event by event, since each step reads how many commands are on their way before it
+-- event by event, because each step reads how many commands are on their way before it
 run_counts : (building : Plan) (base : RegisterState) (before events : List Event) → AllByRecursion IsOfTerminal before → AllByRecursion IsOfTerminal events
     → AreFew (run before (start building base)) → AreFew (run events (run before (start building base)))
 run_counts building base before [] done to_come k = k

@@ -78,7 +78,7 @@ module _ (w : World) (terminal : ℕ) (command : Command) (hears : HearsInOrder 
       ∙ ap (λ (b : Bool). filter (asks terminal) w.asked ++ cond b (other ∷ []) []) (ne_eqb other.terminal terminal (λ e. apart (sym e))) ∙ append-nil (filter (asks terminal) w.asked) in
       record { powered = k.powered; asks_more = omega arith; asked_last = same_last (asks terminal) (w.asked ++ other ∷ []) w.asked same ∙ k.asked_last }
 
-  -- nor is it answered, since nothing of it is due
+  -- nor is it answered, because nothing of it is due
   other_answered : (t : ℕ) (c : Taken) → find (is_taken_of t) w.due ≡ Some c → Words terminal command (answering w t c)
   other_answered t c at =
       let none = nothing_owed in

@@ -35,7 +35,7 @@ module _ (w : World) (on : is_running w.power ≡ true) where
   folded zero events = refl
   folded (suc folds) events = one Fold (replicate folds Fold ++ events) (in_phase w (Writing 0)) (in_phase w (Writing 0)) (may (is_running w.power) true _ on refl) ∙ folded folds events
 
-  -- so many writes, from some on
+  -- this many writes, from some on
   wrote : (n m : ℕ) (events : List Event) → m + n ≤ sectors_for_body (length (batch_in_flight w)) + 1 → goes (replicate n BodyWrite ++ events) (in_phase w (Writing m)) ≡ goes events (in_phase w (Writing (m + n)))
   wrote zero m events le = ap (λ (k : ℕ). goes events (in_phase w (Writing k))) (omega arith)
   wrote (suc n) m events le =

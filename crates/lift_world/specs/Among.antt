@@ -42,7 +42,7 @@ FlusherMightComeFirst w = (events : List Event) (after : World) → IsQueueInOrd
     → count_by is_pull events ≤ length w.queue → goes events w ≡ Some after
     → goes (flushers_part events ++ others_part events) w ≡ Some after
 
--- Others' events come among the flusher's: each is possible where it stands, behind all that came
+-- Others' events come among the flusher's: each is possible where it stands, after all that came
 -- before it.
 abbrev pub StandAmong : World → List Event → Type 0
 StandAmong w [] = Unit {0}
@@ -135,7 +135,7 @@ look_events (look ∷ looks) [] = []
 look_events (look ∷ looks) (letter ∷ letters) =
     look.before ++ Take look.command.terminal letter ∷ look_events looks letters
 
--- A scan among others' events, some before and between its looks and some behind them. Each take is
+-- A scan among others' events, some before and between its looks and some after them. Each take is
 -- possible in its place, with some letter, and all of it leaves what the others' events alone
 -- leave, with what was decided: so a terminal may be answered, hear and ask again until it is
 -- looked at.
@@ -149,7 +149,7 @@ ScansGoAmong w = (looks : List Look) (replies : List Reply) (state : State) (las
     ≡ Some (scanned after (looked_commands looks) replies state))
 
 -- An allocator's turn among others' events, some of them between its looks and its seal and some
--- behind that. There the flusher goes on with the batches queued before; from the world left here
+-- after that. There the flusher goes on with the batches queued before; from the world left here
 -- on the new one is queued as they were.
 abbrev pub AllocationsGoAmong : World → Type 0
 AllocationsGoAmong w = (look : Look) (looks : List Look) (reply : Reply) (replies : List Reply)

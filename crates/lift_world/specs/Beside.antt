@@ -57,7 +57,7 @@ StandBeside w asked heard (event ∷ events) =
     StandBeside (unwrap_or (next w event) w) asked heard events
 
 -- So stands whatever a terminal can do now, and whatever the controller does but a cut, however many
--- events stand behind it.
+-- events stand after it.
 pub record TerminalsStandBeside (w : World) : Type 0 where
   pub takes_on : (asked : List Command) (heard : List Answer) (terminal : ℕ) (letter : Option ℕ)
       (events : List Event) → filter (asks terminal) asked ≡ filter (asks terminal) w.asked

@@ -28,7 +28,7 @@ with_new_stop state terminal number floor dir =
     if is_new state terminal number then accepting state
     (Stopping terminal number floor dir) else state
 
--- the decision's reply, its entry behind the batch, and its register and positions; or nothing,
+-- the decision's reply, its entry after the batch, and its register and positions; or nothing,
 -- where there is none
 abbrev pub CarriesDecision : Option Decision → RegisterState → List (Option Position) → List Entry
     → Option Decided → RegisterState → List (Option Position) → Type 0

@@ -206,7 +206,7 @@ reopened w kept = record w {
 -- The world after an event, where it is possible. A checkpoint's call changes nothing: it copies
 -- what is safe into the other half, and at each of its calls either half that may be picked reads
 -- as the register of the safe list. So whatever a cut or a fault leaves of it, the outcomes are
--- those of the batch behind it, of which nothing is written.
+-- those of the batch after it, of which nothing is written.
 abbrev pub next : World → Event → Option World
 next w (Ask terminal number body) =
     when (may_ask w terminal)

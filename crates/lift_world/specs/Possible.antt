@@ -234,8 +234,8 @@ abbrev pub AnswersOnlyDue : World → Type 0
 AnswersOnlyDue w = (terminal : ℕ) (after : World) → next w (Answering terminal) ≡ Some after
     → IsAnswerDue w terminal after
 
--- the header and the records of a batch, sixteen bytes each, take so many sectors of 512 bytes, and
--- none of these is empty
+-- the header and the records of a batch, sixteen bytes each, take this many sectors of 512 bytes,
+-- and none of these is empty
 pub record FillsSectors (count : ℕ) : Type 0 where
   pub enough : 16 * (1 + count) ≤ 512 * sectors_for_body count
   pub none_empty : 512 * sectors_for_body count < 16 * (1 + count) + 512

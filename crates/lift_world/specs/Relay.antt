@@ -28,7 +28,7 @@ abbrev pub AreApart : List Taken → Type 0
 AreApart [] = Unit {0}
 AreApart (c ∷ cs) = AllByRecursion (λ (d : Taken). d.terminal ≢ c.terminal) cs × AreApart cs
 
--- batches end one behind the other, from here to there
+-- batches end one after the other, from here to there
 abbrev pub EndInOrder : ℕ → List SealedBatch → ℕ → Type 0
 EndInOrder low [] high = low ≤ high
 EndInOrder low (batch ∷ queue) high = (low ≤ batch.upto) × EndInOrder batch.upto queue high
@@ -107,13 +107,13 @@ answered_of gave commands = filter (λ (c : Taken). gave c.terminal) commands
 abbrev pub left_unanswered : (ℕ → Bool) → List Taken → List Taken
 left_unanswered gave commands = filter (λ (c : Taken). not (gave c.terminal)) commands
 
--- a flusher's turn: the first batch of the queue, with so many entries, is made safe, and those of
--- its commands are answered whose asks its look gave
+-- a flusher's turn: the first batch of the queue, with this many entries, is made safe, and those
+-- of its commands are answered whose asks its look gave
 abbrev pub flusher_events : (ℕ → Bool) → SealedBatch → ℕ → ℕ → List Event
 flusher_events gave batch folds count =
     Pull ∷ (device_calls folds count ++ events_of_answers (answered_of gave batch.commands))
 
--- the world after it: what isn't answered is due behind what was due before
+-- the world after it: what isn't answered is due after what was due before
 abbrev pub flushed : World → (ℕ → Bool) → SealedBatch → List SealedBatch → World
 flushed w gave batch rest = record w {
   safe = batch.upto;
@@ -218,7 +218,7 @@ is_flushers (Answer terminal) = true
 is_flushers Fault = true
 is_flushers event = false
 
--- The flusher works on in the midst of a scan: behind a decision its events are possible just where
+-- The flusher works on within a scan: after a decision its events are possible just where
 -- they are before it, and leave the same but for what was decided.
 abbrev pub FlusherPassesScans : World → Type 0
 FlusherPassesScans w = (command : Command) (decision : Decision) (event : Event) → IsQueueInOrder w
@@ -234,7 +234,7 @@ FlusherComesFirst w = (terminal : ℕ) (letter : Option ℕ) (event : Event) (ta
     → (before : World) × (next w event ≡ Some before)
     × (next before (Take terminal letter) ≡ Some later)
 
--- It works on behind a seal too. But for the pull of the batch that was sealed there, its events
+-- It works on after a seal too. But for the pull of the batch that was sealed there, its events
 -- are possible just where they are before the seal, and leave the same but for what was sealed.
 abbrev pub FlusherPassesSeals : World → Type 0
 FlusherPassesSeals w = (event : Event) → IsTrue (is_flushers event) → (event ≡ Pull → w.queue ≢ [])

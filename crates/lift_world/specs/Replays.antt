@@ -65,7 +65,7 @@ MovesTo (Some w) old possible new = (possible ≡ true) × (new ≡ w)
 abbrev pub Moves : World → Event → Bool → World → Type 0
 Moves old event possible new = MovesTo (next old event) old possible new
 
--- Where memory may be wanting: only where the event is possible. The device's calls before the
+-- Where memory may run out: only where the event is possible. The device's calls before the
 -- second sync and a cut want none.
 abbrev pub MayWant : World → Event → Type 0
 MayWant w (Ask terminal number body) = IsSome (next w (Ask terminal number body))
@@ -83,7 +83,7 @@ MayWant w Fault = IsSome (next w Fault)
 MayWant w (Cut kept) = ⊥
 MayWant w (Reopen kept) = IsSome (next w (Reopen kept))
 
--- What one step answers and leaves: what the event comes to, or a want of memory, which changes
+-- What one step answers and leaves: what the event comes to, or that memory ran out, which changes
 -- nothing and is where it may be.
 pub record Steps (old : World) (event : Event) (result : Result Bool Memory)
     (new : World) : Type 0 where

@@ -11,8 +11,8 @@ AreShort low (batch ∷ queue) = (batch.upto ≤ low + 63) × AreShort batch.upt
 -- The batch in flight or in doubt has at most 63 entries, and so has the one that is being
 -- gathered. While running the first queued one begins where the batch in flight ends, so that each
 -- queued one has at most 63 too. A fault leaves batches out of the queue, and then the world
--- doesn't hold where the first one begins: only that some place at or behind the end of the batch
--- in doubt lies at most 63 before its end, which bounds no count of its entries; each one behind it
+-- doesn't hold where the first one begins: only that some place at or after the end of the batch
+-- in doubt lies at most 63 before its end, which bounds no count of its entries; each one after it
 -- has at most 63.
 pub record HoldsFewEntries (w : World) : Type 0 where
   pub flying : length (batch_in_flight w) ≤ 63

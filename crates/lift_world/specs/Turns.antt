@@ -88,14 +88,14 @@ pub record IsFresh (building : Plan) (base : RegisterState) (w : World) : Type 0
   pub nothing_heard : w.heard ≡ []
   pub nothing_given : w.given ≡ []
 
--- the device calls of a batch up to a phase, where it has so many writes before its first sync
+-- the device calls of a batch up to a phase, where it has this many writes before its first sync
 abbrev pub calls_to : ℕ → Phase → List Event
 calls_to writes Idle = []
 calls_to writes (Writing n) = replicate n BodyWrite
 calls_to writes Synced = replicate writes BodyWrite ++ FirstSync ∷ []
 calls_to writes GateWritten = replicate writes BodyWrite ++ FirstSync ∷ Gate ∷ []
 
--- all device calls of a batch with so many entries, after those of a checkpoint; a batch without
+-- all device calls of a batch with this many entries, after those of a checkpoint; a batch without
 -- entries has none
 abbrev pub device_calls : ℕ → ℕ → List Event
 device_calls folds count =
@@ -192,7 +192,7 @@ broken_events commands letters =
 abbrev pub with_unknown : List Command → List Taken
 with_unknown commands = with_replies commands (unknowns commands)
 
--- the world after it: each command is answered Unknown, and what was decided stands behind the
+-- the world after it: each command is answered Unknown, and what was decided stands after the
 -- batch in doubt, where it never gets to the disk
 abbrev pub turned_broken : World → List Command → State → World
 turned_broken w commands state = record w {

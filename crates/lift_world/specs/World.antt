@@ -36,7 +36,7 @@ pub record World : Type 0 where
   pub sealed : ℕ  -- how many of them are in sealed batches
   pub flight : SealedBatch  -- the batch in flight, or in doubt
   pub phase : Phase  -- how far it is
-  pub queue : List SealedBatch  -- the sealed batches behind it, the next one first
+  pub queue : List SealedBatch  -- the sealed batches after it, the next one first
   pub power : Power
   pub positions : List (Option Position)
   pub taken : List Taken  -- taken and not sealed

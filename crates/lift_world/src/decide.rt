@@ -8,7 +8,7 @@ ghost use Rattle.lift_policy.specs.Eligible.{eligible_cars};
 ghost use Rattle.lift_world.specs.Carries.{IsCauseOf, StopJoins, CarriesOut, policy_sees};
 ghost use Rattle.lift_world.specs.Decided.{kept_letter, is_among};
 
-use lift_base::{Body, Content, Entry, Letter, Position, Reason, Reply};
+use lift_base::{Body, Content, Entry, Letter, MOST_CARS, Position, Reason, Reply};
 use lift_building::Building;
 use lift_cost::NewCall;
 use lift_policy::{
@@ -27,7 +27,7 @@ pub struct Decided {
 fn cause_of(
     building: &Building,
     register: &Register,
-    positions: &[Option<Position>; 16],
+    positions: &[Option<Position>; MOST_CARS],
     command: &Command,
 ) -> Option<Reason>
     ensures { IsCauseOf building.now register.now positions.now command.now result }
@@ -42,7 +42,7 @@ fn cause_of(
 fn is_eligible(
     building: &Building,
     register: &Register,
-    positions: &[Option<Position>; 16],
+    positions: &[Option<Position>; MOST_CARS],
     call: &NewCall,
     car: Letter,
 ) -> bool
@@ -63,7 +63,7 @@ fn told(reply: Reply) -> Option<Decided>
 fn allot(
     building: &Building,
     register: &mut Register,
-    positions: &[Option<Position>; 16],
+    positions: &[Option<Position>; MOST_CARS],
     command: &Command,
     car: Letter,
 ) -> Option<Decided>
@@ -112,7 +112,7 @@ fn repeat(register: &Register, command: &Command) -> Option<Decided>
 fn join(
     building: &Building,
     register: &mut Register,
-    positions: &[Option<Position>; 16],
+    positions: &[Option<Position>; MOST_CARS],
     command: &Command,
     car: Letter,
     at: &Position,
@@ -141,7 +141,7 @@ fn join(
 fn stop(
     building: &Building,
     register: &mut Register,
-    positions: &mut [Option<Position>; 16],
+    positions: &mut [Option<Position>; MOST_CARS],
     command: &Command,
     at: &Position,
 ) -> Option<Decided>
@@ -163,7 +163,7 @@ fn stop(
 /// The car stands there.
 fn place(
     register: &Register,
-    positions: &mut [Option<Position>; 16],
+    positions: &mut [Option<Position>; MOST_CARS],
     car: Letter,
     at: &Position,
 ) -> Reply
@@ -179,7 +179,7 @@ fn place(
 fn proceed(
     building: &Building,
     register: &mut Register,
-    positions: &mut [Option<Position>; 16],
+    positions: &mut [Option<Position>; MOST_CARS],
     command: &Command,
 ) -> Option<Decided>
     requires clear { IsCauseOf building.now register.old positions.old command.now None }
@@ -207,7 +207,7 @@ fn proceed(
 pub fn decide(
     building: &Building,
     register: &mut Register,
-    positions: &mut [Option<Position>; 16],
+    positions: &mut [Option<Position>; MOST_CARS],
     command: &Command,
     letter: Option<Letter>,
 ) -> Option<Decided>

@@ -50,7 +50,7 @@ pub enum Event {
 pub enum Phase {
     /// There is none.
     Idle,
-    /// So many of its body sectors and of the gate after it are written.
+    /// This many of its body sectors and of the gate after it are written.
     Writing(u8),
     /// These are synced.
     Synced,

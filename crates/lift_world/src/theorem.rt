@@ -132,7 +132,7 @@ pub fn outcomes_move()
 /// any device call fails and one after that, are lists of events, whichever asks the flusher's own
 /// look gives: what it doesn't give stays due. With the queue full nothing is taken. Each ends
 /// where the next one begins; a split of a clerk at rest and a rejoining with nothing queued keep
-/// the world. What the flusher does behind a take it might have done before it, and behind a seal
+/// the world. What the flusher does after a take it might have done before it, and after a seal
 /// it leaves what it leaves before it, but for what was sealed.
 pub fn relays_are_events()
     ensures { (w : World) → RelaysAreEvents w }
@@ -160,7 +160,7 @@ pub fn parts_stay()
 {}
 
 /// What terminals do at other moments passes through. Wherever asks and hears come among the events
-/// of a turn or of a reopening, before, between and behind them, all of it is possible, and it
+/// of a turn or of a reopening, before, between and after them, all of it is possible, and it
 /// leaves what the controller's events leave and then the terminals'. A list of possible events is
 /// a run, of which all of the above holds.
 pub fn terminals_pass()

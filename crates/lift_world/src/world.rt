@@ -18,7 +18,9 @@ use crate::lists::{
     add_due, add_unknown, answer_after, count_answers, count_asks, drop_taken, is_taken, last_ask,
     reserve_both, taken_of,
 };
-use lift_base::{Body, Entry, Letter, Memory, Number, Position, Terminal, push, reserve_one};
+use lift_base::{
+    Body, Entry, Letter, MOST_CARS, Memory, Number, Position, Terminal, push, reserve_one,
+};
 use lift_building::Building;
 use lift_policy::Command;
 use lift_register::Register;
@@ -71,7 +73,7 @@ pub struct World<'b> {
     phase: Phase,
     queue: Vec<Sealed>,
     power: Power,
-    positions: [Option<Position>; 16],
+    positions: [Option<Position>; MOST_CARS],
     taken: Vec<Taken>,
     due: Vec<Taken>,
     asked: Vec<Command>,
@@ -95,10 +97,10 @@ impl<'b> Model for World<'b> {
 }
 
 /// No car has told its position.
-fn unplaced() -> [Option<Position>; 16]
+fn unplaced() -> [Option<Position>; MOST_CARS]
     ensures { result ≡ unplaced }
 {
-    [None; 16]
+    [None; MOST_CARS]
 }
 
 /// The sectors that a batch's body takes.
@@ -164,7 +166,7 @@ impl<'b> World<'b> {
     ghost use Rattle.lift_world.specs.Replays.{Moves, MovesTo, Steps};
     ghost use Rattle.lift_world.specs.declared.event.Event.{Event};
 
-    /// A fresh group over an empty journal, with so many sectors in each of its halves. A
+    /// A fresh group over an empty journal, with this many sectors in each of its halves. A
     /// checkpoint makes room wherever a half has none, so no event depends on that number. It takes
     /// no memory yet, so it never answers `Memory`.
     pub fn new(alloc: Global, building: &'b Building, half: u32) -> Result<World<'b>, Memory>
@@ -186,7 +188,7 @@ impl<'b> World<'b> {
             phase: Phase::Idle,
             queue: Vec::new(alloc),
             power: Power::Running,
-            positions: [None; 16],
+            positions: [None; MOST_CARS],
             taken: Vec::new(alloc),
             due: Vec::new(alloc),
             asked: Vec::new(alloc),
@@ -224,7 +226,7 @@ impl<'b> World<'b> {
         self.power
     }
 
-    /// How many sealed batches wait behind the one in flight.
+    /// How many sealed batches wait after the one in flight.
     pub fn queued(&self) -> usize
         ensures { result ≡ length self.now.queue }
     {
@@ -605,9 +607,9 @@ impl<'b> World<'b> {
         Ok(true)
     }
 
-    /// One event. False where it isn't possible, and then, as for want of memory, nothing changed.
-    /// Memory is wanted neither by the device's calls before the second sync nor by a cut, and by
-    /// others only where they are possible.
+    /// One event. False where it isn't possible, and then, as where memory runs out, nothing
+    /// changed. Memory is needed neither by the device's calls before the second sync nor by a cut,
+    /// and by others only where they are possible.
     pub fn step(&mut self, event: &Event) -> Result<bool, Memory>
         ensures { Steps self.old event.now result self.new }
     {

@@ -8,7 +8,7 @@ use lift_program::{Files, Given, Openers, SystemSocket, SystemTextOpener, not_gi
 use std::process::ExitCode;
 use std::{env, io};
 
-/// The words behind the program's name.
+/// The words after the program's name.
 fn given(rt: &HostRuntime) -> io::Result<Vec<String>> {
     let words = env::args(rt)?.skip(1).collect(rt.alloc())?;
     Ok(words)

@@ -96,10 +96,9 @@ impl<R: Inlet + Drop> Counted<R> {
         ensures one { IfOk result (λ count.
             R.gives self.old.reader buffer.new (Some count) self.new.reader) }
         ensures one_err { OnErr result (R.gives self.old.reader buffer.new None self.new.reader) }
-        ensures bound { IfOk result (λ count. count ≤ length buffer.new) }
         ensures same_room { length buffer.new ≡ length buffer.old }
-        ensures gives { IfOk result (λ count.
-            Consumes (R.remaining self.old.reader) (R.remaining self.new.reader)
+        ensures gives { IfOk result (λ count. (count ≤ length buffer.new)
+            × Consumes (R.remaining self.old.reader) (R.remaining self.new.reader)
             (take count buffer.new)) }
         ensures end { IfOk result (λ count. count ≡ 0 → 0 < length buffer.new
             → IsAtEnd (R.remaining self.new.reader)) }
@@ -109,9 +108,8 @@ impl<R: Inlet + Drop> Counted<R> {
             → self.new.ended ≡ self.old.ended) }
         ensures unfailed { OnOk result (self.new.failed ≡ self.old.failed) }
         ensures failed { OnErr result ((self.new.failed ≡ true)
-            × (self.new.ended ≡ self.old.ended)) }
-        ensures keeps { OnErr result
-            (Keeps (R.remaining self.old.reader) (R.remaining self.new.reader)) }
+            × (self.new.ended ≡ self.old.ended)
+            × Keeps (R.remaining self.old.reader) (R.remaining self.new.reader)) }
     {
         self.calls = ProofCount::next(&self.calls);
         match self.reader.fill(buffer) {

@@ -111,7 +111,7 @@ impl Report {
     }
 }
 
-/// The line without what stands behind a `#`, and without the spaces round it.
+/// The line without what stands after a `#`, and without the spaces round it.
 fn without_comment(line: &str) -> &str {
     match line.split_once('#') {
         Some((front, _comment)) => front.trim(),

@@ -26,7 +26,7 @@ fn turn<D: Arm>(clerk: &mut Clerk<D, Etd>) -> Result<Counts, KeeperFault> {
     clerk.turn()
 }
 
-/// Reopens the keeper on a device that fails so many calls on, or from there on.
+/// Reopens the keeper on a device that fails this many calls on, or from there on.
 fn reopen<D: Arm>(clerk: &mut Clerk<D, Etd>, calls: u32) -> Result<(), KeeperFault> {
     clerk.arm(calls);
     clerk.reopen()
@@ -78,7 +78,7 @@ fn answer_again<D: Arm>(
     group.hear(Who::Kiosk0)
 }
 
-/// How many calls are open behind the fault on this device, and what the call asked again is
+/// How many calls are open after the fault on this device, and what the call asked again is
 /// answered.
 fn comes_to<D: Arm + Drop>(
     rt: &impl Abort,
@@ -95,7 +95,7 @@ fn comes_to<D: Arm + Drop>(
     (open_calls, answer)
 }
 
-/// One device call fails: body, next gate, first sync, gate, second sync. Only behind the gate's
+/// One device call fails: body, next gate, first sync, gate, second sync. Only after the gate's
 /// write the call is in.
 #[test]
 fn one_call_fails(rt: HostRuntime) {

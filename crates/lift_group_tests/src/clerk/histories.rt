@@ -76,7 +76,7 @@ fn answer_over(
     (answer, left)
 }
 
-/// The letter that was given is given again behind each cut, and behind a second one. No car is
+/// The letter that was given is given again after each cut, and after a second one. No car is
 /// placed there, so that no new call could have one.
 #[test]
 fn letters_stand_behind_cuts(rt: HostRuntime) {

@@ -1,5 +1,5 @@
 //! Commits that are stopped, with and without a checkpoint before the batch, and the openings
-//! behind them.
+//! after them.
 use crate::faults::failing::{CUTS, Failing, Failures, NEVER, cut};
 use crate::faults::tally::Tally;
 use crate::faults::work::{
@@ -60,7 +60,7 @@ pub(crate) fn commit_failing<D: Failing>(
     keeper.commit()
 }
 
-/// A reopening whose device is armed with so many calls.
+/// A reopening whose device is armed with this many calls.
 fn reopen<D: Failing>(keeper: &mut Keeper<D>, armed: u32) -> Result<(), KeeperFault> {
     keeper.arm(armed);
     keeper.reopen()
@@ -165,7 +165,7 @@ fn is_first(rows: &[Row]) -> bool {
     rows.len() >= 1 && rows[0].to == floor(5) && !rows[0].aboard
 }
 
-/// Whether the register shows what was told before, and so many calls of kiosk 0.
+/// Whether the register shows what was told before, and this many calls of kiosk 0.
 fn has_calls(register: &Register, work: &Work, calls: u32) -> bool {
     let rows = register.open_rows(Letter::default());
     rows.len() == calls as usize
@@ -220,7 +220,7 @@ fn stops<D: Failing>(tally: &mut Tally, keeper: &mut Keeper<D>, work: &Work, cal
     tally.want((commit(keeper) == Err(BROKEN)) == (call <= work.calls));
 }
 
-/// The recovery behind it, whose calls fail too.
+/// The recovery after it, whose calls fail too.
 fn recover<'b, D: Failing + Drop>(
     rt: &impl Abort,
     tally: &mut Tally,
@@ -263,7 +263,7 @@ fn stop_at<R: Abort, D: Failing + Drop>(
     );
 }
 
-/// Each call of the recovery fails in turn, and none where it is one behind the last. Behind the
+/// Each call of the recovery fails in turn, and none where it is one after the last. After the
 /// first of them, the sync, loose sectors end in each way.
 fn stop_recoveries<R: Abort, D: Failing + Drop>(
     rt: &R,
@@ -279,7 +279,7 @@ fn stop_recoveries<R: Abort, D: Failing + Drop>(
     }
 }
 
-/// Each call of the device fails in turn, and none where it is one behind the last; loose sectors
+/// Each call of the device fails in turn, and none where it is one after the last; loose sectors
 /// end in each way.
 fn stop_all<R: Abort, D: Failing + Drop>(
     rt: &R,

@@ -53,7 +53,7 @@ impl Failing for FlakyDisk {
 }
 
 /// The calls of the device that are the first to fail, in the work and in the recovery, counted
-/// from 1, and how the power is cut behind each of these failures, if it is.
+/// from 1, and how the power is cut after each of these failures, if it is.
 #[derive(Clone, Copy)]
 pub(crate) struct Failures {
     pub(crate) work: u32,
@@ -74,7 +74,7 @@ impl Failures {
         }
     }
 
-    /// The same with a recovery that fails, at a place in the list of its calls: behind the first
+    /// The same with a recovery that fails, at a place in the list of its calls: after the first
     /// of them, the sync, loose sectors end in each way.
     pub(crate) fn with_recovery(&self, place: u32) -> Self {
         Failures {
@@ -94,7 +94,7 @@ impl Failures {
         }
     }
 
-    /// Whether the batch is in behind the recovery, for work of so many calls: the last but one
+    /// Whether the batch is in after the recovery, for work of this many calls: the last but one
     /// writes its gate, and the last one syncs it.
     pub(crate) fn is_in(&self, calls: u32) -> bool {
         self.work > calls
@@ -106,7 +106,7 @@ impl Failures {
     }
 }
 
-/// The device behind a power cut, if there is one; no call of it fails then.
+/// The device after a power cut, if there is one; no call of it fails then.
 pub(crate) fn cut<D: Failing + Drop>(device: D, outcome: Option<Outcome>) -> D {
     let Some(outcome) = outcome else {
         let mut device = device;

@@ -25,7 +25,7 @@ const BATCHES: u32 = 3;
 const CALLS: u32 = 5;
 
 /// How the batches are stopped: which call of the device fails, counted from 0, and how the power
-/// is cut behind it, if it is.
+/// is cut after it, if it is.
 #[derive(Clone, Copy)]
 struct Stopped {
     place: u32,
@@ -58,7 +58,7 @@ impl Stopped {
         }
     }
 
-    /// Whether the batch is in behind the recovery.
+    /// Whether the batch is in after the recovery.
     fn is_in(&self, batch: u32) -> bool {
         let failures = Failures {
             work: (self.place % CALLS).wrapping_add(1),
@@ -134,7 +134,7 @@ fn go_on_here<D: Failing>(
     go_on(tally, group, clerk, stopped);
 }
 
-/// The recovery at a new desk, behind the power cut.
+/// The recovery at a new desk, after the power cut.
 fn go_on_over<D: Failing + Drop>(
     rt: &impl Abort,
     alloc: Global,
@@ -203,7 +203,7 @@ fn stop_at<R: Wait + Abort, D: Failing + Drop>(
     go_on_over(rt, alloc, tally, device, stopped);
 }
 
-/// Each of the calls fails in turn, and none where it is one behind the last; loose sectors end in
+/// Each of the calls fails in turn, and none where it is one after the last; loose sectors end in
 /// each way.
 fn stop_all<R: Wait + Abort, D: Failing + Drop>(rt: &R, alloc: Global, tally: &mut Tally) {
     for place in 0..BATCHES * CALLS + 1 {

@@ -1,5 +1,5 @@
 //! Turns that are stopped, of a clerk and of its two parts, with and without a checkpoint before
-//! the batch, and the recoveries behind them: by reopening at the same desk, or behind a power cut
+//! the batch, and the recoveries after them: by reopening at the same desk, or after a power cut
 //! at a new one.
 use crate::faults::commits::open_failing;
 use crate::faults::failing::{Failing, Failures, NEVER, cut};
@@ -34,7 +34,7 @@ impl Case<'_> {
         self.failures.work <= self.work.calls
     }
 
-    /// Whether the call is in behind the recovery.
+    /// Whether the call is in after the recovery.
     fn is_in(&self) -> bool {
         self.failures.is_in(self.work.calls)
     }
@@ -93,7 +93,7 @@ fn turn<D: Failing>(clerk: &mut Clerk<D, Etd>) -> Result<Counts, KeeperFault> {
     clerk.turn()
 }
 
-/// A reopening whose device is armed with so many calls.
+/// A reopening whose device is armed with this many calls.
 pub(crate) fn reopen<D: Failing>(clerk: &mut Clerk<D, Etd>, armed: u32) -> Result<(), KeeperFault> {
     clerk.arm(armed);
     clerk.reopen()
@@ -112,7 +112,7 @@ pub(crate) fn asks<D: Failing>(
     group.hear(who)
 }
 
-/// So many stops of car A, and kiosk 0's first call, each in a batch of its own: the letter was
+/// This many stops of car A, and kiosk 0's first call, each in a batch of its own: the letter was
 /// heard.
 pub(crate) fn begin<D: Failing>(
     tally: &mut Tally,
@@ -217,7 +217,7 @@ fn go_on_here<D: Failing>(
     go_on(tally, group, clerk, case.is_in());
 }
 
-/// The clerk behind one turn of each part, the allocator's first, and what they come to: what was
+/// The clerk after one turn of each part, the allocator's first, and what they come to: what was
 /// taken, where all of it was made safe and answered.
 fn turn_parts<'a, R: Wait + Abort, D: Failing + Drop>(
     rt: &R,
@@ -236,7 +236,7 @@ fn turn_parts<'a, R: Wait + Abort, D: Failing + Drop>(
     (parts.joined(rt), answer)
 }
 
-/// The clerk behind its turn, or behind that of both its parts, and what it comes to.
+/// The clerk after its turn, or after that of both its parts, and what it comes to.
 fn turned<'a, R: Wait + Abort, D: Failing + Drop>(
     rt: &R,
     alloc: Global,
@@ -292,7 +292,7 @@ fn stop_at<R: Wait + Abort, D: Failing + Drop>(
     go_on_over(rt, alloc, tally, device, case.is_in());
 }
 
-/// Each call of the recovery fails in turn, and none where it is one behind the last. Behind the
+/// Each call of the recovery fails in turn, and none where it is one after the last. After the
 /// first of them, the sync, loose sectors end in each way.
 fn stop_recoveries<R: Wait + Abort, D: Failing + Drop>(
     rt: &R,
@@ -308,7 +308,7 @@ fn stop_recoveries<R: Wait + Abort, D: Failing + Drop>(
     }
 }
 
-/// Each call of the device in this work's turn fails in turn, and none where it is one behind the
+/// Each call of the device in this work's turn fails in turn, and none where it is one after the
 /// last; loose sectors end in each way.
 fn stop_work<R: Wait + Abort, D: Failing + Drop>(
     rt: &R,

@@ -118,7 +118,7 @@ fn stop_at<R: Abort, D: Failing + Drop>(
     tally.want(is_new(&mut keeper.into_disk().into_memory()));
 }
 
-/// Each of the calls fails in turn, and none where it is one behind the last; loose sectors end in
+/// Each of the calls fails in turn, and none where it is one after the last; loose sectors end in
 /// each way.
 fn stop_all<R: Abort, D: Failing + Drop>(
     rt: &R,

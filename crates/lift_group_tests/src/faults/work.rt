@@ -31,7 +31,7 @@ pub(crate) fn next_stop() -> Stop {
     }
 }
 
-/// A commit of one batch, behind so many stops of car A, each in a batch of its own.
+/// A commit of one batch, after this many stops of car A, each in a batch of its own.
 #[derive(Clone, Copy)]
 pub(crate) struct Work {
     pub(crate) stops: u32,
@@ -43,7 +43,7 @@ pub(crate) struct Work {
 }
 
 impl Work {
-    /// How many calls an opening makes behind these first failures: the sync, the stamp, the pick,
+    /// How many calls an opening makes after these first failures: the sync, the stamp, the pick,
     /// two sectors for each batch, and the closing gate. The half that a checkpoint begins has one
     /// batch.
     pub(crate) fn calls_of_opening(&self, first: &Failures) -> u32 {
@@ -65,7 +65,7 @@ pub(crate) const APPENDED: Work = Work {
     calls_of_checkpoint: 0,
 };
 
-/// The 32nd batch, behind a checkpoint: body, gate, closing gate, sync, pick, sync.
+/// The 32nd batch, after a checkpoint: body, gate, closing gate, sync, pick, sync.
 pub(crate) const CHECKPOINTED: Work = Work {
     stops: 30,
     calls: 11,

@@ -119,7 +119,7 @@ fn turns<'d, 'b, D: Disk, P: Policy + Drop>(
     clerk
 }
 
-/// Goes on until both kiosks have ended, as each does behind its last look.
+/// Goes on until both kiosks have ended, as each does after its last look.
 #[derive(Drop)]
 struct UntilBothEnd<'a> {
     heard: &'a AtomicU64,

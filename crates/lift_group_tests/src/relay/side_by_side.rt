@@ -42,7 +42,7 @@ impl Shared {
         }
     }
 
-    /// Waits until the policy was asked so often, for so many looks. Whether it was.
+    /// Waits until the policy was asked so often, for this many looks. Whether it was.
     fn was_asked(&self, times: u64) -> bool {
         for _ in 0..LIMIT {
             if self.asked.load(Ordering::SeqCst) >= times {
@@ -54,7 +54,7 @@ impl Shared {
     }
 
     /// Holds a sync, if it is armed, until the policy was asked twice. True where it wasn't within
-    /// so many looks.
+    /// this many looks.
     fn is_held_in_vain(&self) -> bool {
         if self.armed.swap(0, Ordering::SeqCst) != 1 {
             return false;
@@ -90,7 +90,7 @@ impl<'a> Policy for Counting<'a> {
 }
 
 /// Once armed it holds the next sync of a device in memory until a policy was asked twice, and
-/// fails it after so many looks.
+/// fails it after this many looks.
 #[derive(Drop)]
 struct Holding<'a> {
     inner: MemDisk,
@@ -153,7 +153,7 @@ impl<'a> Open<'a> {
         }
     }
 
-    /// Whether it was last told of so many batches, sent and flushed.
+    /// Whether it was last told of this many batches, sent and flushed.
     fn was_told_of(&self, batches: u64) -> bool {
         self.sent.load(Ordering::SeqCst) == batches
             && self.flushed.load(Ordering::SeqCst) == batches

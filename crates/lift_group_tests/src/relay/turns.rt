@@ -255,7 +255,7 @@ fn drains<R: Threads + Wait + Abort + Sync>(rt: &R, alloc: Global, drain: Drain)
 }
 
 /// A run through a gate that is closed turns nothing, and drains what is in hand and in the line.
-/// What the parts tell each other before it changes nothing. Behind a fault it goes on, and tells
+/// What the parts tell each other before it changes nothing. After a fault it goes on, and tells
 /// the first one.
 #[test]
 fn a_closed_gate_drains(rt: HostRuntime) {
@@ -299,7 +299,7 @@ impl<'a> Gate for UntilTold<'a> {
     }
 }
 
-/// The fourth of five batches fails, and the fifth behind it. The witness is told of that once, and
+/// The fourth of five batches fails, and the fifth after it. The witness is told of that once, and
 /// at once: the gate stays open until then.
 #[test]
 fn a_witness_is_told_while_the_run_goes_on(rt: HostRuntime) {

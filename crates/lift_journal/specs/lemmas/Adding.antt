@@ -36,7 +36,7 @@ cursor_stays batches batch cursor within = record {
   behind = within.behind ∙ ap used (sym (take-append-le cursor.given batches (batch ∷ []) within.inside));
 }
 
--- more records behind those that an image reads as
+-- more records after those that an image reads as
 pub reads_more : (shape : Shape) (base entries records : List Record) (old new : Image) (found : ReadsAs shape base entries old) → All IsEntry records
     → Holds shape (found.batches ++ new_batch records ∷ []) new → ReadsAs shape base (entries ++ records) new
 reads_more shape base entries records old new found kinds holds = record {

@@ -1,4 +1,4 @@
--- Chains of batches, and which changes of an image they bear.
+-- Chains of batches, and which changes of an image leave them.
 use Rattle.std.proofs.Common.{◌≡◌, ◌⊎◌, ◌<◌, ◌≤◌, ◌+◌, ◌*◌, inl, inr, ℕ, zero, suc, Bool, true}
 use Rattle.std.proofs.Common.{false, List, [], ◌∷◌, ◌++◌, length, take, drop, slice_get, Some}
 use Rattle.std.proofs.Common.{unwrap_or, refl, sym, ◌∙◌, ap, subst, arith, add-zero, length-drop}
@@ -26,7 +26,7 @@ same_first n (gate ∷ rest) [] same end = absurd (cc same)
 same_first n (gate ∷ rest) (first ∷ others) same end = let e : first ≡ gate = cc same in
     subst IsClosed (sym e) end
 
--- Where the front stays as it is, other batches may stand behind it.
+-- Where the front stays as it is, other batches may stand after it.
 pub chain_front : (batches more : List Batch) (number : ℕ) (old new : Image)
     → IsChain batches number old → take (used batches) new ≡ take (used batches) old
     → IsChain more (number + length batches) (drop (used batches) new)
@@ -56,7 +56,7 @@ chain_front (batch ∷ batches) more number (gate ∷ rest) (first ∷ others) c
           (drop n others) chain.2 next_same next,
     )
 
--- behind its batches a chain has a closed gate
+-- after its batches a chain has a closed gate
 pub chain_end : (batches : List Batch) (number : ℕ) (sectors : Image)
     → IsChain batches number sectors → IsChain [] 0 (drop (used batches) sectors)
 chain_end [] number sectors chain = ends_any number 0 sectors chain
@@ -104,7 +104,7 @@ tail_is half start skip image le =
     ap (λ n. drop skip (take n (drop start image))) whole ∙ drop-take skip (half - skip)
     (drop start image) ∙ ap (take (half - skip)) (drop-drop skip start image)
 
--- a gate and what stands behind it
+-- a gate and what stands after it
 pub from_gate : (count gate : ℕ) (image : Image) → gate < length image
     → take (suc count) (drop gate image) ≡ sector_at image gate ∷ take count (drop (gate + 1) image)
 from_gate count gate image within =
@@ -131,7 +131,7 @@ start_high half image = by_mark (is_marked (sector_at image 0))
     by_mark true = omega arith
     by_mark false = omega arith
 
--- Sectors from the closed gate on may change: the front stays, and other batches may stand behind
+-- Sectors from the closed gate on may change: the front stays, and other batches may stand after
 -- it.
 module _ (shape : Shape) (batches : List Batch) (old new : Image) (gate : ℕ)
     (holds : Holds shape batches old) (at : gate ≡ start_of shape.half old + used batches)
@@ -202,7 +202,7 @@ head_closed (suc count) zero (sector ∷ image) chain = chain
 head_closed (suc count) (suc gate) [] chain = absurd chain
 head_closed (suc count) (suc gate) (sector ∷ image) chain = head_closed (suc count) gate image chain
 
--- the closed gate behind its batches
+-- the closed gate after its batches
 pub gate_closed : (shape : Shape) (batches : List Batch) (image : Image) (gate : ℕ)
     → Holds shape batches image → gate ≡ start_of shape.half image + used batches
     → IsClosed (sector_at image gate)
@@ -217,7 +217,7 @@ gate_closed shape batches image gate holds at =
     (tail ∙ ap (λ n. take (shape.half - used batches) (drop n image)) (sym at)) end in
     head_closed (shape.half - used batches) gate image there
 
--- What stands behind the closed gate doesn't count.
+-- What stands after the closed gate doesn't count.
 pub holds_behind : (shape : Shape) (batches : List Batch) (old new : Image) (gate : ℕ)
     → Holds shape batches old → gate ≡ start_of shape.half old + used batches
     → ChangesWithin (IsBehind gate) old new → Holds shape batches new
@@ -230,7 +230,7 @@ holds_behind shape batches old new gate holds at within =
       others = λ i other. within.others i (λ lt. other (omega arith));
     }) closed
 
--- A batch stands behind the closed gate, and a closed gate behind it.
+-- A batch stands after the closed gate, and a closed gate after it.
 module _ (shape : Shape) (batches : List Batch) (batch : Batch) (old new : Image) (gate : ℕ)
     (prepared : IsPrepared shape batches batch gate old) (within : ChangesWithin (λ i.
     i ≡ gate) old new) where

@@ -130,7 +130,7 @@ last_push batches batch =
     ap (last_behind None) (records_push batches batch) ∙ last_join None
     (records_of batches) batch.records
 
--- An entry may follow wherever a chain may end, and a chain may end behind it.
+-- An entry may follow wherever a chain may end, and a chain may end after it.
 entry_follows : (last : Option Record) (next : Record) → MayEnd last → IsEntry next
     → MayFollow last next
 entry_follows None next may entry = tt
@@ -160,7 +160,7 @@ entries_end last [] may each = may
 entries_end last (next ∷ entries) may each =
     entries_end (Some next) entries (entry_ends next each.0) each.1
 
--- Entries of the second version may stand behind any chain.
+-- Entries of the second version may stand after any chain.
 pub sound_push : (batches : List Batch) (entries : List Record) → IsSound batches
     → All IsEntry entries → IsSound (batches ++ (record { version = Two; records = entries }) ∷ [])
 sound_push batches entries sound kinds =
@@ -184,7 +184,7 @@ pub record Parts (records : List Record) : Type 0 where
   pub is_base : AllByRecursion IsOfBase base
   pub are_entries : AllByRecursion IsEntry entries
 
--- nothing but entries may stand behind an entry or behind the count of done calls
+-- nothing but entries may stand after an entry or after the count of done calls
 only_entries : (last : Record) (records : List Record) → MayEnd (Some last)
     → IsInOrderBehind (Some last) records → AllByRecursion IsEntry records
 only_entries last [] may order = tt

@@ -74,7 +74,7 @@ none_taken gives bytes before after (Ok done) none within (calls, (made, wrote, 
     none_wrote gives made before after (subst (λ b. Wrote gives made b (length b) before after) none wrote)
 none_taken gives bytes before after (Err fault) none within told = absurd (omega (arith, within, ap length none))
 
--- the last piece was written behind what came before
+-- the last piece was written after what came before
 pub called_behind : {W T : Type 0} (gives : W → List ℕ → Option ℕ → W → Type 0) (before between after : W) (end : Result T ReplayFault) (piece : List ℕ) → (end ≡ Err Read → ⊥) → IsCalled gives before between end
     → (end ≡ Err Write → piece ≡ []) → (piece ≡ [] → after ≡ between) → TakesSomeEachCall gives between after → IsCalled gives before after end
 called_behind gives before between after (Ok value) piece other first empty idle takes = takes_more gives before between after first takes
@@ -110,7 +110,7 @@ pieces_memory gives before after piece result is takes = pieces_err gives before
 pub pieces_failed : {W T : Type 0} (gives : W → List ℕ → Option ℕ → W → Type 0) (before after : W) (piece : List ℕ) (result : Result T ReplayFault) → IsErrAnd result (λ told. told ≡ Write) → FailsAtLast gives before after → piece ≡ [] → WritesPieces gives before after piece result
 pieces_failed gives before after piece result is fails empty = pieces_err gives before after piece result Write is (λ read. cc) fails (λ write. empty)
 
--- one of such a function, behind other calls
+-- one of such a function, after other calls
 pub pieces_behind : {W T U : Type 0} (gives : W → List ℕ → Option ℕ → W → Type 0) (before between after : W) (piece : List ℕ) (result : Result T ReplayFault) (fault : ReplayFault) → IsErrAnd result (λ told. told ≡ fault) → TakesSomeEachCall gives before between
     → WritesPieces {T = U} gives between after piece (Err fault) → WritesPieces gives before after piece result
 pieces_behind gives before between after piece result fault is first writes =

@@ -18,7 +18,8 @@ struct Reading<'t> {
 }
 
 impl Reading<'_> {
-    /// Whether this call brings so many bytes of the text that is left, which is then without them.
+    /// Whether this call brings this many bytes of the text that is left, which is then without
+    /// them.
     fn brings(&mut self, buffer: &mut [u8], wanted: usize) -> bool {
         let Ok(count) = self.input.read(buffer) else {
             return false;

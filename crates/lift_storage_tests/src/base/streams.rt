@@ -13,7 +13,7 @@ pub struct Course {
     pub stop: usize,
     /// How it fails; where there is none, it moves nothing.
     pub fault: Option<ErrorKind>,
-    /// Whether the calls behind it stop too.
+    /// Whether the calls after it stop too.
     pub stays: bool,
 }
 
@@ -23,7 +23,7 @@ impl Course {
         call == self.stop || self.stays && call > self.stop
     }
 
-    /// How many of so many bytes the next call moves. It is counted.
+    /// How many of this many bytes the next call moves. It is counted.
     fn turn(&self, calls: &Cell<usize>, length: usize) -> io::Result<usize> {
         let call = calls.get();
         calls.set(call.saturating_add(1));

@@ -6,7 +6,7 @@ use std::cell::Cell;
 use std::process::Abort;
 use std::test::Fail;
 
-/// How many of so many bytes are written, and by how many calls, behind so many earlier calls.
+/// How many of this many bytes are written, and by how many calls, after this many earlier calls.
 fn outcome(course: &Course, before: usize, length: usize) -> (usize, usize) {
     let needed = length.div_ceil(course.piece.max(1));
     let good = match course.stop.checked_sub(before) {
@@ -124,7 +124,7 @@ fn put_texts(rt: &impl Abort, alloc: Global, course: Course, texts: &[&[u8]]) ->
 }
 
 /// One call of the writer after another stops, once or from then on. No call follows for that text,
-/// and the next text is tried anew.
+/// and the next text is tried again.
 #[test]
 fn writers_stop(rt: HostRuntime) -> Result<(), Fail> {
     let texts: [&[u8]; 5] = [b"", b"twenty bytes of text", b"", b"thirteen more", b"!"];

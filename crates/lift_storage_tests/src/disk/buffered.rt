@@ -40,7 +40,7 @@ fn what_is_held_back_is_read_and_then_written(rt: HostRuntime) -> Result<(), Fai
     let mut disk = Buffered::over(created(&rt, path, 40)?);
     assert!(rt; are_held_back(&mut disk) && sync(&mut disk));
     assert!(rt; is_in_file(&rt, path)? && all_come(&mut disk, &WRITTEN));
-    // cut short by another, it fails, since a read asks for the sectors behind too
+    // cut short by another, it fails, because a read asks for the sectors after it too
     fs::write(&rt, path, [1u8; 1024].as_slice())?;
     assert!(rt; get(&mut disk, 1).is_none());
     fs::remove_file(&rt, path)?;
@@ -66,7 +66,7 @@ fn has<D: Disk>(disk: &mut D, bytes: [u8; 5]) -> bool {
 }
 
 /// What is held back is read; a cut loses it, and what was written but not synced is loose; a
-/// device over what is left begins anew.
+/// device over what is left begins again.
 #[test]
 fn a_cut_loses_what_is_held_back(rt: HostRuntime) {
     for (outcome, left) in [
@@ -82,7 +82,7 @@ fn a_cut_loses_what_is_held_back(rt: HostRuntime) {
     }
 }
 
-/// Behind a sync a cut leaves all of it.
+/// After a sync a cut leaves all of it.
 #[test]
 fn a_cut_leaves_what_was_synced(rt: HostRuntime) {
     for outcome in [Outcome::Keep, Outcome::Lose, Outcome::Fill(165)] {

@@ -22,14 +22,14 @@ fn passes<D: Arm>(disk: &mut D, calls: u32, came: &[bool; 6]) -> bool {
     six_calls(disk) == *came
 }
 
-/// Whether, armed again with one call, it counts anew: of two syncs the first alone succeeds, or
-/// the second. It is never short of memory.
+/// Whether, armed again with one call, it counts from then on: of two syncs the first alone
+/// succeeds, or the second. It is never short of memory.
 fn counts_anew<D: Arm>(disk: &mut D, is_first: bool) -> bool {
     disk.arm(1);
     sync(disk) == is_first && sync(disk) != is_first && !disk.short()
 }
 
-/// A fuse passes so many calls and fails each one after these.
+/// A fuse passes this many calls and fails each one after these.
 #[test]
 fn a_fuse_passes_so_many_calls(rt: HostRuntime) {
     for (calls, came) in [

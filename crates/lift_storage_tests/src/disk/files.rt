@@ -21,7 +21,7 @@ pub(crate) fn looked_at(rt: &HostRuntime, path: &str) -> Result<HostDisk, Fail> 
     Ok(disk.ok().ok_or("the file")?)
 }
 
-/// A device on a file that is made anew.
+/// A device on a file that is made again.
 pub(crate) fn created(rt: &HostRuntime, path: &str, sectors: u32) -> Result<HostDisk, Fail> {
     let disk = FileDisk::create(SystemOpener::new(rt), path, sectors);
     Ok(disk.ok().ok_or("a file")?)
@@ -40,7 +40,7 @@ fn has_kept<D: Disk>(disk: &mut D) -> bool {
     disk.sectors() == 4 && holds(disk, [1, 0, 0, 2])
 }
 
-/// Whether a device on a file that is made anew keeps what is written.
+/// Whether a device on a file that is made again keeps what is written.
 fn is_kept(rt: &HostRuntime, path: &str) -> Result<bool, Fail> {
     fs::write(rt, path, b"something else".as_slice())?;
     Ok(keeps(&mut created(rt, path, 4)?))
@@ -108,7 +108,7 @@ fn whole_sectors_count(rt: HostRuntime) -> Result<(), Fail> {
     Ok(())
 }
 
-/// Whether a file is neither opened nor made anew while another has its lock, and is as it was.
+/// Whether a file is neither opened nor made again while another has its lock, and is as it was.
 fn is_had_once(rt: &HostRuntime, path: &str) -> Result<bool, Fail> {
     let mut first = created(rt, path, 4)?;
     let is_kept = keeps(&mut first);

@@ -20,7 +20,7 @@ fn written<R: AllocGlobal + Abort>(rt: &R) -> MemDisk {
     disk
 }
 
-/// Whether all sectors of a device, which are so many, hold zeros.
+/// Whether all sectors of a device, which are this many, hold zeros.
 fn is_of_zeros<D: Disk>(disk: &mut D, sectors: u32) -> bool {
     for sector in 0..sectors {
         if get(disk, sector) != Some(0) {

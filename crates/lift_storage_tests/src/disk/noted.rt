@@ -8,7 +8,7 @@ use std::io::ErrorKind;
 use std::os::unix::fs::FileExt;
 
 /// Where the file was read and written last, how often it was synced, and how often what is cached
-/// was dropped behind; how many bytes it was given, its length, and whether it was made safe with
+/// was dropped after it; how many bytes it was given, its length, and whether it was made safe with
 /// that; how many calls more succeed before one fails.
 #[derive(Drop)]
 struct Notes {
@@ -22,7 +22,7 @@ struct Notes {
     left: Cell<u32>,
 }
 
-/// So many calls are never made.
+/// This many calls are never made.
 const ALL: u32 = u32::MAX;
 
 impl Notes {
@@ -138,7 +138,7 @@ fn is_noted<D: Disk>(
 }
 
 /// Each call of the device is one of the file: at 512 times the sector, or a sync of its data.
-/// Behind the first sync, and behind the first one that follows a failed call, what is cached is
+/// After the first sync, and after the first one that follows a failed call, what is cached is
 /// dropped, and the sync fails where that does.
 #[test]
 fn each_call_is_one_of_the_file(rt: HostRuntime) {
@@ -166,7 +166,7 @@ fn each_call_is_one_of_the_file(rt: HostRuntime) {
     }
 }
 
-/// Behind a first sync calls that succeed leave nothing to be dropped, also where they are joined.
+/// After a first sync calls that succeed leave nothing to be dropped, also where they are joined.
 #[test]
 fn nothing_is_dropped_behind_joined_calls(rt: HostRuntime) {
     let notes = Notes::new();
@@ -185,7 +185,7 @@ fn nothing_is_dropped_behind_joined_calls(rt: HostRuntime) {
     }
 }
 
-/// Whether a file of 300 sectors is made where the call behind so many fails.
+/// Whether a file of 300 sectors is made where the call after this many fails.
 fn is_made(notes: &Notes, calls: u32) -> bool {
     notes.left.set(calls);
     notes.given.set(0);
@@ -209,7 +209,7 @@ fn a_file_is_made_with_its_sectors(rt: HostRuntime) {
     assert!(rt; notes.given.get() == 153_600 && notes.written.get() == 131_072);
 }
 
-/// One that is opened has to tell its length, and its lock has to be had.
+/// One that is opened has to tell its length, and its lock has to be free.
 #[test]
 fn a_file_is_opened_by_calls_that_succeed(rt: HostRuntime) {
     let notes = Notes::new();

@@ -38,14 +38,14 @@ impl Calls {
         Ok(())
     }
 
-    /// Whether there were so many reads, writes and syncs by now.
+    /// Whether there were this many reads, writes and syncs by now.
     fn are(&self, counts: &(u32, u32, u32)) -> bool {
         let (reads, writes, syncs) = *counts;
         self.reads.get() == reads && self.writes.get() == writes && self.syncs.get() == syncs
     }
 }
 
-/// A file in memory. A call moves so many bytes at most.
+/// A file in memory. A call moves this many bytes at most.
 #[derive(Drop)]
 struct PieceFile<'n> {
     bytes: Vec<Cell<u8>>,
@@ -124,7 +124,7 @@ fn device(
 /// A call of the device, and how many reads, writes and syncs of the file there are by then.
 type Step = (Call, (u32, u32, u32));
 
-/// Whether the call comes to what it says, with so many calls of the file. The file's next call
+/// Whether the call comes to what it says, with this many calls of the file. The file's next call
 /// fails where the device's is to fail.
 fn is_counted<D: Disk>(disk: &mut D, calls: &Calls, step: &Step) -> bool {
     let (call, counts) = step;
@@ -142,7 +142,8 @@ fn all_counted<D: Disk>(disk: &mut D, calls: &Calls, steps: &[Step]) -> bool {
     true
 }
 
-/// Whether three sectors are written by so many calls of the file, and four are read by so many.
+/// Whether three sectors are written by this many calls of the file, and four are read by this
+/// many.
 fn are_moved_whole<D: Disk>(disk: &mut D, calls: &Calls, writes: u32, reads: u32) -> bool {
     put(disk, 3, 7)
         && put(disk, 0, 8)
@@ -176,7 +177,7 @@ fn are_read_at_once<D: Disk>(disk: &mut D, calls: &Calls) -> bool {
     true
 }
 
-/// Behind reads of the sectors 2 to 17, what a batch and another write come to.
+/// After reads of the sectors 2 to 17, what a batch and another write come to.
 fn neighbour_steps() -> [Step; 12] {
     [
         (Call::Get(18, 0), (2, 0, 0)),
@@ -265,7 +266,7 @@ fn failing_steps() -> [Step; 6] {
     ]
 }
 
-/// A call of the file that fails is a call of the device that fails, and isn't made again: behind a
+/// A call of the file that fails is a call of the device that fails, and isn't made again: after a
 /// sync that failed another one tells nothing of what was written before.
 #[test]
 fn a_call_that_fails_is_told(rt: HostRuntime) -> Result<(), AllocError> {

@@ -71,7 +71,7 @@ fn the_calls_stand_in_this_order(rt: HostRuntime) -> Result<(), Fail> {
     Ok(())
 }
 
-/// Whether each of these sectors holds the pieces that stand with it, and zeros behind them.
+/// Whether each of these sectors holds the pieces that stand with it, and zeros after them.
 fn hold<D: Disk>(disk: &mut D, sectors: &[(u32, &[[u8; 16]])]) -> bool {
     for (sector, pieces) in sectors {
         if !holds(disk, *sector, &text_of(pieces)) {
@@ -81,13 +81,13 @@ fn hold<D: Disk>(disk: &mut D, sectors: &[(u32, &[[u8; 16]])]) -> bool {
     true
 }
 
-/// The call behind the header of its batch.
+/// The call after the header of its batch.
 const CALL: [[u8; 16]; 2] = [
     [0x4C, 0x42, 2, 0, 0, 1, 0, 0, 0, 0, 0, 1, 0, 0, 0, 0],
     [1, 0x10, 0, 5, 0, 2, 0, 0, 0, 0, 0, 1, 0, 0, 0, 0],
 ];
 
-/// Car A's last stop and the count of calls done, behind the header of the checkpoint.
+/// Car A's last stop and the count of calls done, after the header of the checkpoint.
 const BASE: [[u8; 16]; 3] = [
     [0x4C, 0x42, 2, 0, 0, 2, 0, 0, 0, 0, 0, 1, 0, 0, 0, 0],
     [5, 0, 0, 0, 0, 0, 0, 0, 0, 0, 0, 0x1F, 0, 0, 0, 0],

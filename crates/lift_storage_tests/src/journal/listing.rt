@@ -24,7 +24,7 @@ pub(crate) fn add<D: Disk>(
     Some(journal.append(&batch))
 }
 
-/// Appends so many stops, numbered from this one on.
+/// Appends this many stops, numbered from this one on.
 pub(crate) fn add_stops<D: Disk>(
     journal: &mut Journal<D>,
     first: u32,

@@ -67,7 +67,7 @@ fn are_listed<D: Disk>(journal: &mut Journal<D>) -> bool {
     lists(journal, &[&first, &calls, &second, &third, &fourth])
 }
 
-/// Whether a cursor is at this batch; it goes behind it.
+/// Whether a cursor is at this batch; it goes after it.
 fn is_next<D: Disk>(journal: &mut Journal<D>, cursor: &mut Cursor, batch: &[Record]) -> bool {
     matches!(journal.next(cursor), Ok(Some(found)) if found.as_slice() == batch)
 }
@@ -87,7 +87,7 @@ fn batches_come_in_order(rt: HostRuntime) -> Result<(), Fail> {
     Ok(())
 }
 
-/// Whether the journal is broken behind a read that failed, with the cursor where it was.
+/// Whether the journal is broken after a read that failed, with the cursor where it was.
 fn is_broken_at(journal: &mut Journal<FlakyDisk>, cursor: &mut Cursor) -> bool {
     journal.arm(0);
     matches!(journal.next(cursor), Err(JournalFault::Broken))

@@ -67,7 +67,7 @@ pub(crate) fn batch(records: &[Record]) -> Option<ArrayVec<Record, 63>>
     Some(batch)
 }
 
-/// So many stops, numbered from this one on; 63 at most.
+/// This many stops, numbered from this one on; 63 at most.
 pub(crate) fn stops(first: u32, count: u32) -> ArrayVec<Record, 63> {
     let mut stops = ArrayVec::from([stop(first); 63]);
     for place in 0..63 {

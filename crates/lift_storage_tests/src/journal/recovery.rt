@@ -45,7 +45,7 @@ fn with_two(rt: &impl Abort, mut disk: MemDisk, version: u8) -> MemDisk {
 enum Listed<'a> {
     /// Two batches of one stop each.
     Two,
-    /// These, and a batch of so many stops.
+    /// These, and a batch of this many stops.
     Three(u32),
     /// The checkpoint of a register.
     Checkpoint(&'a Register),
@@ -62,7 +62,7 @@ struct Work<'a> {
     calls: u32,
     /// How many an opening makes of what was there before.
     calls_before: u32,
-    /// How many it makes of what is there behind it.
+    /// How many it makes of what is there after it.
     calls_after: u32,
     /// Whether the sector by which it takes effect begins with A5 from then on; else it did before.
     is_set: bool,
@@ -162,7 +162,7 @@ fn recover_again<D: Failing + Drop>(
 }
 
 /// The calls of the device that are the first to fail, in the call and in the recovery, and what
-/// becomes of the loose sectors behind each of these failures, if the power is cut.
+/// becomes of the loose sectors after each of these failures, if the power is cut.
 #[derive(Clone, Copy)]
 struct Failures {
     work: u32,
@@ -250,7 +250,7 @@ fn stop_both(rt: &impl Abort, disk: MemDisk, work: &Work, failures: &Failures) -
     stop_at::<FlakyDisk>(rt, disk, work, failures)
 }
 
-/// Each call of the recovery fails in turn, and none where it is one behind the last. After the
+/// Each call of the recovery fails in turn, and none where it is one after the last. After the
 /// first of them, the sync, loose sectors end in each way.
 fn stop_recoveries(rt: &impl Abort, mut disk: MemDisk, work: &Work, first: &Failures) -> MemDisk {
     for cut_again in CUTS {
@@ -273,7 +273,7 @@ fn stop_recoveries(rt: &impl Abort, mut disk: MemDisk, work: &Work, first: &Fail
     disk
 }
 
-/// Each call of the device fails in turn, and none where it is one behind the last; loose sectors
+/// Each call of the device fails in turn, and none where it is one after the last; loose sectors
 /// end in each way.
 fn stop_all<R: AllocGlobal + Abort>(rt: &R, work: &Work) {
     let mut disk = MemDisk::new(rt.alloc(), 130).ok().expect(rt, "memory");
@@ -290,7 +290,7 @@ fn stop_all<R: AllocGlobal + Abort>(rt: &R, work: &Work) {
     }
 }
 
-/// A batch of 63 stops, behind batches of the first version and of the second: an opening syncs,
+/// A batch of 63 stops, after batches of the first version and of the second: an opening syncs,
 /// reads the stamp and the pick, two sectors for each batch, three for the long one, and the
 /// closing gate.
 #[test]

@@ -8,7 +8,7 @@ use lift_register::Register;
 use std::alloc::{AllocError, Global};
 use std::process::Abort;
 
-/// A text, so many times.
+/// A text, this many times.
 fn push_times(text: &mut String, piece: &str, times: u32) -> Result<(), AllocError> {
     for _ in 0..times {
         text.push_str(piece)?;
@@ -109,7 +109,7 @@ pub(crate) fn medium<R: AllocGlobal + Abort>(rt: &R) -> Register {
     register
 }
 
-/// The place behind these records, where they are the register's from this place on.
+/// The place after these records, where they are the register's from this place on.
 fn place_behind(register: &Register, place: usize, records: &[Record]) -> Option<usize> {
     let mut next = place;
     for record in records {

@@ -11,7 +11,7 @@ pub(crate) const STAMP: [u8; 16] = [
 /// How an open gate begins, and the pick of the second half.
 pub(crate) const OPEN: [u8; 16] = [0xA5, 0, 0, 0, 0, 0, 0, 0, 0, 0, 0, 0, 0, 0, 0, 0];
 
-/// A header of this version, with so many records, of the batch with this number.
+/// A header of this version, with this many records, of the batch with this number.
 pub(crate) fn header(version: u8, count: u8, number: u8) -> [u8; 16] {
     [
         0x4C, 0x42, version, 0, 0, count, 0, 0, 0, 0, 0, number, 0, 0, 0, 0,

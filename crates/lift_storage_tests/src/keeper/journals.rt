@@ -30,7 +30,7 @@ fn push_table(text: &mut String) -> Result<(), Fail> {
     Ok(())
 }
 
-/// The text of ten floors, kiosks on floors 0 and 5, and so many cars for 8 persons.
+/// The text of ten floors, kiosks on floors 0 and 5, and this many cars for 8 persons.
 fn text_of(alloc: Global, cars: u32) -> Result<String, Fail> {
     let begin = "floors = 10\ndoor_ms = 6000\nkiosks = [0, 5]\nflight = [\n";
     let mut text = String::from_str(alloc, begin)?;

@@ -52,7 +52,7 @@ fn shows(disk: MemDisk, building: &Building) -> Result<bool, Fail> {
 }
 
 /// The two parts of a keeper, used apart and put together again: a call and its boarding stand
-/// behind a cut.
+/// after a cut.
 #[test]
 fn parts_and_is_whole_again(rt: HostRuntime) -> Result<(), Fail> {
     let building = demo(rt.alloc(), 1)?;

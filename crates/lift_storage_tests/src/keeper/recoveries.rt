@@ -37,7 +37,7 @@ fn refuse_openings(rt: &impl Abort, disk: FuseDisk, building: &Building) -> Resu
     Ok(disk)
 }
 
-/// Whether a reopening whose call behind so many fails is refused, and leaves the keeper broken.
+/// Whether a reopening whose call after this many fails is refused, and leaves the keeper broken.
 fn is_refused(keeper: &mut Keeper<FuseDisk>, calls: u32) -> bool {
     keeper.arm(calls);
     keeper.reopen() == Err(FAILED) && keeper.is_broken()

@@ -94,7 +94,7 @@ fn begun<'b>(
     }
 }
 
-/// Whether a reopening is refused so, and the next batch goes behind the one that was written.
+/// Whether a reopening is refused so, and the next batch goes after the one that was written.
 fn goes_on(
     rt: &HostRuntime,
     keeper: &mut Keeper<FileDisk<SystemFile<File>>>,
@@ -107,7 +107,7 @@ fn goes_on(
 }
 
 /// In the place of its own journal it finds that of another building, one whose first record
-/// doesn't fit, and none. The next batch goes behind the one that it wrote, whatever is there.
+/// doesn't fit, and none. The next batch goes after the one that it wrote, whatever is there.
 #[test]
 fn a_refused_reopening_changes_nothing(rt: HostRuntime) -> Result<(), Fail> {
     let two = demo(rt.alloc(), 2)?;

@@ -1,7 +1,7 @@
 //! Headers and their bytes.
 use lift_record::{Version, decode_header, encode_header};
 
-/// Whether these bytes are the header of so many records, of the batch with this number.
+/// Whether these bytes are the header of this many records, of the batch with this number.
 fn is_read(bytes: &[u8; 16], version: u8, count: u16, number: u32) -> bool {
     match decode_header(bytes) {
         Some(header) => {

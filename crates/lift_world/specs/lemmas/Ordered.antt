@@ -1,4 +1,4 @@
--- The queued batches end one behind the other, and no terminal has two commands on their way.
+-- The queued batches end one after the other, and no terminal has two commands on their way.
 use Rattle.std.proofs.Common.{ℕ, ◌≡◌, ◌≢◌, ◌≤◌, Bool, true, false, cond, eqb, ltb, List, [], ◌∷◌}
 use Rattle.std.proofs.Common.{◌++◌, length, take, Option, Some, refl, sym, ap, subst, ◌∙◌, arith}
 use Rattle.std.specs.Prelude.{unwrap_or}

@@ -1,12 +1,10 @@
 use Rattle.std.proofs.Common.{[], ◌∷◌, inl, inr, refl, ◌∙◌, arith}
 use Rattle.std.proofs.lemmas.Result.{on_ok_weaker}
-use Rattle.lift_disk.specs.lemmas.Moments.{runs_call, touches_write, touches_then_rest}
+use Rattle.lift_disk.specs.lemmas.Moments.{touches_write, touches_then_rest}
 use Rattle.lift_journal.specs.Steps.{IsInRange}
 use Rattle.lift_journal.specs.lemmas.Looking.{both_on_ok, both_on_err, err_any, err_weaker}
-use Rattle.lift_journal.specs.lemmas.Telling.{one_passes, one_fails, call_stops, stops_then, err_stops}
 use Rattle.lift_disk.specs.Trace.Access.{Write, Sync}
-use Rattle.lift_journal.specs.Calls.{puts}
-use Rattle.lift_journal.proofs.Following.{front_one, one_follows, front_more, follows_then, err_follows}
+use Rattle.lift_journal.proofs.Performing.{performs_call, performs_then, err_performs}
 use Rattle.lift_journal.proofs.checkpoint.put_sector.Goals as goal
 
 pub returns-in_err-write-clause-touched : goal.returns-in_err-write-clause-touched
@@ -27,19 +25,6 @@ returns-clause-stored g c =
     let written = c.in_ok-write.ensures.steady honest steady in
     let then_honest = c.write.ensures.goes_on.honest.1 honest in
     record { synced = sync.1 then_honest; same = (sync.0 then_honest written.steady).same ∙ written.same }) (both_on_ok c.sync.result _ _ c.sync.ensures.steady c.sync.ensures.synced)
-
-pub returns-in_err-write-clause-told : goal.returns-in_err-write-clause-told
-returns-in_err-write-clause-told g c =
-    err_stops _ c.from_residual.result (g.D.Disk.state c.args.disk.now) (g.D.Disk.state c.write.new.self) c.from_residual.ensures.1
-    (one_fails (g.D.Disk.state c.args.disk.now) (g.D.Disk.state c.write.new.self) c.write.ensures.goes_on c.in_err-write.ensures.told.err c.in_err-write.ensures.told.short)
-
-pub returns-clause-told : goal.returns-clause-told
-returns-clause-told g c =
-    let old = g.D.Disk.state c.args.disk.now in
-    let mid = g.D.Disk.state c.write.new.self in
-    let new = g.D.Disk.state c.sync.new.self in
-    stops_then old mid new (runs_call old mid c.write.ensures.goes_on) (one_passes old mid c.write.ensures.goes_on c.in_ok-write.ensures.told.ok c.in_ok-write.ensures.told.same)
-    c.sync.result (call_stops c.sync.result mid new c.sync.ensures.goes_on c.sync.ensures.told)
 
 pub returns-in_err-write-clause-misses : goal.returns-in_err-write-clause-misses
 returns-in_err-write-clause-misses g c =
@@ -63,17 +48,19 @@ returns-clause-misses g c =
       loose = sync.1 honest_then c.args.sector (((c.write.ensures.touched honest).loose c.args.sector).1 (inr refl));
     }) (both_on_err c.sync.result _ _ c.sync.ensures.kept c.sync.ensures.loose)
 
-pub returns-in_err-write-clause-follows : goal.returns-in_err-write-clause-follows
-returns-in_err-write-clause-follows g c =
+pub returns-in_err-write-clause-performs : goal.returns-in_err-write-clause-performs
+returns-in_err-write-clause-performs g c =
     let old = g.D.Disk.state c.args.disk.now in
     let new = g.D.Disk.state c.write.new.self in
-    let write = Write c.args.sector c.args.bytes.now in
-    err_follows _ c.from_residual.result old new (puts c.args.sector c.args.bytes.now) c.from_residual.ensures.1
-    (front_more old new (write ∷ []) (Sync ∷ []) (front_one write old new c.in_err-write.ensures.recorded.err))
+    err_performs _ c.from_residual.result old new (Write c.args.sector c.args.bytes.now ∷ []) (Sync ∷ []) 1 2 1 1 c.from_residual.ensures.1
+    (performs_call _ (Write c.args.sector c.args.bytes.now) old new 1 c.write.ensures.goes_on c.in_err-write.ensures.cause c.in_err-write.ensures.told c.write.ensures.writes c.in_err-write.ensures.recorded)
+    (omega arith) (omega arith)
 
-pub returns-clause-follows : goal.returns-clause-follows
-returns-clause-follows g c =
+pub returns-clause-performs : goal.returns-clause-performs
+returns-clause-performs g c =
+    let old = g.D.Disk.state c.args.disk.now in
     let mid = g.D.Disk.state c.write.new.self in
     let new = g.D.Disk.state c.sync.new.self in
-    follows_then c.sync.result (g.D.Disk.state c.args.disk.now) mid new (Write c.args.sector c.args.bytes.now ∷ []) (Sync ∷ []) c.in_ok-write.ensures.recorded.ok
-    (one_follows c.sync.result Sync mid new c.sync.ensures.recorded)
+    performs_then c.sync.result old mid new (Write c.args.sector c.args.bytes.now ∷ []) (Sync ∷ []) 1 1 1 0
+    (performs_call _ (Write c.args.sector c.args.bytes.now) old mid 1 c.write.ensures.goes_on c.in_ok-write.ensures.cause c.in_ok-write.ensures.told c.write.ensures.writes c.in_ok-write.ensures.recorded)
+    (performs_call c.sync.result Sync mid new 0 c.sync.ensures.goes_on c.sync.ensures.cause c.sync.ensures.told (omega (arith, c.sync.ensures.writes)) c.sync.ensures.recorded)

@@ -5,9 +5,8 @@ use Rattle.lift_disk.specs.lemmas.Moments.{leaves_weaker, leaves_then, leaves_if
 use Rattle.lift_journal.specs.Steps.{IsInRange, unmarked}
 use Rattle.lift_journal.specs.lemmas.Looking.{err_any, err_weaker}
 use Rattle.lift_journal.proofs.Stopping.{synced_image}
-use Rattle.lift_journal.specs.lemmas.Telling.{stops_then}
 use Rattle.lift_journal.specs.Calls.{puts}
-use Rattle.lift_journal.proofs.Following.{front_more, follows_then, err_follows}
+use Rattle.lift_journal.proofs.Performing.{performs_then, err_performs}
 use Rattle.lift_journal.proofs.checkpoint.switch_half.Goals as goal
 
 pub returns-in_err-put_sector-clause-any_moment : goal.returns-in_err-put_sector-clause-any_moment
@@ -24,8 +23,8 @@ returns-clause-any_moment g c low high le lt loose steady =
     let new = g.D.Disk.state c.put_sector-2.new.disk in
     let P : Image → Type 0 = λ left. ChangesWithin (IsInRange low high) old.image left ⊎ ChangesWithin (λ i. i ≡ 0) (slice_set old.image c.args.gate unmarked) left in
     let one = leaves_weaker old mid (ChangesWithin (IsInRange low high) old.image) P (λ _ left within. inl within) (c.put_sector.ensures.touched low high le lt loose).moments in
-    let two = leaves_if_honest mid new P c.put_sector-2.ensures.runs.honest (λ honest_mid.
-    let honest = c.put_sector.ensures.runs.honest.0 honest_mid in
+    let two = leaves_if_honest mid new P c.put_sector-2.ensures.performs.runs.honest (λ honest_mid.
+    let honest = c.put_sector.ensures.performs.runs.honest.0 honest_mid in
     let stored = c.in_ok-put_sector.ensures.stored honest (steady honest) in
     let picked = c.put_sector-2.ensures.touched 0 1 (omega arith) (omega arith) (λ _ i is. absurd (stored.synced.none_loose i is)) in
     leaves_weaker mid new (ChangesWithin (IsInRange 0 1) mid.image) P
@@ -37,16 +36,11 @@ pub returns-clause-picked : goal.returns-clause-picked
 returns-clause-picked g c =
     on_ok_weaker c.put_sector-2.result (λ put honest steady.
     let stored = c.in_ok-put_sector.ensures.stored honest steady in
-    let after = put (c.put_sector.ensures.runs.honest.1 honest) stored.synced.steady in
+    let after = put (c.put_sector.ensures.performs.runs.honest.1 honest) stored.synced.steady in
     record {
       synced = after.synced;
       same = after.same ∙ ap (λ (l : Image). slice_set l 0 c.args.pick.now) stored.same;
     }) c.put_sector-2.ensures.stored
-
-pub returns-clause-told : goal.returns-clause-told
-returns-clause-told g c =
-    stops_then (g.D.Disk.state c.args.disk.now) (g.D.Disk.state c.put_sector.new.disk) (g.D.Disk.state c.put_sector-2.new.disk) c.put_sector.ensures.runs c.in_ok-put_sector.ensures.told.ok
-    c.put_sector-2.result c.put_sector-2.ensures.told
 
 pub returns-in_err-put_sector-clause-stops : goal.returns-in_err-put_sector-clause-stops
 returns-in_err-put_sector-clause-stops g c =
@@ -58,7 +52,7 @@ returns-in_err-put_sector-clause-stops g c =
     record {
       early = λ _ honest_new left leaves.
           changes_twice changed old.image new.image left (touched.within honest) (changes_more new.is_loose changed new.image left (touched.loose honest_new) leaves);
-      late = λ more. absurd (omega (arith, more, c.put_sector.ensures.made.most_calls));
+      late = λ more. absurd (omega (arith, more, c.put_sector.ensures.performs.made.most_calls));
     })
 
 pub returns-clause-stops : goal.returns-clause-stops
@@ -66,11 +60,11 @@ returns-clause-stops g c =
     err_weaker c.put_sector-2.result _ _ (λ misses low high le lt loose honest inert steady.
     let old = g.D.Disk.state c.args.disk.now in
     let mid = g.D.Disk.state c.put_sector.new.disk in
-    let calls = c.in_ok-put_sector.ensures.made.calls in
+    let calls = c.in_ok-put_sector.ensures.performs.made.calls in
     let stored = c.in_ok-put_sector.ensures.stored honest steady in
-    let honest_mid = c.put_sector.ensures.runs.honest.1 honest in
-    let honest_new = c.put_sector-2.ensures.runs.honest.1 honest_mid in
-    let missed = misses honest_mid (c.put_sector.ensures.runs.inert.1 inert) in
+    let honest_mid = c.put_sector.ensures.performs.runs.honest.1 honest in
+    let honest_new = c.put_sector-2.ensures.performs.runs.honest.1 honest_mid in
+    let missed = misses honest_mid (c.put_sector.ensures.performs.runs.inert.1 inert) in
     let picked = c.put_sector-2.ensures.touched 0 1 (omega arith) (omega arith) (λ _ i is. absurd (stored.synced.none_loose i is)) in
     record {
       early = λ few. absurd (⊎_elim (λ failed. omega (arith, few, failed.0, calls)) (λ written. omega (arith, few, written.0, calls)) missed.made);
@@ -83,14 +77,12 @@ returns-clause-stops g c =
       };
     }) c.put_sector-2.ensures.misses
 
-pub returns-in_err-put_sector-clause-follows : goal.returns-in_err-put_sector-clause-follows
-returns-in_err-put_sector-clause-follows g c =
-    let old = g.D.Disk.state c.args.disk.now in
-    let new = g.D.Disk.state c.put_sector.new.disk in
-    err_follows _ c.from_residual.result old new (puts c.args.gate unmarked ++ puts 0 c.args.pick.now) c.from_residual.ensures.1
-    (front_more old new (puts c.args.gate unmarked) (puts 0 c.args.pick.now) c.in_err-put_sector.ensures.follows.front)
+pub returns-in_err-put_sector-clause-performs : goal.returns-in_err-put_sector-clause-performs
+returns-in_err-put_sector-clause-performs g c =
+    err_performs _ c.from_residual.result (g.D.Disk.state c.args.disk.now) (g.D.Disk.state c.put_sector.new.disk)
+    (puts c.args.gate unmarked) (puts 0 c.args.pick.now) 2 4 1 2 c.from_residual.ensures.1 c.in_err-put_sector.ensures.performs (omega arith) (omega arith)
 
-pub returns-clause-follows : goal.returns-clause-follows
-returns-clause-follows g c =
-    follows_then c.put_sector-2.result (g.D.Disk.state c.args.disk.now) (g.D.Disk.state c.put_sector.new.disk) (g.D.Disk.state c.put_sector-2.new.disk)
-    (puts c.args.gate unmarked) (puts 0 c.args.pick.now) c.in_ok-put_sector.ensures.follows.all c.put_sector-2.ensures.follows
+pub returns-clause-performs : goal.returns-clause-performs
+returns-clause-performs g c =
+    performs_then c.put_sector-2.result (g.D.Disk.state c.args.disk.now) (g.D.Disk.state c.put_sector.new.disk) (g.D.Disk.state c.put_sector-2.new.disk)
+    (puts c.args.gate unmarked) (puts 0 c.args.pick.now) 2 2 1 1 c.in_ok-put_sector.ensures.performs c.put_sector-2.ensures.performs

@@ -3,6 +3,7 @@ use Rattle.std.proofs.lemmas.Result.{err_from_is_err_and}
 use Rattle.lift_base.specs.declared.history.Record.{Record}
 use Rattle.lift_base.specs.Records.{IsLawful}
 use Rattle.lift_disk.specs.Disk.{Image}
+use Rattle.lift_disk.specs.lemmas.Moments.{runs_then}
 use Rattle.lift_record.specs.declared.version.Version.TheVariants.{Two}
 use Rattle.lift_register.specs.Base.{base_records}
 use Rattle.lift_journal.specs.Layout.{bodies, used, IsBody}
@@ -95,74 +96,63 @@ returns-clause-reached g c honest steady end high inside =
     omega (arith, c.loop-index-test.false, c.loop-index.auto.index-end, c.batches_for-index-end.ensures.value, ap batch_count c.base_len.ensures.value) in
     subst (λ m. Reaches (g.D.Disk.state c.loop-index.disk).image c.args.start end c.loop-index.gate (in_batches m records)) all (c.loop-index.invariant.reached honest steady end high inside)
 
-pub returns-in_err-write_open_batch-clause-made : goal.returns-in_err-write_open_batch-clause-made
-returns-in_err-write_open_batch-clause-made g c =
+pub returns-in_err-write_open_batch-clause-performs : goal.returns-in_err-write_open_batch-clause-performs
+returns-in_err-write_open_batch-clause-performs g c =
     let items = c.base_batch-batch.result.items in
     let records = base_records c.args.register.now in
+    let old = g.D.Disk.state c.args.disk.now in
+    let now = g.D.Disk.state c.loop-index.disk in
+    let new = g.D.Disk.state c.write_open_batch.new.disk in
+    let so_far = c.loop-index.invariant in
+    let n = c.body_count-bodies.result in
+    let k = c.loop-index.index in
     let fault = err_from_is_err_and c.from_residual.result c.from_residual.ensures.1 in
-    let is : c.body_count-bodies.result ≡ bodies (length items) = c.body_count-bodies.ensures ∙ ap bodies c.len.ensures.value in
-    let long = next_size c.body_count-bodies.result items c.sectors_of-body.result.now is c.sectors_of-body.ensures.length in
+    let is : n ≡ bodies (length items) = c.body_count-bodies.ensures ∙ ap bodies c.len.ensures.value in
+    let long = next_size n items c.sectors_of-body.result.now is c.sectors_of-body.ensures.length in
     let all : c.batches_for-index-end.result ≡ batch_count (length records) = c.batches_for-index-end.ensures.value ∙ ap batch_count c.base_len.ensures.value in
-    let within = used_within c.loop-index.index c.batches_for-index-end.result c.body_count-bodies.result records items c.loop-index-test.true all (omega (arith, c.base_len.ensures.value, c.base_len.ensures.limit.0)) c.base_batch-batch.ensures is in
+    let within = used_within k c.batches_for-index-end.result n records items c.loop-index-test.true all (omega (arith, c.base_len.ensures.value, c.base_len.ensures.limit.0)) c.base_batch-batch.ensures is in
     let made = c.write_open_batch.ensures.made in
+    let exact : take (bodies (length items)) c.sectors_of-body.result.now ≡ batch_body (k + 1) (record { version = Two; records = items }) =
+    ap (λ (s : Image). take (bodies (length items)) s) c.sectors_of-body.ensures.cut
+    ∙ subst (λ (l : List Record). take (bodies (length l)) (take 512 c.put_body.new.text ∷ drop 512 c.put_body.new.text ∷ []) ≡ batch_body (k + 1) (record { version = Two; records = l })) c.deref.ensures.0 c.put_body.ensures.exact in
     record {
-      calls = rw fault.1 tt;
-      writes = rw fault.1 tt;
-      most_calls = omega (arith, made.most_calls, c.loop-index.invariant.calls, within, long);
-      most_writes = omega (arith, made.most_writes, c.loop-index.invariant.writes, within, long);
+      runs = runs_then old now new so_far.runs c.write_open_batch.ensures.runs;
+      cause = record { ok = rw fault.1 tt; err = rw fault.1 (omega (arith, so_far.failures, c.in_err-write_open_batch.ensures.cause.err)) };
+      told = err_stops _ c.from_residual.result old new c.from_residual.ensures.1 (fails_then old now new so_far.runs so_far.told c.in_err-write_open_batch.ensures.told.err);
+      made = record {
+        calls = rw fault.1 tt;
+        writes = rw fault.1 tt;
+        most_calls = omega (arith, made.most_calls, so_far.calls, within, long);
+        most_writes = omega (arith, made.most_writes, so_far.writes, within, long);
+      };
+      follows = err_follows _ c.from_residual.result old new (draft_calls c.args.start 1 (in_batches (batch_count (length records)) records)) c.from_residual.ensures.1
+          (subst (λ m. StopsIn (draft_calls c.args.start 1 (in_batches m records)) old new) all
+          (draft_stops old now new c.args.start c.loop-index.gate k c.batches_for-index-end.result records (take n c.sectors_of-body.result.now) so_far.at
+          (next_exact k n records items c.sectors_of-body.result.now c.base_batch-batch.ensures is exact) c.loop-index-test.true so_far.trace c.in_err-write_open_batch.ensures.follows.front));
     }
 
-pub returns-clause-made : goal.returns-clause-made
-returns-clause-made g c =
+pub returns-clause-performs : goal.returns-clause-performs
+returns-clause-performs g c =
     let records = base_records c.args.register.now in
+    let so_far = c.loop-index.invariant in
     let all : c.loop-index.index ≡ batch_count (length records) =
     omega (arith, c.loop-index-test.false, c.loop-index.auto.index-end, c.batches_for-index-end.ensures.value, ap batch_count c.base_len.ensures.value) in
     let taken : used (in_batches c.loop-index.index records) ≡ sectors_for (length records) =
     ap (λ m. used (in_batches m records)) all ∙ used_checkpoint records (omega (arith, c.base_len.ensures.value, c.base_len.ensures.limit.0)) in
     record {
-      calls = omega (arith, c.loop-index.invariant.calls, taken);
-      writes = omega (arith, c.loop-index.invariant.writes, taken);
-      most_calls = omega (arith, c.loop-index.invariant.calls, taken);
-      most_writes = omega (arith, c.loop-index.invariant.writes, taken);
-    }
-
-pub returns-in_err-write_open_batch-clause-told : goal.returns-in_err-write_open_batch-clause-told
-returns-in_err-write_open_batch-clause-told g c =
-    let old = g.D.Disk.state c.args.disk.now in
-    let new = g.D.Disk.state c.write_open_batch.new.disk in
-    let so_far = c.loop-index.invariant in
-    err_stops _ c.from_residual.result old new c.from_residual.ensures.1
-    (fails_then old (g.D.Disk.state c.loop-index.disk) new so_far.runs so_far.told c.in_err-write_open_batch.ensures.told.err)
-
-pub returns-clause-told : goal.returns-clause-told
-returns-clause-told g c = record { ok = c.loop-index.invariant.told; err = tt }
-
-pub returns-in_err-write_open_batch-clause-follows : goal.returns-in_err-write_open_batch-clause-follows
-returns-in_err-write_open_batch-clause-follows g c =
-    let items = c.base_batch-batch.result.items in
-    let records = base_records c.args.register.now in
-    let old = g.D.Disk.state c.args.disk.now in
-    let new = g.D.Disk.state c.write_open_batch.new.disk in
-    let n = c.body_count-bodies.result in
-    let k = c.loop-index.index in
-    let is : n ≡ bodies (length items) = c.body_count-bodies.ensures ∙ ap bodies c.len.ensures.value in
-    let all : c.batches_for-index-end.result ≡ batch_count (length records) = c.batches_for-index-end.ensures.value ∙ ap batch_count c.base_len.ensures.value in
-    let exact : take (bodies (length items)) c.sectors_of-body.result.now ≡ batch_body (k + 1) (record { version = Two; records = items }) =
-    ap (λ (s : Image). take (bodies (length items)) s) c.sectors_of-body.ensures.cut
-    ∙ subst (λ (l : List Record). take (bodies (length l)) (take 512 c.put_body.new.text ∷ drop 512 c.put_body.new.text ∷ []) ≡ batch_body (k + 1) (record { version = Two; records = l })) c.deref.ensures.0 c.put_body.ensures.exact in
-    err_follows _ c.from_residual.result old new (draft_calls c.args.start 1 (in_batches (batch_count (length records)) records)) c.from_residual.ensures.1
-    (subst (λ m. StopsIn (draft_calls c.args.start 1 (in_batches m records)) old new) all
-    (draft_stops old (g.D.Disk.state c.loop-index.disk) new c.args.start c.loop-index.gate k c.batches_for-index-end.result records (take n c.sectors_of-body.result.now) c.loop-index.invariant.at
-    (next_exact k n records items c.sectors_of-body.result.now c.base_batch-batch.ensures is exact) c.loop-index-test.true c.loop-index.invariant.trace c.in_err-write_open_batch.ensures.follows.front))
-
-pub returns-clause-follows : goal.returns-clause-follows
-returns-clause-follows g c =
-    let records = base_records c.args.register.now in
-    let all : c.loop-index.index ≡ batch_count (length records) =
-    omega (arith, c.loop-index-test.false, c.loop-index.auto.index-end, c.batches_for-index-end.ensures.value, ap batch_count c.base_len.ensures.value) in
-    record {
-      all = subst (λ m. (g.D.Disk.state c.loop-index.disk).trace ≡ (g.D.Disk.state c.args.disk.now).trace ++ draft_calls c.args.start 1 (in_batches m records)) all c.loop-index.invariant.trace;
-      front = tt;
+      runs = so_far.runs;
+      cause = record { ok = so_far.failures; err = tt };
+      told = record { ok = so_far.told; err = tt };
+      made = record {
+        calls = omega (arith, so_far.calls, taken);
+        writes = omega (arith, so_far.writes, taken);
+        most_calls = omega (arith, so_far.calls, taken);
+        most_writes = omega (arith, so_far.writes, taken);
+      };
+      follows = record {
+        all = subst (λ m. (g.D.Disk.state c.loop-index.disk).trace ≡ (g.D.Disk.state c.args.disk.now).trace ++ draft_calls c.args.start 1 (in_batches m records)) all so_far.trace;
+        front = tt;
+      };
     }
 
 pub returns-clause-placed : goal.returns-clause-placed

@@ -1,14 +1,13 @@
 use Rattle.std.proofs.Common.{inl, ⊎_elim, false, [], ◌∷◌, sym, subst, arith}
 use Rattle.std.proofs.lemmas.Result.{on_ok_weaker}
 use Rattle.lift_disk.specs.Trace.Access.{Write, Sync}
-use Rattle.lift_journal.specs.Calls.{puts, format_calls}
+use Rattle.lift_journal.specs.Calls.{puts}
 use Rattle.lift_disk.specs.lemmas.Moments.{touches_then, touches_weaker_honest}
 use Rattle.lift_journal.specs.Steps.{IsFormatted, unmarked}
 use Rattle.lift_journal.specs.Layout.{filled, stamp_bytes, Picks}
 use Rattle.lift_journal.specs.Journal.{ReadsAs}
 use Rattle.lift_journal.proofs.Formats.{formatted, formatted_half}
-use Rattle.lift_journal.proofs.Following.{front_more, follows_then, err_follows}
-use Rattle.lift_journal.specs.lemmas.Telling.{stops_then}
+use Rattle.lift_journal.proofs.Performing.{performs_then, err_performs}
 use Rattle.lift_journal.proofs.formatting.format.Goals as goal
 
 pub returns-clause-synced : goal.returns-clause-synced
@@ -24,11 +23,6 @@ returns-clause-empty g c =
     (formatted c.args.shape mid.image c.requires.within (omega (arith, c.requires.room, c.empty_half.ensures.performs.runs.size, g.met.D.Disk.whole c.empty_half.new.disk honest_mid))
     (c.in_ok-empty_half.ensures.picked honest) (c.in_ok-empty_half.ensures.closed honest))) c.put_stamp.ensures.stored
 
-pub returns-clause-told : goal.returns-clause-told
-returns-clause-told g c =
-    stops_then (g.D.Disk.state c.args.disk.now) (g.D.Disk.state c.empty_half.new.disk) (g.D.Disk.state c.put_stamp.new.disk) c.empty_half.ensures.performs.runs c.in_ok-empty_half.ensures.performs.told.ok
-    c.put_stamp.result c.put_stamp.ensures.performs.told
-
 pub returns-clause-half : goal.returns-clause-half
 returns-clause-half g c =
     let mid = g.D.Disk.state c.empty_half.new.disk in
@@ -39,17 +33,15 @@ returns-clause-half g c =
     (formatted_half c.args.shape mid.image c.requires.within (omega (arith, c.requires.room, c.empty_half.ensures.performs.runs.size, g.met.D.Disk.whole c.empty_half.new.disk honest_mid))
     (c.in_ok-empty_half.ensures.picked honest) (c.in_ok-empty_half.ensures.closed honest))) c.put_stamp.ensures.stored
 
-pub returns-in_err-empty_half-clause-follows : goal.returns-in_err-empty_half-clause-follows
-returns-in_err-empty_half-clause-follows g c =
-    let old = g.D.Disk.state c.args.disk.now in
-    let new = g.D.Disk.state c.empty_half.new.disk in
-    err_follows _ c.from_residual.result old new (format_calls c.args.shape) c.from_residual.ensures.1
-    (front_more old new (Write 0 unmarked ∷ Write 2 unmarked ∷ Sync ∷ []) (puts 1 (filled 1 (stamp_bytes c.args.shape))) c.in_err-empty_half.ensures.performs.follows.front)
+pub returns-in_err-empty_half-clause-performs : goal.returns-in_err-empty_half-clause-performs
+returns-in_err-empty_half-clause-performs g c =
+    err_performs _ c.from_residual.result (g.D.Disk.state c.args.disk.now) (g.D.Disk.state c.empty_half.new.disk) (Write 0 unmarked ∷ Write 2 unmarked ∷ Sync ∷ []) (puts 1 (filled 1 (stamp_bytes c.args.shape)))
+    3 5 2 3 c.from_residual.ensures.1 c.in_err-empty_half.ensures.performs (omega arith) (omega arith)
 
-pub returns-clause-follows : goal.returns-clause-follows
-returns-clause-follows g c =
-    follows_then c.put_stamp.result (g.D.Disk.state c.args.disk.now) (g.D.Disk.state c.empty_half.new.disk) (g.D.Disk.state c.put_stamp.new.disk)
-    (Write 0 unmarked ∷ Write 2 unmarked ∷ Sync ∷ []) (puts 1 (filled 1 (stamp_bytes c.args.shape))) c.in_ok-empty_half.ensures.performs.follows.all c.put_stamp.ensures.performs.follows
+pub returns-clause-performs : goal.returns-clause-performs
+returns-clause-performs g c =
+    performs_then c.put_stamp.result (g.D.Disk.state c.args.disk.now) (g.D.Disk.state c.empty_half.new.disk) (g.D.Disk.state c.put_stamp.new.disk)
+    (Write 0 unmarked ∷ Write 2 unmarked ∷ Sync ∷ []) (puts 1 (filled 1 (stamp_bytes c.args.shape))) 3 2 2 1 c.in_ok-empty_half.ensures.performs c.put_stamp.ensures.performs
 
 pub returns-clause-touched : goal.returns-clause-touched
 returns-clause-touched g c =

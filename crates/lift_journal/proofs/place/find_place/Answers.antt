@@ -1,14 +1,19 @@
-use Rattle.std.proofs.Common.{◌≡◌, ◌++◌, sym, subst, ap, ◌∙◌, refl, Err}
-use Rattle.lift_disk.specs.Disk.{IsSynced, Image}
+use Rattle.std.proofs.Common.{◌≡◌, ◌+◌, ◌-◌, ◌++◌, sym, subst, ap, ◌∙◌, refl, Result, Ok, Err}
+use Rattle.std.specs.Prelude.{IfOk}
+use Rattle.lift_base.specs.declared.history.Shape.{Shape}
+use Rattle.lift_disk.specs.Disk.{DiskState, IsSynced, Image}
 use Rattle.lift_journal.specs.declared.fault.JournalFault.{JournalFault}
 use Rattle.lift_journal.specs.Fronts.{IsOfChain}
 use Rattle.lift_journal.specs.Layout.{Holds, IsStamped}
-use Rattle.lift_journal.specs.Steps.{ReadsOnly, ReadsWell, HasItsCause}
-use Rattle.lift_journal.specs.Opening.{RefusedFor}
-use Rattle.lift_journal.specs.lemmas.Looking.{reads_then, well_then, ok_weaker, cause_then, if_err_weaker, if_err_both, open_ok, open_err}
-use Rattle.lift_journal.proofs.Refusing.{refused_stamp, refused_chain}
-use Rattle.lift_journal.specs.Told.{NoneFails}
-use Rattle.std.proofs.Common.{[], ◌∷◌, inl, arith}
+use Rattle.lift_journal.specs.declared.place.Place.{Place}
+use Rattle.lift_journal.specs.Calls.{reads_from}
+use Rattle.lift_journal.specs.Found.{FindsPlace}
+use Rattle.lift_journal.specs.Journal.{HasNextPlace, StandsAt}
+use Rattle.lift_journal.specs.Steps.{HasFailed, HasItsCause, ReadsOnly, ReadsWell}
+use Rattle.lift_journal.specs.Opening.{RefusedFor, FixesImage}
+use Rattle.lift_journal.specs.lemmas.Looking.{reads_then, well_then, examines_then, err_any, cause_then, if_err_weaker, if_err_both, open_ok, open_err}
+use Rattle.lift_journal.proofs.Refusing.{refused_stamp, refused_chain, settled_behind}
+use Rattle.std.proofs.Common.{[], ◌∷◌, inl, inr, ◌⊎◌, arith}
 use Rattle.lift_disk.specs.Trace.Access.{Read, Sync}
 use Rattle.lift_journal.specs.Behind.{RefusedBehind}
 use Rattle.lift_journal.proofs.Following.{all_then, if_ok_weaker}
@@ -18,9 +23,65 @@ use Rattle.lift_journal.proofs.Showing.{stamp_shown, half_shown}
 use Rattle.std.proofs.lemmas.List.{append-nil}
 use Rattle.lift_journal.proofs.place.find_place.Goals as goal
 
-pub returns-in-Err-clause-only : goal.returns-in-Err-clause-only
-returns-in-Err-clause-only g c =
-    reads_then (g.D.Disk.state c.args.disk.now) (g.D.Disk.state c.settle.new.disk) (g.D.Disk.state c.read_shape.new.disk) c.settle.ensures.looks.only c.read_shape.ensures.examines.only
+-- what the reading of a half has found is what the opening has found
+found : (r : Result Place JournalFault) (old mid new : DiskState) (shape : Shape) → IfOk r (λ at. HasNextPlace new.size at.shape at.start at.gate at.number)
+    → IfOk r (λ at. mid.is_honest → IsSynced mid → IsStamped shape mid.image → StandsAt at.shape at.start at.gate at.number new)
+    → IfOk r (λ at. new.trace ≡ mid.trace ++ Read 0 ∷ reads_from at.start (at.gate - at.start + 1)) → (old.is_honest → mid.is_honest × IsSynced mid × IsStamped shape mid.image)
+    → mid.trace ≡ old.trace ++ Sync ∷ Read 1 ∷ [] → IfOk r (λ at. FindsPlace at old new)
+found (Ok at) old mid new shape place stands read known traced = record {
+  place = place;
+  stands = λ honest. (let is = known honest in stands is.0 is.1 is.2);
+  calls = all_then old mid new (Sync ∷ Read 1 ∷ []) (Read 0 ∷ reads_from at.start (at.gate - at.start + 1)) traced read;
+}
+found (Err fault) old mid new shape place stands read known traced = tt
+
+pub returns-then-is_err-clause-examines : goal.returns-then-is_err-clause-examines
+returns-then-is_err-clause-examines g c =
+    let old = g.D.Disk.state c.args.disk.now in
+    let new = g.D.Disk.state c.settle.new.disk in
+    record {
+      only = c.settle.ensures.looks.only;
+      ok = tt;
+      err = open_err c.settle.result (HasFailed old new) (sym c.is_err.ensures.value ∙ c.if-is_err.true) c.settle.ensures.looks.err;
+    }
+
+pub returns-in-Err-clause-examines : goal.returns-in-Err-clause-examines
+returns-in-Err-clause-examines g c =
+    let old = g.D.Disk.state c.args.disk.now in
+    let mid = g.D.Disk.state c.settle.new.disk in
+    let new = g.D.Disk.state c.read_shape.new.disk in
+    let well : ReadsWell old mid = open_ok c.settle.result (ReadsWell old mid) (sym c.is_err.ensures.value ∙ c.if-is_err.false) c.settle.ensures.looks.ok in
+    record {
+      only = reads_then old mid new c.settle.ensures.looks.only c.read_shape.ensures.examines.only;
+      ok = tt;
+      err = cause_then c.in-Err.fault old mid new c.settle.ensures.looks.only well c.in-Err.ensures.examines.err;
+    }
+
+pub returns-clause-examines : goal.returns-clause-examines
+returns-clause-examines g c =
+    let old = g.D.Disk.state c.args.disk.now in
+    let mid = g.D.Disk.state c.settle.new.disk in
+    let read = g.D.Disk.state c.read_shape.new.disk in
+    let new = g.D.Disk.state c.place_of.new.disk in
+    let well : ReadsWell old mid = open_ok c.settle.result (ReadsWell old mid) (sym c.is_err.ensures.value ∙ c.if-is_err.false) c.settle.ensures.looks.ok in
+    let only : ReadsOnly old read = reads_then old mid read c.settle.ensures.looks.only c.read_shape.ensures.examines.only in
+    let both : ReadsWell old read = well_then old mid read c.settle.ensures.looks.only well c.in-Ok.ensures.examines.ok in
+    examines_then c.place_of.result old read new only both c.place_of.ensures.examines
+
+pub returns-clause-finds : goal.returns-clause-finds
+returns-clause-finds g c =
+    let old = g.D.Disk.state c.args.disk.now in
+    let mid = g.D.Disk.state c.settle.new.disk in
+    let read = g.D.Disk.state c.read_shape.new.disk in
+    let new = g.D.Disk.state c.place_of.new.disk in
+    let first = c.settle.ensures.looks.only in
+    let synced = open_ok c.settle.result (mid.trace ≡ old.trace ++ Sync ∷ []) (sym c.is_err.ensures.value ∙ c.if-is_err.false) c.settle.ensures.recorded.ok in
+    let safe : old.is_honest → IsSynced mid = open_ok c.settle.result (old.is_honest → IsSynced mid) (sym c.is_err.ensures.value ∙ c.if-is_err.false) c.settle.ensures.synced in
+    found c.place_of.result old read new c.in-Ok.shape c.place_of.ensures.place c.place_of.ensures.stands c.place_of.ensures.read
+    (λ honest. (let honest_mid = first.runs.honest.1 honest in
+    let kept = c.in-Ok.ensures.examines.ok.kept honest_mid (safe honest) in
+    (c.read_shape.ensures.examines.only.runs.honest.1 honest_mid, kept.synced, subst (λ (l : Image). IsStamped c.in-Ok.shape l) (sym kept.same) (c.in-Ok.ensures.stamped.2 honest_mid (safe honest)))))
+    (all_then old mid read (Sync ∷ []) (Read 1 ∷ []) synced c.in-Ok.ensures.read)
 
 pub returns-in-Err-clause-refused : goal.returns-in-Err-clause-refused
 returns-in-Err-clause-refused g c =
@@ -30,20 +91,6 @@ returns-in-Err-clause-refused g c =
     let synced : old.is_honest → IsSynced mid = open_ok c.settle.result (old.is_honest → IsSynced mid) (sym c.is_err.ensures.value ∙ c.if-is_err.false) c.settle.ensures.synced in
     refused_stamp c.in-Err.fault old mid (g.D.Disk.state c.read_shape.new.disk) c.settle.ensures.looks.only well.failures synced c.in-Err.ensures.examines.err c.in-Err.ensures.causes
     (λ same. c.in-Err.ensures.not_formatted (ap (λ (f : JournalFault). Err f) same))
-
-pub returns-in-Err-clause-cause : goal.returns-in-Err-clause-cause
-returns-in-Err-clause-cause g c =
-    let old = g.D.Disk.state c.args.disk.now in
-    let mid = g.D.Disk.state c.settle.new.disk in
-    let well : ReadsWell old mid = open_ok c.settle.result (ReadsWell old mid) (sym c.is_err.ensures.value ∙ c.if-is_err.false) c.settle.ensures.looks.ok in
-    cause_then c.in-Err.fault old mid (g.D.Disk.state c.read_shape.new.disk) c.settle.ensures.looks.only well c.in-Err.ensures.examines.err
-
-pub returns-clause-only : goal.returns-clause-only
-returns-clause-only g c =
-    let old = g.D.Disk.state c.args.disk.now in
-    let read = g.D.Disk.state c.read_shape.new.disk in
-    reads_then old read (g.D.Disk.state c.place_of.new.disk)
-    (reads_then old (g.D.Disk.state c.settle.new.disk) read c.settle.ensures.looks.only c.read_shape.ensures.examines.only) c.place_of.ensures.examines.only
 
 pub returns-clause-refused : goal.returns-clause-refused
 returns-clause-refused g c =
@@ -65,29 +112,6 @@ returns-clause-refused g c =
     (λ s same. c.place_of.ensures.damaged s (is ∙ ap (λ (f : JournalFault). Err f) same)))
     (if_err_both c.place_of.result (λ fault. HasItsCause fault read new) IsOfChain c.place_of.ensures.examines.err c.place_of.ensures.causes)
 
-pub returns-clause-cause : goal.returns-clause-cause
-returns-clause-cause g c =
-    let old = g.D.Disk.state c.args.disk.now in
-    let mid = g.D.Disk.state c.settle.new.disk in
-    let read = g.D.Disk.state c.read_shape.new.disk in
-    let new = g.D.Disk.state c.place_of.new.disk in
-    let well : ReadsWell old mid = open_ok c.settle.result (ReadsWell old mid) (sym c.is_err.ensures.value ∙ c.if-is_err.false) c.settle.ensures.looks.ok in
-    let only : ReadsOnly old read = reads_then old mid read c.settle.ensures.looks.only c.read_shape.ensures.examines.only in
-    let both : ReadsWell old read = well_then old mid read c.settle.ensures.looks.only well c.in-Ok.ensures.examines.ok in
-    if_err_weaker c.place_of.result (λ fault. HasItsCause fault read new) (λ fault. HasItsCause fault old new)
-    (λ fault _ cause. cause_then fault old read new only both cause) c.place_of.ensures.examines.err
-
-pub returns-clause-told : goal.returns-clause-told
-returns-clause-told g c =
-    let old = g.D.Disk.state c.args.disk.now in
-    let mid = g.D.Disk.state c.settle.new.disk in
-    let read = g.D.Disk.state c.read_shape.new.disk in
-    let new = g.D.Disk.state c.place_of.new.disk in
-    let well : ReadsWell old mid = open_ok c.settle.result (ReadsWell old mid) (sym c.is_err.ensures.value ∙ c.if-is_err.false) c.settle.ensures.looks.ok in
-    let only : ReadsOnly old read = reads_then old mid read c.settle.ensures.looks.only c.read_shape.ensures.examines.only in
-    let both : ReadsWell old read = well_then old mid read c.settle.ensures.looks.only well c.in-Ok.ensures.examines.ok in
-    ok_weaker c.place_of.result (ReadsWell read new) (NoneFails old new) (λ last. (well_then old read new only both last).told) c.place_of.ensures.examines.ok
-
 pub returns-in-Err-clause-behind : goal.returns-in-Err-clause-behind
 returns-in-Err-clause-behind g c =
     let old = g.D.Disk.state c.args.disk.now in
@@ -95,16 +119,6 @@ returns-in-Err-clause-behind g c =
     let new = g.D.Disk.state c.read_shape.new.disk in
     let synced = open_ok c.settle.result (mid.trace ≡ old.trace ++ Sync ∷ []) (sym c.is_err.ensures.value ∙ c.if-is_err.false) c.settle.ensures.recorded.ok in
     stamp_behind c.in-Err.fault old mid new synced c.settle.ensures.looks.only.runs.size c.in-Err.ensures.behind
-
-pub returns-clause-read : goal.returns-clause-read
-returns-clause-read g c =
-    let old = g.D.Disk.state c.args.disk.now in
-    let mid = g.D.Disk.state c.settle.new.disk in
-    let read = g.D.Disk.state c.read_shape.new.disk in
-    let new = g.D.Disk.state c.place_of.new.disk in
-    let synced = open_ok c.settle.result (mid.trace ≡ old.trace ++ Sync ∷ []) (sym c.is_err.ensures.value ∙ c.if-is_err.false) c.settle.ensures.recorded.ok in
-    if_ok_weaker c.place_of.result _ _
-    (λ place is. all_then old read new (Sync ∷ Read 1 ∷ []) _ (all_then old mid read (Sync ∷ []) (Read 1 ∷ []) synced c.in-Ok.ensures.read) is) c.place_of.ensures.read
 
 pub returns-clause-behind : goal.returns-clause-behind
 returns-clause-behind g c =
@@ -182,3 +196,31 @@ returns-clause-shown_before g c =
     let kept = c.in-Ok.ensures.examines.ok.kept honest_mid (safe honest) in
     (second.runs.honest.1 honest_mid, kept.synced, subst (λ (l : Image). IsStamped c.in-Ok.shape l) (sym kept.same) (c.in-Ok.ensures.stamped.2 honest_mid (safe honest))))) both.1)
     (if_err_both c.place_of.result IsOfChain _ c.place_of.ensures.causes c.place_of.ensures.shown_before)
+
+pub returns-then-is_err-clause-fixed : goal.returns-then-is_err-clause-fixed
+returns-then-is_err-clause-fixed g c =
+    let old = g.D.Disk.state c.args.disk.now in
+    let new = g.D.Disk.state c.settle.new.disk in
+    inl (open_err c.settle.result (new.trace ≡ old.trace) (sym c.is_err.ensures.value ∙ c.if-is_err.true) c.settle.ensures.recorded.err)
+
+pub returns-in-Err-clause-fixed : goal.returns-in-Err-clause-fixed
+returns-in-Err-clause-fixed g c =
+    let old = g.D.Disk.state c.args.disk.now in
+    let mid = g.D.Disk.state c.settle.new.disk in
+    let new = g.D.Disk.state c.read_shape.new.disk in
+    let first = c.settle.ensures.looks.only in
+    let second = c.read_shape.ensures.examines.only in
+    let safe : old.is_honest → IsSynced mid = open_ok c.settle.result (old.is_honest → IsSynced mid) (sym c.is_err.ensures.value ∙ c.if-is_err.false) c.settle.ensures.synced in
+    inr (settled_behind old mid new first second safe (reads_then old mid new first second))
+
+pub returns-clause-fixed : goal.returns-clause-fixed
+returns-clause-fixed g c =
+    let old = g.D.Disk.state c.args.disk.now in
+    let mid = g.D.Disk.state c.settle.new.disk in
+    let read = g.D.Disk.state c.read_shape.new.disk in
+    let new = g.D.Disk.state c.place_of.new.disk in
+    let first = c.settle.ensures.looks.only in
+    let second = reads_then mid read new c.read_shape.ensures.examines.only c.place_of.ensures.examines.only in
+    let safe : old.is_honest → IsSynced mid = open_ok c.settle.result (old.is_honest → IsSynced mid) (sym c.is_err.ensures.value ∙ c.if-is_err.false) c.settle.ensures.synced in
+    err_any c.place_of.result ((new.trace ≡ old.trace) ⊎ (old.is_honest → FixesImage old new))
+    (inr (settled_behind old mid new first second safe (reads_then old mid new first second)))

@@ -1,62 +1,46 @@
-use Rattle.std.proofs.Common.{◌≡◌, ◌+◌, ◌<◌, ℕ, List, [], ◌∷◌, ◌++◌, length, take, drop, get_or}
-use Rattle.std.proofs.Common.{sym, ◌∙◌, ap, arith}
-use Rattle.std.proofs.lemmas.List.{take_more, drop_more, take_more_set, drop-set-lt, append-nil}
-use Rattle.std.proofs.lemmas.List.Concat.{flat_map-append}
+use Rattle.std.proofs.Common.{◌≡◌, ℕ, ◌-◌, ◌≤◌, List, length, take, drop, get_or, ap, ◌∙◌, arith, subst}
+use Rattle.std.proofs.lemmas.List.{take_all, length-drop}
 use Rattle.std.specs.List.{flat_map}
 use Rattle.lift_base.specs.declared.history.Row.{Row}
-use Rattle.lift_base.specs.declared.travel.Stop.{Stop}
 use Rattle.lift_base.specs.History.{row_after}
+use Rattle.lift_register.proofs.Opening.{mapped_from, passes, passes_first, becomes_lent, goes_short}
 use Rattle.lift_register.proofs.rows.keep_open.Goals as goal
-use Rattle.lift_register.proofs.rows.keep_open.Goals.{in-Some, in_default}
+use Rattle.lift_register.proofs.rows.keep_open.Goals.{in-Some, in-None}
 
--- what lies ahead of a place is this row and what lies ahead of it
-ahead_of : (rows initial : List Row) (index : ℕ) (blank : Row) → index < length rows
-    → length rows ≡ length initial → drop index rows ≡ drop index initial
-    → (get_or rows index blank ∷ drop (index + 1) rows)
-    ≡ (get_or initial index blank ∷ drop (index + 1) initial)
-ahead_of rows initial index blank within long ahead =
-    sym (drop_more rows index blank within) ∙ ahead ∙ drop_more initial index blank (omega arith)
+pub loop-index-init : goal.loop-index-init
+loop-index-init c =
+    let rows : List Row = c.args.rows.now.items in
+    let lent = c.deref.ensures.0 in
+    let limit : c.count_unchanged-index.result ≤ length rows = subst (λ (l : List Row). c.count_unchanged-index.result ≤ length l) lent c.count_unchanged-index.ensures.limit in
+    record {
+      still_open = passes_first (row_after c.args.stop.now) rows c.count_unchanged-index.result
+          (subst (λ (l : List Row). flat_map (row_after c.args.stop.now) (take c.count_unchanged-index.result l) ≡ take c.count_unchanged-index.result l) lent c.count_unchanged-index.ensures.rows);
+      fewer = omega arith;
+      within = limit;
+    }
 
--- what is open of one row more
-one_more : (stop : Stop) (rows initial : List Row) (index kept : ℕ) (blank : Row)
-    → index < length rows → length rows ≡ length initial → drop index rows ≡ drop index initial
-    → take kept rows ≡ flat_map (row_after stop) (take index initial)
-    → take kept rows ++ row_after stop (get_or rows index blank)
-    ≡ flat_map (row_after stop) (take (index + 1) initial)
-one_more stop rows initial index kept blank within long ahead still_open =
-    let both = ahead_of rows initial index blank within long ahead in
-    let same : get_or rows index blank ≡ get_or initial index blank = cc both in
-    let after : Row → List Row = row_after stop in
-    ap (λ (l : List Row). l ++ after (get_or rows index blank)) still_open
-    ∙ ap (λ (r : Row). flat_map after (take index initial) ++ after r) same
-    ∙ ap (λ (l : List Row). flat_map after (take index initial) ++ l)
-    (sym (append-nil (after (get_or initial index blank))))
-    ∙ sym (flat_map-append after (take index initial) (get_or initial index blank ∷ []))
-    ∙ ap (flat_map after) (sym (take_more initial index blank (omega arith)))
+-- what is behind a place of a list, as a slice has it
+rest_of : (rows lent : List Row) (i : ℕ) → lent ≡ rows → take (length lent - i) (drop i lent) ≡ drop i rows
+rest_of rows lent i is = rw is (take_all (length rows - i) (drop i rows) (omega (arith, length-drop i rows)))
 
 pub loop-index-preserved : goal.loop-index-preserved
 loop-index-preserved c =
+    let after : Row → List Row = row_after c.args.stop.now in
+    let xs : List Row = c.loop-index.rows.items in
     let i = c.loop-index.index in
-    let rows = c.loop-index.rows in
-    let blank = c.index-rows-index.result in
-    let both = ahead_of rows c.args.rows.now i blank (omega arith) (omega arith)
-    c.loop-index.invariant.ahead in
-    let rest : drop (i + 1) rows ≡ drop (i + 1) c.args.rows.now = cc both in
-    let more = one_more c.args.stop.now rows c.args.rows.now i c.loop-index.kept blank
-    (omega arith) (omega arith) c.loop-index.invariant.ahead c.loop-index.invariant.still_open in
-    elim c.match-after.branch [
-      | in-Some w ↦ record {
-        still_open = rw (w.rows-is, w.kept-is) (take_more_set rows c.loop-index.kept w.in-Some.row
-            (omega arith) ∙ ap (λ (l : List Row). take c.loop-index.kept rows ++ l) w.in-Some.ensures
-            ∙ more);
-        ahead = rw w.rows-is (drop-set-lt (i + 1) rows c.loop-index.kept w.in-Some.row
-            (omega arith) ∙ rest);
-        behind = omega arith;
-      }
-      | in_default w ↦ record {
-        still_open = rw (w.rows-is, w.kept-is) (sym (append-nil (take c.loop-index.kept rows))
-            ∙ ap (λ (l : List Row). take c.loop-index.kept rows ++ l) w.in_default.ensures ∙ more);
-        ahead = rw w.rows-is rest;
-        behind = omega arith;
-      }
-    ]
+    let k = c.count_unchanged-index-in-loop-index.result in
+    let ys : List Row = c.match-after.rows.items in
+    let j = c.match-after.index in
+    let blank = c.index-deref-index.result in
+    let at : blank ≡ get_or xs i blank = c.index-deref-index.is ∙ ap (λ (l : List Row). get_or l i blank) c.deref-in-loop-index.ensures.0 in
+    let step : (mapped_from after xs i ≡ mapped_from after ys j) × (j ≤ length ys) × (length ys ≤ length xs) = elim c.match-after.branch [
+      | in-Some w ↦ rw (w.rows-is, w.index-is) (becomes_lent after xs w.deref_mut.result.now i w.in-Some.row blank w.deref_mut.ensures.value (omega arith) (w.in-Some.ensures ∙ ap after at))
+      | in-None w ↦ rw (w.rows-is, w.index-is, w.remove.ensures.items) (goes_short after xs i blank (omega arith) (w.in-None.ensures ∙ ap after at))
+    ] in
+    let lent = rest_of ys c.deref-in-loop-index-2.result.now j c.deref-in-loop-index-2.ensures.0 in
+    record {
+      still_open = c.loop-index.invariant.still_open ∙ step.0
+          ∙ passes after ys j k (subst (λ (l : List Row). flat_map after (take k l) ≡ take k l) lent c.count_unchanged-index-in-loop-index.ensures.rows);
+      fewer = omega (arith, step.2, c.loop-index.invariant.fewer);
+      within = (let limit = subst (λ (l : List Row). k ≤ length l) lent c.count_unchanged-index-in-loop-index.ensures.limit in omega (arith, limit, length-drop j ys, step.1));
+    }

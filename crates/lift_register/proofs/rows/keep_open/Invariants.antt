@@ -1,11 +1,15 @@
-use Rattle.std.proofs.Common.{◌≡◌, ◌≤◌, take, drop}
+use Rattle.std.proofs.Common.{◌≡◌, ◌-◌, ◌≤◌, ◌++◌, length, take, drop}
 use Rattle.std.specs.List.{flat_map}
 use Rattle.lift_base.specs.History.{row_after}
 use Rattle.lift_register.proofs.rows.keep_open.Given as goal
 
 abbrev pub invariant-loop-index : goal.invariant-loop-index
 invariant-loop-index l = record {
-  still_open : take l.kept l.rows ≡ flat_map (row_after l.stop) (take l.index l.initial.rows);
-  ahead : drop l.index l.rows ≡ drop l.index l.initial.rows;
-  behind : l.kept ≤ l.index;
+  still_open : flat_map (row_after l.stop) l.initial.rows.items
+      ≡ take l.index l.rows.items ++ flat_map (row_after l.stop) (drop l.index l.rows.items);
+  fewer : length l.rows.items ≤ length l.initial.rows.items;
+  within : l.index ≤ length l.rows.items;
 }
+
+abbrev pub decreases-loop-index : goal.decreases-loop-index
+decreases-loop-index l = length l.rows.items - l.index

@@ -20,4 +20,4 @@ returns-clause-kept c =
     c.keeper_over.ensures.opens c.keeper_over.ensures.calls c.keeper_over.ensures.image c.keeper_over.ensures.unarmed c.keeper_over.ensures.state c.keeper_over.ensures.plan c.keeper_over.ensures.whole
 
 pub unreachable-requires : goal.unreachable-requires
-unreachable-requires c = never_fails c.new-disk.result c.format.new.disk c.new-disk.ensures.unarmed c.in-Err.ensures.told.err
+unreachable-requires c = never_fails c.new-disk.result c.format.new.disk c.new-disk.ensures.unarmed c.in-Err.ensures.performs.told.err

@@ -1,4 +1,4 @@
-use Rattle.std.proofs.Common.{ℕ, ◌∙◌, sym, ap, length, replicate, false, subst, arith, refl, List, Bool}
+use Rattle.std.proofs.Common.{ℕ, ◌∙◌, sym, ap, length, replicate, false, subst, arith, refl, List, Bool, rules}
 use Rattle.std.proofs.lemmas.List.{length-replicate}
 use Rattle.lift_disk.specs.Disk.{Image, ChangesWithin}
 use Rattle.lift_disk.specs.Memory.{IsFlagged, image_after}
@@ -22,8 +22,20 @@ invariant_of-result c =
       kept = subst (λ (l : Image). ChangesWithin (IsFlagged c.in_ok-no_flags.field-0.items) now l) (c.in_ok-image.ensures ∙ sym c.in_ok-zeros.ensures) (changes_nothing (IsFlagged c.in_ok-no_flags.field-0.items) now);
     }
 
-pub returns-clause-synced : goal.returns-clause-synced
-returns-clause-synced c = record {
-  steady = refl;
-  none_loose = λ i is. none_flagged c.args.sectors i (subst (λ (l : List Bool). IsFlagged l i) c.in_ok-no_flags.ensures is);
+pub returns : goal.returns
+returns c = record {
+  blank = record {
+    zeros = search rules;
+    synced = record {
+      steady = refl;
+      none_loose = λ i is. none_flagged c.args.sectors i (subst (λ (l : List Bool). IsFlagged l i) c.in_ok-no_flags.ensures is);
+    };
+    same = search rules;
+    honest = search rules;
+    inert = search rules;
+    unarmed = search rules;
+    short = search rules;
+    failures = search rules;
+    uncalled = record { calls = search rules; writes = search rules; trace = search rules };
+  };
 }

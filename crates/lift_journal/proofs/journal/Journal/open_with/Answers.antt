@@ -9,19 +9,21 @@ returns-in-Ok-clause-opens g c =
     let place = c.in-Ok.place in
     let old = g.D.Disk.state c.args.disk in
     let new = g.D.Disk.state c.find_place.new.disk in
+    let found = c.in-Ok.ensures.finds in
+    let well = c.in-Ok.ensures.examines.ok in
     record {
       opens = opens old new place.shape place.start place.gate place.number
-          c.find_place.ensures.only c.in-Ok.ensures.failures c.in-Ok.ensures.told c.in-Ok.ensures.settled c.in-Ok.ensures.stands;
+          c.find_place.ensures.examines.only well.failures well.told (λ honest. (found.stands honest).synced) found.stands;
       whole = refl;
       opened = ap (λ (d : g.row.D.Denot). (g.D.Disk.state d).failures) c.of-opened.ensures;
       half = picks_synced place.shape place.start place.gate place.number new
-          (λ honest_new. c.in-Ok.ensures.stands (c.find_place.ensures.only.runs.honest.0 honest_new));
+          (λ honest_new. found.stands (c.find_place.ensures.examines.only.runs.honest.0 honest_new));
       calls = opening_at old new place.shape.half place.start (place.gate - place.start + 1)
-          (omega (arith, c.in-Ok.ensures.place.within.half.0)) c.in-Ok.ensures.place.halves c.in-Ok.ensures.read;
+          (omega (arith, found.place.within.half.0)) found.place.halves found.calls;
     }
 
 pub returns-in-Err-clause-refused : goal.returns-in-Err-clause-refused
 returns-in-Err-clause-refused g c =
     let old = g.D.Disk.state c.args.disk in
     let new = g.D.Disk.state c.find_place.new.disk in
-    refused_at c.in-Err.fault old new c.find_place.ensures.only c.in-Err.ensures.refused c.in-Err.ensures.cause c.in-Err.ensures.behind
+    refused_at c.in-Err.fault old new c.find_place.ensures.examines.only c.in-Err.ensures.refused c.in-Err.ensures.fixed c.in-Err.ensures.examines.err c.in-Err.ensures.behind

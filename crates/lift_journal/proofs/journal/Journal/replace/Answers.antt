@@ -32,11 +32,11 @@ invariant_of-self g c =
     let long = c.base_len.ensures.value in
     record {
       place = other_place old.size new.size j.place.shape j.place.start j.place.gate j.place.number other c.in-Ok.gate c.batches_for-batches.result pick (length records) place c.other_half-start.ensures
-          c.write_checkpoint.ensures.runs.size c.in-Ok.ensures.gate.0 c.in-Ok.ensures.gate.1 batches (omega (arith, some, long));
-      counted = omega (arith, c.self.invariant.counted, c.in-Ok.ensures.cause.ok);
+          c.write_checkpoint.ensures.performs.runs.size c.in-Ok.ensures.gate.0 c.in-Ok.ensures.gate.1 batches (omega (arith, some, long));
+      counted = omega (arith, c.self.invariant.counted, c.in-Ok.ensures.performs.cause.ok);
       failed = λ broken. absurd (cc (broken, c.if-self.false));
       stands = λ whole honest_new.
-          (let honest = c.write_checkpoint.ensures.runs.honest.0 honest_new in
+          (let honest = c.write_checkpoint.ensures.performs.runs.honest.0 honest_new in
           let stands = c.self.invariant.stands c.if-self.false honest in
           subst (λ n. StandsAt j.place.shape other c.in-Ok.gate (n + 1) new) (let same : batch_count (length records) ≡ c.batches_for-batches.result = omega (arith, batches) in same)
           (replace_stands j.place.shape j.place.start j.place.gate j.place.number other pick old register place c.other_half-start.ensures c.base_len.ensures.lawful new c.in-Ok.gate (c.in-Ok.ensures.synced honest stands.synced) stands
@@ -114,7 +114,7 @@ returns-in-Ok-clause-calls g c =
     let pick = c.other_half-start.result.1 in
     let place = c.self.invariant.place in
     let is_other = picked_at j.place.shape.half j.place.start other pick (omega (arith, place.within.half.0)) place.halves c.other_half-start.ensures in
-    let performed = performs_from c.write_checkpoint.ensures.runs c.in-Ok.ensures.cause c.in-Ok.ensures.told c.in-Ok.ensures.made c.in-Ok.ensures.follows (calls_at (checkpoint_of records) is_other) in
+    let performed = performs_from c.in-Ok.ensures.performs (calls_at (checkpoint_of records) is_other) in
     calls_seen g.D.Disk.state (λ (v : JournalView g.row.D.Denot). checkpoint_calls (half_start (not v.is_second) v.shape.half) (pick_of (not v.is_second)) (checkpoint_of records)) c.self.view_is
     (device_done _ _ _ old new performed)
 
@@ -129,7 +129,7 @@ returns-in-Err-clause-calls g c =
     let pick = c.other_half-start.result.1 in
     let place = c.self.invariant.place in
     let is_other = picked_at j.place.shape.half j.place.start other pick (omega (arith, place.within.half.0)) place.halves c.other_half-start.ensures in
-    let performed = performs_from c.write_checkpoint.ensures.runs c.in-Err.ensures.cause c.in-Err.ensures.told c.in-Err.ensures.made c.in-Err.ensures.follows (calls_at (checkpoint_of records) is_other) in
+    let performed = performs_from c.in-Err.ensures.performs (calls_at (checkpoint_of records) is_other) in
     calls_seen g.D.Disk.state (λ (v : JournalView g.row.D.Denot). checkpoint_calls (half_start (not v.is_second) v.shape.half) (pick_of (not v.is_second)) (checkpoint_of records)) c.self.view_is
     (device_failed _ _ _ old new performed)
 

@@ -1,0 +1,62 @@
+//! What is made before anybody can be served.
+
+ghost use Rattle.std.specs.Prelude.{◌≡◌, ◌≤◌, ◌⊎◌, IfOk, IfErr, length};
+ghost use Rattle.lift_desk.specs.Seats.{AreSeatsOf, IsClerkOf, OwesNothing, clerk_of, seats_from};
+ghost use Rattle.lift_serve.specs.Lobby.{AreInOrder};
+
+use crate::lacks::{Refusal, closer_of, open_desk};
+use crate::pager::Pager;
+use crate::seating::new_pagers;
+use crate::serving::ServeFault;
+use crate::socket::{Listening, ListeningCloser};
+use lift_desk::{ClerkSeat, Desk, DeskParts, Seat};
+use std::alloc::Global;
+
+/// A desk with all its seats, a pager for each terminal that there can be, and what shuts the socket
+/// down.
+pub(crate) struct Opened {
+    pub(crate) desk: Desk,
+    pub(crate) seats: Vec<Seat>,
+    pub(crate) clerk: ClerkSeat,
+    pub(crate) pagers: Vec<Pager>,
+    pub(crate) closer: ListeningCloser,
+}
+
+/// A desk of so many terminals and what belongs to it, and what shuts this socket down.
+pub(crate) fn open(
+    alloc: Global,
+    listening: &Listening,
+    terminals: usize,
+) -> Result<Opened, Refusal>
+    requires { (1 ≤ terminals) × (terminals ≤ 63) }
+    ensures count { IfOk result (λ opened. length opened.desk ≡ terminals) }
+    ensures seats { IfOk result (λ opened. opened.seats.items ≡ seats_from 0 opened.desk) }
+    ensures seats_at { IfOk result (λ opened. AreSeatsOf opened.desk opened.seats.items) }
+    ensures clerk { IfOk result (λ opened. opened.clerk ≡ clerk_of opened.desk) }
+    ensures clerk_at { IfOk result (λ opened. IsClerkOf opened.desk opened.clerk) }
+    ensures owes { IfOk result (λ opened. OwesNothing opened.clerk) }
+    ensures pagers { IfOk result (λ opened. length opened.pagers.items ≡ 63) }
+    ensures in_order { IfOk result (λ opened. AreInOrder opened.pagers.items) }
+    ensures refused { IfErr result (λ refusal. (refusal ≡ ServeFault.Network)
+        ⊎ (refusal ≡ ServeFault.Memory)) }
+{
+    let DeskParts { desk, seats, clerk } = match open_desk(alloc, terminals) {
+        Ok(parts) => parts,
+        Err(lacking) => return Err(lacking.told()),
+    };
+    let pagers = match new_pagers(alloc) {
+        Ok(pagers) => pagers,
+        Err(lacking) => return Err(lacking.told()),
+    };
+    let closer = match closer_of(listening) {
+        Ok(closer) => closer,
+        Err(refusal) => return Err(refusal),
+    };
+    Ok(Opened {
+        desk,
+        seats,
+        clerk,
+        pagers,
+        closer,
+    })
+}
