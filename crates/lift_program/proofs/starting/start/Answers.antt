@@ -13,6 +13,7 @@ use Rattle.lift_program.specs.Unwritten.{unwritten_state_of}
 use Rattle.lift_program.specs.declared.fault.Fault.TheVariants.{File}
 use Rattle.lift_program.specs.declared.fault.Role.TheVariants.{Output}
 use Rattle.lift_program.proofs.Asked.{served_end}
+use Rattle.lift_program.proofs.Stages.{some_none}
 use Rattle.lift_program.proofs.Telling.{told_once}
 use Rattle.lift_program.proofs.starting.start.Goals.{in-Ok, in-Err}
 use Rattle.lift_program.proofs.starting.start.Goals as goal
@@ -42,7 +43,7 @@ returns-clause-end g c =
 pub returns-clause-unwritten : goal.returns-clause-unwritten
 returns-clause-unwritten g c =
     elim c.match-prepare.branch [
-      | in-Ok w ↦ λ is. let e = w.end-is in absurd (cc)
+      | in-Ok w ↦ λ is. some_none (File Output) (sym is ∙ ap undone_for w.end-is)
       | in-Err w ↦ λ is. w.in-Err.ensures.unwritten (subst (λ e. undone_for e ≡ Some (File Output)) w.end-is is)
     ]
 
