@@ -315,12 +315,7 @@ impl Connections {
     }
 
     /// The connection of this number has ended, which was attended to.
-    pub(crate) fn leave(
-        &mut self,
-        bound: &Bound,
-        number: u64,
-        attended: Attended<'_>,
-    ) -> Left
+    pub(crate) fn leave(&mut self, bound: &Bound, number: u64, attended: Attended<'_>) -> Left
         ensures left { self.new ≡ record self.old {
           numbers = filter (λ n.
               not (n == number)) self.old.numbers;
@@ -333,12 +328,7 @@ impl Connections {
     }
 
     /// The connection of this number has ended, for which this was wanting.
-    pub(crate) fn leave_unattended(
-        &mut self,
-        bound: &Bound,
-        number: u64,
-        lacking: Lacking,
-    ) -> Left
+    pub(crate) fn leave_unattended(&mut self, bound: &Bound, number: u64, lacking: Lacking) -> Left
         ensures left { self.new ≡ record self.old {
           numbers = filter (λ n.
               not (n == number)) self.old.numbers;

@@ -25,11 +25,7 @@ pub(crate) struct Opened {
 
 /// A desk of so many terminals and what belongs to it, and what shuts down the socket of a serving that
 /// is bound so.
-pub(crate) fn open(
-    alloc: Global,
-    bound: &Bound,
-    terminals: usize,
-) -> Result<Opened, Hindrance>
+pub(crate) fn open(alloc: Global, bound: &Bound, terminals: usize) -> Result<Opened, Hindrance>
     requires { (1 ≤ terminals) × (terminals ≤ 63) }
     ensures count { IfOk result (λ opened. length opened.desk ≡ terminals) }
     ensures seats { IfOk result (λ opened. opened.seats.items ≡ seats_from 0 opened.desk) }

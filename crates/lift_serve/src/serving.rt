@@ -11,7 +11,9 @@ ghost use Rattle.lift_serve.specs.Open.{AreEndedAt, EndedState, IsEndAt};
 ghost use Rattle.lift_serve.specs.Relaying.{ComesTo, HaveRunOn, Relayed};
 
 use crate::connections::{Connection, Connections, Left, Over};
-use crate::lacks::{EndAt, GivenUp, Lacking, Lacks, ServingEnd, part, start_accepting, start_session};
+use crate::lacks::{
+    EndAt, GivenUp, Lacking, Lacks, ServingEnd, part, start_accepting, start_session,
+};
 use crate::lobby::Lobby;
 use crate::opened::{Opened, open};
 use crate::pace::{Bells, Closing, Pace};

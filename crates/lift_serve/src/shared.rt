@@ -61,9 +61,7 @@ impl<'a, 'd> Shared<'a, 'd> {
         ensures awaited { IfOk result (λ entered. IfSome entered (λ came. came.1 ≡ came.0)) }
         ensures over { IfErr result (IsEndAt self.entry.bound.now) }
     {
-        self.connections
-            .lock(rt)
-            .enter(alloc, self.bound, arrival)
+        self.connections.lock(rt).enter(alloc, self.bound, arrival)
     }
 
     /// No connection is served any more.
