@@ -20,7 +20,7 @@ use Rattle.lift_clerk.specs.Group.{AtSeat, TerminalAsks, TerminalHears, HearsAns
 use Rattle.lift_clerk.specs.Past.{IsEvent, IsNoEvent, PastsGoOn, TurnGoesOn, FailureGoesOn, BrokenTurnGoesOn}
 use Rattle.lift_clerk.specs.lemmas.Turned.{makes_safe}
 use Rattle.lift_clerk.specs.lemmas.Grouped.{grouped_safe, grouped_doubt, grouped_unknown}
-use Rattle.lift_clerk.proofs.Doubts.{leaves_in_doubt, answers_unknown}
+use Rattle.lift_clerk.specs.lemmas.Adding.{leaves_in_doubt, answers_unknown}
 
 -- a clerk's turn
 module _ {D P : Type 0} (law : PastsGoOn D) (choice : Choice) (any : RunsAreAny choice) (before after : ClerkState D P) where

@@ -1,5 +1,5 @@
 -- Turns that fail, and turns of a broken clerk.
-use Rattle.std.proofs.Common.{ℕ, ◌≡◌, ◌-◌, ◌<◌, true, List, [], ◌∷◌, ◌++◌, length, map, take, drop, Option, Some, refl, sym, ap, ◌∙◌, arith}
+use Rattle.std.proofs.Common.{ℕ, ◌≡◌, ◌-◌, ◌<◌, List, [], ◌∷◌, ◌++◌, length, map, take, drop, Option, Some, refl, sym, ap, ◌∙◌, arith}
 use Rattle.std.specs.Prelude.{IsTrue}
 use Rattle.std.specs.List.{AllByRecursion}
 use Rattle.std.proofs.Math.Seq.{take-length, drop-length, take-append_seam, drop-append_seam}
@@ -9,7 +9,6 @@ use Rattle.lift_base.specs.declared.history.Entry.{Entry}
 use Rattle.lift_building.specs.Plan.{Plan}
 use Rattle.lift_register.specs.Register.{RegisterState}
 use Rattle.lift_register.specs.Register.{register_of}
-use Rattle.lift_keeper.specs.Keeper.{KeeperView}
 use Rattle.lift_policy.specs.Eligible.{Choice, any_eligible}
 use Rattle.lift_policy.specs.Step.{State}
 use Rattle.lift_policy.specs.Run.{Run, unknowns}
@@ -24,14 +23,12 @@ use Rattle.lift_world.specs.Asking.{asked_on}
 use Rattle.lift_world.specs.Beside.{is_of_terminals}
 use Rattle.lift_world.specs.Policies.{RunsAreAny}
 use Rattle.lift_world.specs.Turns.{IsAtRest, IsBrokenAtRest, with_replies, failed, failed_events, turned_broken, broken_events, HasRun}
-use Rattle.lift_clerk.specs.Visits.{commands_of}
-use Rattle.lift_clerk.specs.Machine.{IsMachineOf, LooksAgree, LeadsToClerk, TurnFails, ShowsWhole, ShowsBroken, events_while_broken, FailuresAreFailures, BrokenTurnsAreBroken}
+use Rattle.lift_clerk.specs.Machine.{IsMachineOf, LooksAgree, LeadsToClerk, ShowsWhole, ShowsBroken, events_while_broken, FailuresAreFailures, BrokenTurnsAreBroken}
 use Rattle.lift_clerk.specs.Clerk.{ClerkState}
-use Rattle.lift_clerk.specs.Turn.{IsBrokenTurn}
 use Rattle.lift_clerk.specs.Steps.{LeavesInDoubt, AnswersUnknown}
 use Rattle.lift_keeper.specs.Writer.{WriterView}
 use Rattle.lift_clerk.specs.Laws.{Laws}
-use Rattle.lift_clerk.specs.lemmas.Served.{answers_of}
+use Rattle.lift_clerk.specs.lemmas.Adding.{leaves_in_doubt, answers_unknown}
 use Rattle.lift_clerk.specs.lemmas.Standing.{fresh}
 use Rattle.lift_clerk.specs.lemmas.Words.{Ends}
 use Rattle.lift_clerk.specs.lemmas.Asked.{Asked, ask, rests, rests_broken, goes_behind, not_both}
@@ -202,29 +199,6 @@ failed_batches_are_failures laws w before after t m agree =
           }),
     )
 
--- what a clerk's failed turn leaves in doubt
-abbrev pub leaves_in_doubt : {D P : Type 0} → (choice : Choice) → RunsAreAny choice → (before after : ClerkState D P) → TurnFails choice before after → LeavesInDoubt before after
-leaves_in_doubt choice any before after t = record {
-  may = record {
-    commands = commands_of 0 t.turn.visits;
-    replies = t.turn.decided_so;
-    decided = after.keeper.state;
-    apart = (answers_of before.seat after.seat t.turn.visits (unknowns (commands_of 0 t.turn.visits)) t.turn.serves).apart;
-    decides = record {
-      was_whole = t.was_whole;
-      run = any before.keeper.writer.plan before.keeper.state (commands_of 0 t.turn.visits) t.turn.decided_so after.keeper.state t.turn.run;
-      shows = t.turn.register;
-    };
-    is = sym t.turn.doubt;
-  };
-  desk = t.turn.desk;
-  answers = answers_of before.seat after.seat t.turn.visits (unknowns (commands_of 0 t.turn.visits)) t.turn.serves;
-  some = t.turn.some;
-  breaks = t.breaks;
-  same_register = t.same_register;
-  same_plan = t.same_plan;
-}
-
 pub failures_are_failures : {D P : Type 0} → Laws → (choice : Choice) → RunsAreAny choice → FailuresAreFailures D P choice
 failures_are_failures laws choice any w before after t m agree = failed_batches_are_failures laws w before after (leaves_in_doubt choice any before after t) m agree
 
@@ -247,16 +221,6 @@ unknowns_are_broken_turns {D} laws w before after t m agree =
             may_be_kept = λ some. k.4 ∙ br.may_be_kept (λ none. some (ap (λ (x : WriterView D). x.doubt) t.rests ∙ none));
           }),
     )
-
--- what a broken clerk's turn answers
-abbrev pub answers_unknown : {D P : Type 0} → (before after : ClerkState D P) → IsBrokenTurn before after → before.keeper.writer.is_broken ≡ true → AnswersUnknown before after
-answers_unknown {D} before after t was = record {
-  commands = commands_of 0 t.visits;
-  desk = t.desk;
-  answers = answers_of before.seat after.seat t.visits (unknowns (commands_of 0 t.visits)) t.serves;
-  was_broken = was;
-  rests = ap (λ (x : KeeperView D). x.writer) t.rests;
-}
 
 pub broken_turns_are_broken : {D P : Type 0} → Laws → BrokenTurnsAreBroken D P
 broken_turns_are_broken laws w before after t was m agree = unknowns_are_broken_turns laws w before after (answers_unknown before after t was) m agree

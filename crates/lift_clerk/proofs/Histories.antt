@@ -14,10 +14,10 @@ use Rattle.lift_world.specs.declared.event.Taken.{Taken}
 use Rattle.lift_world.specs.World.{World, start, safe_list}
 use Rattle.lift_world.specs.Headline.{IsOfBuilding}
 use Rattle.lift_world.specs.Turns.{with_replies}
-use Rattle.lift_clerk.specs.Steps.{GroupState, TurnMakesSafe, LeavesInDoubt, AnswersUnknown, ClerkRests, MayAdd}
+use Rattle.lift_clerk.specs.Steps.{GroupState, TurnMakesSafe, LeavesInDoubt, AnswersUnknown, TurnAdds, Safe, InDoubt, Unknown, ClerkRests, MayAdd}
 use Rattle.lift_clerk.specs.Machine.{LooksAgree, WaitsNowhere, LeadsToClerk, ClerkReopens, IsNewClerk, kept_after}
 use Rattle.lift_clerk.specs.Laws.{Laws}
-use Rattle.lift_clerk.specs.History.{History, Began, Turned, Failed, TurnedWhileBroken, Reopened, Rested, Cut}
+use Rattle.lift_clerk.specs.History.{History, Began, Turned, Reopened, Rested, Cut}
 use Rattle.lift_clerk.specs.History.{BeginsOver, IsRunOf, HistoriesAreRuns, ShowsGiven}
 use Rattle.lift_clerk.specs.Keeping.{CrashesKeep, KeepsEither, MomentsStand, MomentsKeep}
 use Rattle.lift_clerk.specs.lemmas.Turned.{batches_are_turns}
@@ -94,6 +94,14 @@ module _ {D : Type 0} (laws : Laws) where
           let k = unknowns_are_broken_turns laws r.world before after t r.shows (agree t.commands) in
           go_on _ _ (λ (xs : List Entry). xs) k.1 (ap (λ x. x.plan) t.rests)
 
+      nothing_more : (told : List Taken) → IsRunOf base after safe told → IsRunOf base after (safe ++ []) told
+      nothing_more told k = subst (λ (es : List Entry). IsRunOf base after es told) (sym (append-nil safe)) k
+
+      any_run : (fails : Bool) (batch more : List Entry) (told : List Taken) → TurnAdds before after fails batch more told → IsRunOf base after (safe ++ more) (given ++ told)
+      any_run fails batch more told (Safe t) = turn_run t
+      any_run fails batch more told (InDoubt t) = nothing_more _ (failure_run t)
+      any_run fails batch more told (Unknown t) = nothing_more _ (broken_run t)
+
       reopening_run : (o : ClerkReopens before after) → IsRunOf base after (kept_after safe before.keeper.writer.doubt o.one_of) given
       reopening_run o =
           let k = reopenings_are_reopenings laws r.world before after o r.shows in
@@ -131,9 +139,7 @@ module _ {D : Type 0} (laws : Laws) where
 
   run_of : (base : RegisterState) (clerk : GroupState D) (safe : List Entry) (given : List Taken) → History base clerk safe given → IsRunOf base clerk safe given
   run_of base clerk safe given (Began sound of b same) = start_run base clerk sound of b same
-  run_of base clerk safe given (Turned h t) = turn_run _ _ _ _ (run_of _ _ _ _ h) clerk t
-  run_of base clerk safe given (Failed h t) = failure_run _ _ _ _ (run_of _ _ _ _ h) clerk t
-  run_of base clerk safe given (TurnedWhileBroken h t) = broken_run _ _ _ _ (run_of _ _ _ _ h) clerk t
+  run_of base clerk safe given (Turned h t) = any_run _ _ _ _ (run_of _ _ _ _ h) clerk _ _ _ _ t
   run_of base clerk safe given (Reopened h o) = reopening_run _ _ _ _ (run_of _ _ _ _ h) clerk o
   run_of base clerk safe given (Rested h s) = rest_run _ _ _ _ (run_of _ _ _ _ h) clerk s s.broken
   run_of base clerk safe given (Cut {batch = batch} {image = image} h may doubt b) =

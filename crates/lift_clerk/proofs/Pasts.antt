@@ -23,15 +23,16 @@ use Rattle.lift_world.specs.declared.event.Taken.{Taken}
 use Rattle.lift_world.specs.World.{World, start, asks, is_answer_to, safe_list}
 use Rattle.lift_world.specs.Next.{goes}
 use Rattle.lift_clerk.specs.Answered.{Answers, answer_words, ask_of}
-use Rattle.lift_clerk.specs.Steps.{GroupState, MayAdd}
+use Rattle.lift_clerk.specs.Steps.{GroupState, Safe, MayAdd}
 use Rattle.lift_clerk.specs.Machine.{IsReached, IsMachineOf, ShowsWords, LeadsToClerk, WaitsNowhere, waiting_in, IsNewClerk, kept_after}
 use Rattle.lift_clerk.specs.Laws.{Laws}
 use Rattle.lift_policy.specs.Run.{unknowns as all_unknown}
-use Rattle.lift_clerk.specs.History.{History, Began, Turned, Failed, TurnedWhileBroken, Reopened, Rested, Cut, BeginsOver}
+use Rattle.lift_clerk.specs.History.{History, Began, Turned, Reopened, Rested, Cut, BeginsOver}
 use Rattle.lift_clerk.specs.Group.{Terminals, ShowsTerminal, IsGroup, TakesAsks}
 use Rattle.lift_clerk.specs.Past.{IsPastOf, LeadsToPast, PastsBegin, AsksAreAsks, HearsAreHears, ReadsAreNoEvents, BatchesAreTurns, DoubtsAreFailures, UnknownsAreBroken, ReopeningsAreReopenings}
 use Rattle.lift_clerk.specs.Past.{RestsAreNoEvents, FirstFaultsAreFaults, CutsAreCuts, PastsGoOn}
 use Rattle.lift_clerk.specs.lemmas.Asked.{goes_behind}
+use Rattle.lift_clerk.specs.lemmas.Adding.{failed, turned_while_broken}
 use Rattle.lift_clerk.specs.lemmas.Turned.{batches_are_turns}
 use Rattle.lift_clerk.specs.lemmas.Reopened.{reopenings_are_reopenings, rests_are_no_events, faults_are_events, begins_at_start}
 use Rattle.lift_clerk.specs.lemmas.Words.{asks_count}
@@ -173,7 +174,7 @@ module _ {D : Type 0} (laws : Laws) where
       let k = batches_are_turns laws w before after t p.shows.machine (stand_agree w t.commands stand) in (
         k.0,
         λ folds. follow w _ given _ (λ (xs : List Entry). xs ++ t.decided.batch) safe after terminals p.shows.theirs p.safe_is p.given_is (stand_waits w t.commands t.replies stand)
-            (Turned p.history t) (k.1 folds),
+            (Turned p.history (Safe t)) (k.1 folds),
       )
 
   doubts : DoubtsAreFailures D
@@ -182,7 +183,7 @@ module _ {D : Type 0} (laws : Laws) where
       let k = failed_batches_are_failures laws w before after t p.shows.machine (stand_agree w t.may.commands stand) in (
         k.0,
         λ folds. none_safe w _ _ safe after terminals
-            (follow w _ given _ (λ (xs : List Entry). xs) safe after terminals p.shows.theirs p.safe_is p.given_is (stand_waits w t.may.commands (all_unknown t.may.commands) stand) (Failed p.history t) (k.1 folds)),
+            (follow w _ given _ (λ (xs : List Entry). xs) safe after terminals p.shows.theirs p.safe_is p.given_is (stand_waits w t.may.commands (all_unknown t.may.commands) stand) (failed p.history t) (k.1 folds)),
       )
 
   unknowns : UnknownsAreBroken D
@@ -191,7 +192,7 @@ module _ {D : Type 0} (laws : Laws) where
       let k = unknowns_are_broken_turns laws w before after t p.shows.machine (stand_agree w t.commands stand) in (
         k.0,
         λ folds. none_safe w _ _ safe after terminals
-            (follow w _ given _ (λ (xs : List Entry). xs) safe after terminals p.shows.theirs p.safe_is p.given_is (stand_waits w t.commands (all_unknown t.commands) stand) (TurnedWhileBroken p.history t) k.1),
+            (follow w _ given _ (λ (xs : List Entry). xs) safe after terminals p.shows.theirs p.safe_is p.given_is (stand_waits w t.commands (all_unknown t.commands) stand) (turned_while_broken p.history t) k.1),
       )
 
   reopenings : ReopeningsAreReopenings D

@@ -1,20 +1,17 @@
 -- What can have happened to a group, at most, over all its clerks and their parts, faults,
 -- reopenings and power cuts.
-use Rattle.std.specs.Prelude.{◌≡◌, List, [], ◌++◌, All}
+use Rattle.std.specs.Prelude.{◌≡◌, Bool, List, [], ◌++◌, All}
 use Rattle.std.specs.List.{flat_map}
 use Rattle.lift_base.specs.declared.history.Entry.{Entry}
 use Rattle.lift_building.specs.Plan.{Plan, IsBuilding}
 use Rattle.lift_disk.specs.Disk.{Image}
 use Rattle.lift_register.specs.Register.{RegisterState, register_of}
-use Rattle.lift_policy.specs.Run.{unknowns}
 use Rattle.lift_keeper.specs.Images.{IsImageOf, IsInDoubt}
 use Rattle.lift_world.specs.declared.event.Taken.{Taken}
 use Rattle.lift_world.specs.World.{World, safe_list, told_in}
 use Rattle.lift_world.specs.Headline.{IsOfBuilding, IsHeld, StillNames}
-use Rattle.lift_world.specs.Turns.{with_replies}
 use Rattle.lift_clerk.specs.Clerk.{ClerkState}
-use Rattle.lift_clerk.specs.Steps.{GroupState, TurnMakesSafe, LeavesInDoubt, AnswersUnknown}
-use Rattle.lift_clerk.specs.Steps.{ClerkRests, MayAdd}
+use Rattle.lift_clerk.specs.Steps.{GroupState, TurnAdds, ClerkRests, MayAdd}
 use Rattle.lift_clerk.specs.Machine.{IsMachineOf, WaitsNowhere, ClerkReopens, IsNewClerk}
 use Rattle.lift_clerk.specs.Machine.{kept_after}
 
@@ -38,19 +35,10 @@ pub data History {D : Type 0} (base : RegisterState) : GroupState D → List Ent
   Began : {group : GroupState D} → IsBuilding group.keeper.writer.plan
       → IsOfBuilding group.keeper.writer.plan base → IsNewClerk group
       → group.keeper.writer.register ≡ base → History base group [] []
-  -- A batch is made safe behind the rest, and its commands have their replies.
-  Turned : {before after : GroupState D} {safe : List Entry} {given : List Taken}
-      → History base before safe given → (t : TurnMakesSafe before after)
-      → History base after (safe ++ t.decided.batch) (given ++ with_replies t.commands t.replies)
-  -- The device fails it: nothing more is safe, and its commands were answered Unknown.
-  Failed : {before after : GroupState D} {safe : List Entry} {given : List Taken}
-      → History base before safe given → (t : LeavesInDoubt before after)
-      → History base after safe
-      (given ++ with_replies t.may.commands (unknowns t.may.commands))
-  -- So were those that came behind the fault.
-  TurnedWhileBroken : {before after : GroupState D} {safe : List Entry} {given : List Taken}
-      → History base before safe given → (t : AnswersUnknown before after)
-      → History base after safe (given ++ with_replies t.commands (unknowns t.commands))
+  -- A turn adds to what is safe and to what was answered, whether it fails or not.
+  Turned : {before after : GroupState D} {safe batch more : List Entry} {given told : List Taken}
+      {fails : Bool} → History base before safe given → TurnAdds before after fails batch more told
+      → History base after (safe ++ more) (given ++ told)
   -- A reopening keeps what was safe, or that and the batch in doubt.
   Reopened : {before after : GroupState D} {safe : List Entry} {given : List Taken}
       → History base before safe given → (r : ClerkReopens before after)

@@ -82,9 +82,3 @@ pub record AdvancesFrom {D : Type 0} (base : RegisterState) (before : GroupState
   pub history : History base after (safe ++ more) (given ++ told)
   pub stands : KeepsThroughout base before safe given batch old new
   pub now : KeepsNow base after (safe ++ more) (given ++ told) new
-
--- So it is whatever had happened before.
-abbrev pub Advances : {D : Type 0} → (before after : GroupState D) (batch more : List Entry)
-    (told : List Taken) (old new : DiskState) → Type 0
-Advances before after batch more told old new = (base : RegisterState) (safe : List Entry)
-    (given : List Taken) → History base before safe given → AdvancesFrom base before safe given after batch more told old new

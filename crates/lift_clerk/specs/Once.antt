@@ -1,9 +1,9 @@
 -- What one turn of a running clerk tells, and one reopening, whatever they answer.
-use Rattle.std.specs.Prelude.{◌≡◌, ◌⊎◌, true, List, [], Result, Ok, Err, IfOk, OnOk, OnErr}
+use Rattle.std.specs.Prelude.{◌≡◌, ◌⊎◌, true, List, Result, Err, IfOk, OnOk, OnErr, is_err}
 use Rattle.lift_base.specs.declared.history.Entry.{Entry}
 use Rattle.lift_disk.specs.Disk.{DiskState}
+use Rattle.lift_register.specs.Register.{RegisterState}
 use Rattle.lift_policy.specs.Eligible.{Choice}
-use Rattle.lift_policy.specs.Run.{unknowns}
 use Rattle.lift_decider.specs.Decider.{starting}
 use Rattle.lift_journal.specs.declared.fault.JournalFault.TheVariants.{Disk, Broken}
 use Rattle.lift_keeper.specs.declared.fault.KeeperFault.{KeeperFault}
@@ -15,11 +15,10 @@ use Rattle.lift_clerk.specs.declared.counts.Counts.{Counts}
 use Rattle.lift_clerk.specs.Clerk.{ClerkState}
 use Rattle.lift_clerk.specs.Turn.{IsTurn, IsFailedTurn, IsBrokenTurn, entries_in}
 use Rattle.lift_world.specs.declared.event.Taken.{Taken}
-use Rattle.lift_world.specs.Turns.{with_replies}
-use Rattle.lift_clerk.specs.Visits.{commands_of}
-use Rattle.lift_clerk.specs.Steps.{group_of}
+use Rattle.lift_clerk.specs.Steps.{group_of, TurnAdds}
 use Rattle.lift_clerk.specs.Machine.{ClerkReopens, Stays}
-use Rattle.lift_clerk.specs.Keeping.{Advances}
+use Rattle.lift_clerk.specs.History.{History}
+use Rattle.lift_clerk.specs.Keeping.{AdvancesFrom}
 
 -- A turn of the machine, or one that the device failed, or one while broken.
 pub record TurnsOnce {D P : Type 0} (state : D → DiskState) (choice : Choice)
@@ -51,27 +50,16 @@ pub record ReopensOnce {D P T : Type 0} (state : D → DiskState) (before after 
   pub kept : (after.desk ≡ before.desk) × (after.seat ≡ before.seat)
       × (after.policy ≡ before.policy)
 
--- What one turn adds, by what it answers: which batch is on its way in it, what is safe behind it and
--- which commands it answers, and how.
-pub data TurnAdds {D P : Type 0} (choice : Choice) (before after : ClerkState D P)
-    : Result Counts KeeperFault → (batch more : List Entry) → List Taken → Type 0 where
-  -- It makes its batch safe, and then gives its replies.
-  Safe : {counts : Counts} → (t : IsTurn choice before after counts)
-      → TurnAdds choice before after (Ok counts) t.decided.batch t.decided.batch
-      (with_replies (commands_of 0 t.visits) t.replies)
-  -- The device fails it: its batch is in doubt, and nothing more is safe.
-  InDoubt : (t : IsFailedTurn choice before after)
-      → TurnAdds choice before after (Err (Journal Disk)) after.keeper.state.batch []
-      (with_replies (commands_of 0 t.visits) (unknowns (commands_of 0 t.visits)))
-  -- Behind a fault there is what is in doubt.
-  Unknown : (t : IsBrokenTurn before after)
-      → TurnAdds choice before after (Err (Journal Broken)) before.keeper.writer.doubt []
-      (with_replies (commands_of 0 t.visits) (unknowns (commands_of 0 t.visits)))
-
--- By that the group's history goes on, and what was given is kept.
-abbrev pub TurnAdvances : {D P : Type 0} → (D → DiskState) → Choice → (before after : ClerkState D P)
-    → Result Counts KeeperFault → Type 0
-TurnAdvances state choice before after result = (batch more : List Entry) (told : List Taken)
-    → TurnAdds choice before after result batch more told
-    → Advances (group_of before) (group_of after) batch more told
-    (state before.keeper.writer.device) (state after.keeper.writer.device)
+-- It is a turn of its group, as what it answers tells: it adds to what is safe and to what was
+-- answered. Whatever had happened before, the group's history goes on by whichever turn it is seen
+-- as, and what was given is kept.
+pub record TurnAdvances {D P : Type 0} (state : D → DiskState) (before after : ClerkState D P)
+    (result : Result Counts KeeperFault) : Type 0 where
+  pub adds : (batch : List Entry) × (more : List Entry) × (told : List Taken)
+      × TurnAdds (group_of before) (group_of after) (is_err result) batch more told
+  pub goes_on : (batch more : List Entry) (told : List Taken)
+      → TurnAdds (group_of before) (group_of after) (is_err result) batch more told
+      → (base : RegisterState) (safe : List Entry) (given : List Taken)
+      → History base (group_of before) safe given
+      → AdvancesFrom base (group_of before) safe given (group_of after) batch more told
+      (state before.keeper.writer.device) (state after.keeper.writer.device)

@@ -1,5 +1,5 @@
 -- What can happen to a group in one step, whether a clerk makes it or the flusher of its two parts.
-use Rattle.std.specs.Prelude.{ℕ, ◌≡◌, ◌⊎◌, ◌<◌, true, false, List, [], length}
+use Rattle.std.specs.Prelude.{ℕ, ◌≡◌, ◌⊎◌, ◌<◌, Bool, true, false, List, [], length}
 use Rattle.lift_base.specs.declared.history.Entry.{Entry}
 use Rattle.lift_base.specs.declared.command.Reply.{Reply}
 use Rattle.lift_register.specs.Register.{register_of}
@@ -9,6 +9,8 @@ use Rattle.lift_policy.specs.Eligible.{any_eligible}
 use Rattle.lift_policy.specs.Step.{State}
 use Rattle.lift_policy.specs.Run.{Run, unknowns}
 use Rattle.lift_keeper.specs.Keeper.{KeeperView}
+use Rattle.lift_world.specs.declared.event.Taken.{Taken}
+use Rattle.lift_world.specs.Turns.{with_replies}
 use Rattle.lift_clerk.specs.Answered.{AreApart, Answers}
 use Rattle.lift_clerk.specs.Clerk.{ClerkState}
 use Rattle.lift_clerk.specs.Turn.{settled}
@@ -75,6 +77,23 @@ pub record AnswersUnknown {D P : Type 0} (old new : ClerkState D P) : Type 0 whe
   pub answers : Answers old.seat new.seat commands (unknowns commands)
   pub was_broken : old.keeper.writer.is_broken ≡ true
   pub rests : new.keeper.writer ≡ old.keeper.writer
+
+-- What a turn adds, and whether it fails: which batch is on its way in it, what is safe behind it,
+-- and which commands it answers, and how.
+pub data TurnAdds {D : Type 0} (before after : GroupState D) : (fails : Bool)
+    → (batch more : List Entry) → List Taken → Type 0 where
+  -- It makes its batch safe, and then gives its replies.
+  Safe : (t : TurnMakesSafe before after)
+      → TurnAdds before after false t.decided.batch t.decided.batch
+      (with_replies t.commands t.replies)
+  -- The device fails it: its batch is in doubt, and nothing more is safe.
+  InDoubt : (t : LeavesInDoubt before after)
+      → TurnAdds before after true after.keeper.writer.doubt []
+      (with_replies t.may.commands (unknowns t.may.commands))
+  -- It comes behind a fault: there is what is in doubt.
+  Unknown : (t : AnswersUnknown before after)
+      → TurnAdds before after true before.keeper.writer.doubt []
+      (with_replies t.commands (unknowns t.commands))
 
 -- Nothing is taken, answered or made safe, and the desk is the same. What a keeper shows stays while
 -- nothing has failed; once something has, it is no matter.

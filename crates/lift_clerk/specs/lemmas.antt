@@ -10,4 +10,5 @@ pub mod Reopened
 pub mod Committed
 pub mod Grouped
 pub mod Keeps
+pub mod Adding
 pub mod Based

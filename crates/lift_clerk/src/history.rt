@@ -98,8 +98,7 @@ pub fn turn_shows_letters<D: Disk, P: Policy + Drop>(
 ) -> Result<Counts, KeeperFault>
     ensures turn { TurnsOnce
         D.state (P.chooses clerk.old.policy) clerk.old clerk.new result }
-    ensures advances { TurnAdvances
-        D.state (P.chooses clerk.old.policy) clerk.old clerk.new result }
+    ensures advances { TurnAdvances D.state clerk.old clerk.new result }
 {
     histories_are_runs::<D>();
     policies_are_covered::<P>();

@@ -1,6 +1,6 @@
 -- The flusher's turns are steps of its group.
 use Rattle.std.proofs.Common.{ℕ, ◌≡◌, ◌≢◌, ◌⊎◌, ⊎_elim, inl, inr, ◌<◌, Bool, true, false, List, [], ◌∷◌, ◌++◌, length, map, refl, sym, ap, subst, ◌∙◌, arith, append_assoc}
-use Rattle.std.specs.Prelude.{Option, Result, Ok, Err, OnOk}
+use Rattle.std.specs.Prelude.{Option, Result, Ok, Err, OnOk, is_ok}
 use Rattle.std.proofs.Math.Seq.{drop-length}
 use Rattle.std.proofs.lemmas.List.{append-nil, length-map}
 use mathlib.Core.List.{map-append}
@@ -28,15 +28,16 @@ use Rattle.lift_world.specs.Turns.{with_replies}
 use Rattle.lift_clerk.specs.Answered.{Answers}
 use Rattle.lift_clerk.specs.lemmas.Committed.{moment_of}
 use Rattle.lift_clerk.specs.Clerk.{ClerkState}
-use Rattle.lift_clerk.specs.Steps.{group_of, DecidesOn, TurnMakesSafe, LeavesInDoubt, AnswersUnknown, MayAccept, ClerkRests}
+use Rattle.lift_clerk.specs.Steps.{group_of, DecidesOn, TurnMakesSafe, LeavesInDoubt, AnswersUnknown, MayAccept, ClerkRests, Safe}
 use Rattle.lift_clerk.specs.Group.{Terminals, TakesAsks}
 use Rattle.lift_clerk.specs.Past.{IsPastOf, LeadsToPast, PastsGoOn}
-use Rattle.lift_clerk.specs.History.{History, Turned, Failed, TurnedWhileBroken, Rested}
+use Rattle.lift_clerk.specs.History.{History, Turned, Rested}
 use Rattle.lift_clerk.specs.Keeping.{CrashesKeep, MomentsKeep, LeavesSafe, KeepsNow}
+use Rattle.lift_clerk.specs.lemmas.Adding.{failed, turned_while_broken}
 use Rattle.lift_clerk.specs.lemmas.Keeps.{kept_now}
 use Rattle.lift_parts.specs.declared.counts.FlushCounts.{FlushCounts}
 use Rattle.lift_parts.specs.Batch.{BatchState, state_with_entries, AreBelow, commands_in, replies_in, entries_of_batches}
-use Rattle.lift_parts.specs.Flusher.{FlusherState, IsFlusher, IsEmptyTurn, IsBatchTurn, Answered, is_ok, entries_between}
+use Rattle.lift_parts.specs.Flusher.{FlusherState, IsFlusher, IsEmptyTurn, IsBatchTurn, Answered, entries_between}
 use Rattle.lift_parts.specs.Turns.{NoFlush, OneFlush}
 use Rattle.lift_parts.specs.History.{group_behind, held_in, Adds, GoesOnTo, FlushStands, FlushesStand, TurnsGoOn, SplitsGoOn, JoinedGoOn}
 use Rattle.lift_parts.specs.Past.{flush_events, FlushLeadsOn, FlushesLeadOn, SplitsKeepPasts, JoinedKeepPasts}
@@ -276,7 +277,7 @@ module _ {D : Type 0} (state : D → DiskState) (crashes : CrashesKeep D) (law :
 
       safe_history : Now (safe ++ entries_of_batches (batch ∷ [])) (given ++ (held_in (batch ∷ []) ++ map unknown_to (held_in [])))
       safe_history = subst (λ (xs : List Entry). Now (safe ++ xs) (given ++ (held_in (batch ∷ []) ++ map unknown_to (held_in [])))) (sym (append-nil batch.entries))
-          (subst (λ (ts : List Held). Now (safe ++ batch.entries) ts) (kept_told (Ok counts) t) (Turned h makes_safe))
+          (subst (λ (ts : List Held). Now (safe ++ batch.entries) ts) (kept_told (Ok counts) t) (Turned h (Safe makes_safe)))
 
       pub safe_stands : FlushStands f g base safe given old new
       safe_stands = record {
@@ -353,26 +354,26 @@ module _ {D : Type 0} (state : D → DiskState) (crashes : CrashesKeep D) (law :
 
       disk_stands : f.writer.is_broken ≡ false → fault ≡ Journal Disk → FlushStands f g base safe given old new
       disk_stands whole e = record {
-        goes_on = lost_goes_on (Failed h (leaves_in_doubt whole e));
+        goes_on = lost_goes_on (failed h (leaves_in_doubt whole e));
         received = batch ∷ [];
         receives = one_received (Err fault) t;
         batch = batch.entries;
         while_whole = λ still. sym (append-nil batch.entries);
         while_broken = λ broken. both f.writer.is_broken whole broken;
         stands = law (group_behind f) batch.entries g.writer.device (inr (accepts (Err fault) t whole)) (moments_whole (Err fault) t whole c) base safe given h;
-        now = lost_now (Failed h (leaves_in_doubt whole e));
+        now = lost_now (failed h (leaves_in_doubt whole e));
       }
 
       broken_stands : f.writer.is_broken ≡ true → FlushStands f g base safe given old new
       broken_stands broken = record {
-        goes_on = lost_goes_on (TurnedWhileBroken h (answers_unknown broken));
+        goes_on = lost_goes_on (turned_while_broken h (answers_unknown broken));
         received = batch ∷ [];
         receives = one_received (Err fault) t;
         batch = f.writer.doubt;
         while_whole = λ whole. both f.writer.is_broken whole broken;
         while_broken = λ still. refl;
         stands = law (group_behind f) f.writer.doubt g.writer.device (inl refl) (c.is.safe.while_broken broken) base safe given h;
-        now = lost_now (TurnedWhileBroken h (answers_unknown broken));
+        now = lost_now (turned_while_broken h (answers_unknown broken));
       }
 
       lost_leads : (w : World) (terminals : Terminals) (was : Bool) (letters : List (Option ℕ)) → f.writer.is_broken ≡ was

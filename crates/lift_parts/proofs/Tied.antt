@@ -282,7 +282,7 @@ queue_none count (b ∷ waiting) queue e k = absurd (cc)
 
 module _ {D P : Type 0} (laws : RelayLaws) (w : World) (a : AllocatorState P) (f : FlusherState D) (clerk : ClerkState D P) (r : IsRejoined a f clerk) (m : IsRelayOf w a f) where
   none_left : m.waiting ≡ []
-  none_left = none_waits a.end.sent a.hand f.end.received m.waiting m.line r.nothing_in_hand r.all_received
+  none_left = none_waits a.end.sent a.hand f.end.received m.waiting m.line r.nothing_in_hand (ap length r.all_received)
 
   none_in : w.queue ≡ []
   none_in = queue_none (length f.seat) m.waiting w.queue none_left m.queue

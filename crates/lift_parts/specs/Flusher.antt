@@ -1,6 +1,6 @@
 -- The part that makes batches safe and answers.
 use Rattle.std.specs.Prelude.{ℕ, ◌≡◌, ◌≢◌, ◌≤◌, Bool, true, false, List, [], ◌∷◌, length, drop}
-use Rattle.std.specs.Prelude.{slice_index_or, Some, Result, Ok, Err}
+use Rattle.std.specs.Prelude.{slice_index_or, Some, Result, Ok, Err, is_ok}
 use Rattle.atomic_table.specs.Seated.{TableId}
 use Rattle.lift_desk.specs.Words.{turn_of, last_of}
 use Rattle.lift_desk.specs.Steps.{with_taking}
@@ -59,10 +59,6 @@ Answered is_safe places [] next = next ≡ places
 Answered is_safe places (taken ∷ batch) next = (visit : Visit) × (mid : List ClerkPlace)
     × AnswersOne is_safe places taken visit mid × Answered is_safe mid batch next
 
-abbrev pub is_ok : {A B : Type 0} → Result A B → Bool
-is_ok (Ok a) = true
-is_ok (Err b) = false
-
 -- how many entries were received from one state of an end to another
 abbrev pub entries_between : ReceiveState → ReceiveState → ℕ
 entries_between old new =
@@ -85,7 +81,6 @@ pub record IsBatchTurn {D : Type 0} (old new : FlusherState D) (batch : BatchSta
   pub answered : Answered (is_ok result) old.seat batch.commands new.seat
   pub counts : (counts : FlushCounts) → result ≡ Ok counts
       → (counts.batches ≡ 1) × (counts.answers ≡ length batch.commands)
-  pub whole : (counts : FlushCounts) → result ≡ Ok counts → new.writer.is_broken ≡ false
   pub fails : result ≡ Err (Journal Disk)
       → (new.writer.doubt ≡ batch.entries) × (batch.entries ≢ [])
   pub decided : IsDecided batch

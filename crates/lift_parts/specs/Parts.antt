@@ -1,5 +1,5 @@
 -- A clerk in two parts, and the parts together again.
-use Rattle.std.specs.Prelude.{◌≡◌, ◌⊎◌, true, [], length}
+use Rattle.std.specs.Prelude.{◌≡◌, ◌⊎◌, true, []}
 use Rattle.lift_desk.specs.Seats.{OwesNothing, ahead_from}
 use Rattle.lift_clerk.specs.Clerk.{ClerkState}
 use Rattle.lift_clerk.specs.Turn.{settled}
@@ -38,11 +38,10 @@ pub record IsRejoined {D P : Type 0} (a : AllocatorState P) (f : FlusherState D)
   pub state : clerk.keeper.state ≡ a.state
   pub writer : clerk.keeper.writer ≡ f.writer
   pub policy : clerk.policy ≡ a.policy
-  pub all_received : length a.end.sent ≡ length f.end.received
+  -- the very batches, and not as many alone
+  pub all_received : a.end.sent ≡ f.end.received
   pub nothing_in_hand : a.hand ≡ []
   pub all_answered : OwesNothing f.seat
   pub all_safe : (f.writer.is_broken ≡ true) ⊎ (a.state.register ≡ f.writer.register)
   -- what the flusher has received is all that the allocator decides on
   pub same_state : a.state ≡ f.end.state
-  -- not their number alone
-  pub same_batches : a.end.sent ≡ f.end.received

@@ -1,6 +1,7 @@
 -- The flusher's turns in the machine's world of its group, with the terminals of its desk. Terminals
 -- ask and hear meanwhile as at a whole clerk: what they do is an event whatever the group is.
-use Rattle.std.specs.Prelude.{ℕ, ◌≡◌, Bool, true, false, List, [], ◌∷◌, ◌++◌, length, Option, Result}
+use Rattle.std.specs.Prelude.{ℕ, ◌≡◌, Bool, true, false, List, [], ◌∷◌, ◌++◌, length, Option}
+use Rattle.std.specs.Prelude.{Result, is_ok}
 use Rattle.lift_base.specs.declared.history.Entry.{Entry}
 use Rattle.lift_disk.specs.Disk.{DiskState}
 use Rattle.lift_keeper.specs.declared.fault.KeeperFault.{KeeperFault}
@@ -16,7 +17,7 @@ use Rattle.lift_clerk.specs.Group.{Terminals, TakesAsks}
 use Rattle.lift_clerk.specs.Past.{IsPastOf, LeadsToPast}
 use Rattle.lift_parts.specs.declared.counts.FlushCounts.{FlushCounts}
 use Rattle.lift_parts.specs.Batch.{BatchState, commands_in}
-use Rattle.lift_parts.specs.Flusher.{FlusherState, is_ok}
+use Rattle.lift_parts.specs.Flusher.{FlusherState}
 use Rattle.lift_parts.specs.Turns.{IsFlush}
 use Rattle.lift_parts.specs.History.{group_behind, Adds}
 

@@ -179,6 +179,13 @@ NothingTakenIsNoEvent D P choice =
     (t : IsScanTurn choice a b counts) → commands_of 0 t.visits ≡ []
     → IsRelayOf w a f → IsRelayOf w b f
 
+-- A turn that finds nothing to do is no event: where the line was full or empty, and where a scan
+-- took nothing.
+pub record IdleTurnsAreNoEvents (D P : Type 0) (choice : Choice) : Type 0 where
+  pub full : FullTurnsAreNoEvents D P
+  pub empty : EmptyTurnsAreNoEvents D P
+  pub nothing : NothingTakenIsNoEvent D P choice
+
 -- It stays so whatever terminals ask and hear.
 abbrev pub TerminalsKeepParts : (D P : Type 0) → Type 0
 TerminalsKeepParts D P = (w end : World) (a : AllocatorState P) (f : FlusherState D) (event : Event)

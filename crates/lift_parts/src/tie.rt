@@ -3,9 +3,8 @@
 ghost use Rattle.lift_parts.specs.Laws.{RelayLaws};
 ghost use Rattle.lift_parts.specs.History.{FlushesStand, TurnsGoOn, SplitsGoOn, JoinedGoOn};
 ghost use Rattle.lift_parts.specs.Tie.{SplitsAreNoEvents, RejoiningsAreNoEvents};
-ghost use Rattle.lift_parts.specs.Tie.{FullTurnsAreNoEvents, EmptyTurnsAreNoEvents};
+ghost use Rattle.lift_parts.specs.Tie.{IdleTurnsAreNoEvents, TerminalsKeepParts};
 ghost use Rattle.lift_parts.specs.Tie.{SendingsAreNoEvents, TellingsAreNoEvents};
-ghost use Rattle.lift_parts.specs.Tie.{NothingTakenIsNoEvent, TerminalsKeepParts};
 ghost use Rattle.lift_parts.specs.Tie.{QueuedHaveRoom, ScansAreAllocations};
 ghost use Rattle.lift_parts.specs.Tie.{FlushesAreFlushes, FailedFlushesAreFailures};
 ghost use Rattle.lift_parts.specs.Tie.{BrokenFlushesAreBroken};
@@ -44,11 +43,9 @@ fn relay_laws()
 pub fn relays_are_the_machines<D: Disk, P: Policy>()
     ensures split { SplitsAreNoEvents D P }
     ensures rejoined { RejoiningsAreNoEvents D P }
-    ensures full { FullTurnsAreNoEvents D P }
-    ensures empty { EmptyTurnsAreNoEvents D P }
+    ensures idle { (policy : P) → IdleTurnsAreNoEvents D P (P.chooses policy) }
     ensures sent { SendingsAreNoEvents D P }
     ensures told { TellingsAreNoEvents D P }
-    ensures nothing { (policy : P) → NothingTakenIsNoEvent D P (P.chooses policy) }
     ensures terminals { TerminalsKeepParts D P }
     ensures queued { QueuedHaveRoom D P }
     ensures scans { (policy : P) → ScansAreAllocations D P (P.chooses policy) }

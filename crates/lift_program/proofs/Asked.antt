@@ -1,5 +1,5 @@
 -- What words come to.
-use Rattle.std.proofs.Common.{◌≡◌, ℕ, Option, List, false, refl, inl, inr, subst}
+use Rattle.std.proofs.Common.{◌≡◌, ◌≢◌, ℕ, Option, List, false, refl, inl, inr, subst}
 use Rattle.std.specs.declared.net.tcp.TcpListener.{TcpListener as Listener}
 use Rattle.clap.specs.Words.{Text}
 use Rattle.lift_keeper.specs.Keeper.{KeeperView}
@@ -67,6 +67,10 @@ served_end files gives input words before after keeper listener port sessions po
       ),
       subst (λ (p : ℕ). SaysFront p before after) at (said_front port before after said),
     )
+
+-- what is so of all requests but a replay is so where the words ask for none
+pub no_replay : (words : List Text) (request : Request) (P : Type 0) → AskForRequest words request → (request ≢ Replay → P) → ¬ AskForRequest words Replay → P
+no_replay words request P asks holds none = holds (λ same. none (subst (AskForRequest words) same asks))
 
 -- memory was wanting for the words
 pub unread_words : (files : CommandFiles) (gives : ℕ → Option Listener → Type 0) (input : Option (List ℕ)) (words : List Text) (written : Option (List ℕ)) → IsEndOf files gives input words written written (Failed (Memory tt) files.image.opener)

@@ -214,7 +214,8 @@ pub record IsUnformatted (files : CommandFiles) (image building : List ℕ) (hal
 abbrev pub IsUnmade : (files : CommandFiles) → (image building : List ℕ) → (half : ℕ)
     → Undone files.image.Made files.image.File files.image.Opener → Type 0
 IsUnmade files image building half (NoBuilding fault unused) =
-    IsBuildingFault (files.is_text building) fault × (unused ≡ files.image.opener)
+    IsBuildingFault (files.is_text building) (files.is_no_text building) fault
+    × (unused ≡ files.image.opener)
 IsUnmade files image building half (NoImageHad refused) =
     IsNoImage (files.is_text building) (files.image.is_unmade image (2 + 2 * half)) refused.fault
     refused.cause
@@ -257,11 +258,11 @@ IsUnread new = (new.failed ≡ true) ⊎ ((new.calls ≡ 2097152) × (new.ended 
 abbrev pub IsRequestFault : CommandFiles → Request → Fault → Type 0
 IsRequestFault files Replay fault = IsReplayFault fault
 IsRequestFault files (Format image building half) fault =
-    IsBuildingFault (files.is_text building.now) fault
+    IsBuildingFault (files.is_text building.now) (files.is_no_text building.now) fault
 IsRequestFault files (Show image building) fault =
-    IsBuildingFault (files.is_text building.now) fault
+    IsBuildingFault (files.is_text building.now) (files.is_no_text building.now) fault
 IsRequestFault files (Serve image building port sessions policy) fault =
-    IsBuildingFault (files.is_text building.now) fault
+    IsBuildingFault (files.is_text building.now) (files.is_no_text building.now) fault
 
 -- no image was had at the path that was named, for this
 abbrev pub IsNoImageFor : (files : CommandFiles) → Request → Fault
@@ -419,6 +420,19 @@ IsReportOfEnd input (Unformatted fault left) before after = IsReportOfFault faul
 IsReportOfEnd input (Unshown fault left) before after = IsReportOfFault fault before after
 IsReportOfEnd input (Unserved fault left) before after = IsReportOfFault fault before after
 IsReportOfEnd input (OtherWords unused) before after = Unit {0}
+
+-- Where all was done, what was written was passed on.
+abbrev pub IsPassedOn : {M S V F O : Type 0} → End M S V F O → (is_flushed : Type 0) → Type 0
+IsPassedOn (Replayed verdict unused) is_flushed = is_flushed
+IsPassedOn (Formatted disk) is_flushed = Unit {0}
+IsPassedOn (Shown disk) is_flushed = is_flushed
+IsPassedOn (Served port fault left ending) is_flushed = is_flushed
+IsPassedOn (Failed fault unused) is_flushed = Unit {0}
+IsPassedOn (NoImage fault cause) is_flushed = Unit {0}
+IsPassedOn (Unformatted fault left) is_flushed = Unit {0}
+IsPassedOn (Unshown fault left) is_flushed = Unit {0}
+IsPassedOn (Unserved fault left) is_flushed = Unit {0}
+IsPassedOn (OtherWords unused) is_flushed = Unit {0}
 
 -- What was written for words that ask for nothing: how the program is called, where they ask for help,
 -- and else nothing.

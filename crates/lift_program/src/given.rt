@@ -1,15 +1,15 @@
 //! What the program is given, and what its words come to before anything is served.
 
-ghost use Rattle.std.specs.Prelude.{◌≡◌, ◌≤◌, None, Some, Err, true, map, IfOk, IfErr};
+ghost use Rattle.std.specs.Prelude.{◌≡◌, ◌≢◌, ◌≤◌, None, Some, Err, true, map, IfOk, IfErr, OnOk};
 ghost use Rattle.lift_replay.specs.Reading.{IsInputRead};
 ghost use Rattle.lift_replay.specs.declared.lines.Verdict.TheVariants.{Good};
 ghost use Rattle.lift_program.specs.declared.fault.Role.TheVariants.{Input, Output};
 ghost use Rattle.lift_program.specs.declared.words.Request.TheVariants.{Replay};
 ghost use Rattle.lift_program.specs.Ends.{AreReadyFor, IsAnswered, IsEndFor, IsEndOf, IsReadyFor};
-ghost use Rattle.lift_program.specs.Ends.{IsReportOfEnd, IsUncalled, IsUnread, WritesFor};
+ghost use Rattle.lift_program.specs.Ends.{IsPassedOn, IsReportOfEnd, IsUncalled, IsUnread, WritesFor};
 ghost use Rattle.lift_program.specs.Ends.{line_at_once, serving_text, undone_for};
 ghost use Rattle.lift_program.specs.Listening.{local};
-ghost use Rattle.lift_program.specs.Output.{WriterHasFailed};
+ghost use Rattle.lift_program.specs.Output.{IsFlushed, WriterHasFailed};
 ghost use Rattle.lift_program.specs.Words.{AskForRequest, IsRequestInRange};
 ghost use Rattle.std.specs.Io.KnownBytes.{Appends};
 
@@ -71,6 +71,12 @@ fn done<'b, B: TextOpener, I: FileOpener, L: Listens, R: Read + Drop, W: Outflow
         (W.contents writer.new) }
     ensures report { IfErr result (λ end. IsReportOfEnd (R.remaining input.old.reader) end
         (W.contents writer.old) (W.contents writer.new)) }
+    ensures said_on { OnOk result (IsFlushed W.gives W.flushes writer.old writer.new) }
+    ensures passed_on { IfErr result (λ end.
+        IsPassedOn end (IsFlushed W.gives W.flushes writer.old writer.new)) }
+    // Only a replay reads.
+    ensures unasked { request.entry ≢ Replay → input.new ≡ input.old }
+    ensures unwaiting { OnOk result (input.new ≡ input.old) }
     ensures good { result ≡ Err (End.Replayed Good openers.files.image) → input.new.ended ≡ true }
     ensures unread { result ≡ Err (End.Failed (Fault.File Input) openers.files.image)
         → IsUnread input.new }
@@ -174,6 +180,15 @@ impl<'w, B: TextOpener, I: FileOpener, L: Listens, S: AsStr, E: Write + Drop> Gi
         // A script's report is that of the input, and a journal's are its open calls.
         ensures report { IfErr result (λ end. IsReportOfEnd (R.remaining input.old.reader) end
             (W.contents writer.old) (W.contents writer.new)) }
+        // Where all was done it was passed on,
+        ensures passed_on { IfErr result (λ end.
+            IsPassedOn end (IsFlushed W.gives W.flushes writer.old writer.new)) }
+        // and that a port is served was, before it is.
+        ensures said_on { OnOk result (IsFlushed W.gives W.flushes writer.old writer.new) }
+        // Only a replay reads: nothing was read of a group that is to be served.
+        ensures unasked { ¬ AskForRequest (map S.text self.entry.words.now) Replay
+            → input.new ≡ input.old }
+        ensures unwaiting { OnOk result (input.new ≡ input.old) }
         // Words that ask for nothing are answered by how the program is called, if they ask for help.
         ensures answered { result ≡ Err (End.OtherWords self.entry.files.image)
             → IsAnswered (map S.text self.entry.words.now)

@@ -4,7 +4,7 @@ ghost use Rattle.std.specs.Prelude.{◌≡◌, Some, None, IfOk, IfErr, OnOk, On
 ghost use Rattle.std.specs.Io.KnownBytes.{Appends};
 ghost use Rattle.lift_program.specs.Ends.{IsFileFault, IsReportOfFault, SaysFront, serving_text};
 ghost use Rattle.lift_program.specs.Listening.{local};
-ghost use Rattle.lift_program.specs.Output.{IsOutputSettled, WriterHasFailed};
+ghost use Rattle.lift_program.specs.Output.{IsFlushed, IsOutputSettled, WriterHasFailed};
 ghost use Rattle.lift_program.specs.Serving.{IsReadyOver};
 ghost use Rattle.lift_program.specs.Stages.{IsUndoneServing, fault_in};
 ghost use Rattle.lift_program.specs.declared.fault.Role.TheVariants.{Output};
@@ -79,6 +79,7 @@ pub(crate) fn ready_for<'b, B: TextOpener, I: FileOpener, L: Listens, W: Outflow
 ) -> Result<Ready<'b, BufferedFile<I::Told>, E>, Undone<BufferedFile<I::Told>, I::Told, I>>
     ensures said { OnOk result
         (Appends (W.contents writer.old) (W.contents writer.new) (serving_text port)) }
+    ensures flushed { OnOk result (IsFlushed W.gives W.flushes writer.old writer.new) }
     // The socket was asked for at 127.0.0.1, at this port.
     ensures ready { IfOk result (λ ready. IsReadyOver
         (⟦<Files<B, I> as FilesView>⟧.view openers.files) (L.gives openers.socket local port)

@@ -7,7 +7,7 @@ ghost use Rattle.lift_keeper.specs.declared.fault.KeeperFault.{KeeperFault as Re
 ghost use Rattle.lift_replay.specs.Report.{register_text};
 ghost use Rattle.lift_program.specs.Ends.{IsFileFault, IsReportOfFault, IsShowingFault};
 ghost use Rattle.lift_program.specs.Ends.{IsShowingUndone};
-ghost use Rattle.lift_program.specs.Output.{WriterHasFailed, IsOutputSettled};
+ghost use Rattle.lift_program.specs.Output.{WriterHasFailed, IsFlushed, IsOutputSettled};
 ghost use Rattle.lift_program.specs.Showing.{IsShown, ShowsRegister, ShowsFront, ShowsPart};
 ghost use Rattle.lift_program.specs.Stages.{IsUndoneShowing, fault_in};
 ghost use Rattle.lift_program.specs.declared.fault.Fault.TheVariants.{Journal as OfJournal};
@@ -53,6 +53,7 @@ fn show_on<D: Disk + Drop, W: Outflow>(
     ensures shown { OnOk result.1
         (ShowsRegister building.now (D.state disk) (D.state result.0) (W.contents writer.old)
         (W.contents writer.new)) }
+    ensures flushed { OnOk result.1 (IsFlushed W.gives W.flushes writer.old writer.new) }
     // or a front of them, where they can't be written.
     ensures front { IfErr result.1 (λ fault. IsFileFault Output fault
         → ShowsFront building.now (D.state disk) (D.state result.0) (W.contents writer.old)
@@ -90,6 +91,7 @@ pub fn show<B: TextOpener, I: FileOpener, W: Outflow>(
 ) -> Result<Left<ShownImage<I::Told>>, Undone<ShownImage<I::Told>, I::Told, I>>
     ensures shown { IfOk result (λ disk. IsShown (⟦<Files<B, I> as FilesView>⟧.view files) image.now
         building.now disk (W.contents writer.old) (W.contents writer.new)) }
+    ensures flushed { OnOk result (IsFlushed W.gives W.flushes writer.old writer.new) }
     ensures only { ShowsPart (⟦<Files<B, I> as FilesView>⟧.view files) image.now building.now
         (W.contents writer.old) (W.contents writer.new) }
     ensures undone { IfErr result

@@ -3,9 +3,9 @@
 ghost use Rattle.std.specs.Prelude.{◌≡◌, ◌≢◌, Some, map};
 ghost use Rattle.std.specs.IoError.{error_kind};
 ghost use Rattle.lift_program.specs.Ends.{IsAnswered, IsEndOf, IsReportOfEnd, TellsLine, line_of};
-ghost use Rattle.lift_program.specs.Ends.{undone_for};
+ghost use Rattle.lift_program.specs.Ends.{IsPassedOn, undone_for};
 ghost use Rattle.lift_program.specs.Listening.{local};
-ghost use Rattle.lift_program.specs.Output.{WriterHasFailed};
+ghost use Rattle.lift_program.specs.Output.{IsFlushed, WriterHasFailed};
 ghost use Rattle.lift_program.specs.declared.fault.Role.TheVariants.{Output};
 
 use crate::end::{End, EndBy};
@@ -52,7 +52,7 @@ pub fn not_given<E: Write + Drop>(
 /// help is told how the program is called. What opens the files and the socket is used up: nothing is
 /// opened twice, and no file or socket but these. Only a serving waits, once all that it takes was had:
 /// whatever it waits for, and whether or not it ever ends, nothing was opened but what the words asked
-/// for.
+/// for, and nothing is read.
 #[inline(never)]
 pub fn start<
     F: Threads + Wait + Clock + Sync,
@@ -85,13 +85,16 @@ pub fn start<
     // which is a fault of the standard output only where that has failed,
     ensures unwritten { undone_for result ≡ Some (Fault.File Output)
         → WriterHasFailed W.gives W.flushes writer.old writer.new }
-    // and whose line was told, and nothing else.
+    // what was written was passed on where all was done,
+    ensures passed_on { IsPassedOn result (IsFlushed W.gives W.flushes writer.old writer.new) }
+    // and its line was told, and nothing else.
     ensures told { TellsLine E.contents (line_of result) errors.old errors.new }
 {
     let mut input = Counted::new(reader);
     let mut place = None;
     let end = match given.prepare(alloc, &mut place, &mut input, writer) {
         Ok(Ready { port, prepared }) => {
+            drop(input);
             let serving = serve(rt, alloc, prepared, errors);
             End::Served(port, serving.fault, serving.left, serving.end)
         }

@@ -1,6 +1,6 @@
 -- A flusher's turn, of what it received, its commit and its answers.
-use Rattle.std.proofs.Common.{◌≡◌, ◌⊎◌, inl, inr, ⊎_elim, true, false, List, [], ◌∷◌, ◌++◌, drop, length, refl, sym, ap, ◌∙◌, subst}
-use Rattle.std.specs.Prelude.{Result, Ok, Err, IfOk, OnOk}
+use Rattle.std.proofs.Common.{◌≡◌, ◌⊎◌, inl, inr, ⊎_elim, true, false, List, [], ◌∷◌, ◌++◌, drop, length, refl, sym, ap, ◌∙◌}
+use Rattle.std.specs.Prelude.{Result, Ok, Err, IfOk}
 use Rattle.std.proofs.Math.Seq.{drop-append_seam, drop-length}
 use Rattle.std.proofs.lemmas.List.{append-nil}
 use Rattle.lift_base.specs.declared.history.Entry.{Entry}
@@ -112,7 +112,6 @@ settled_turn state f g batch answer receives s = record {
   receives = receives;
   answered = s.answered;
   counts = s.counts;
-  whole = λ counts is. (subst (λ (r : Result FlushCounts KeeperFault). OnOk r ((g.writer.is_broken ≡ false) × (g.writer.doubt ≡ []))) is s.commits.stays).0;
   fails = λ is. (s.commits.doubts is, some_failed state f.writer batch.entries g.writer answer s.commits is);
   decided = s.decided;
   at_desk = s.at_desk;

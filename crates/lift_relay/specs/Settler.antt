@@ -1,5 +1,5 @@
 -- The half of a flusher that never waits, as contracts see it.
-use Rattle.std.specs.Prelude.{◌≡◌, false, List, length, Result, Ok}
+use Rattle.std.specs.Prelude.{◌≡◌, false, List, length, Result, Ok, is_ok}
 use Rattle.atomic_table.specs.Seated.{TableId}
 use Rattle.lift_disk.specs.Disk.{DiskState}
 use Rattle.lift_desk.specs.Seats.{ClerkPlace, IsClerkOf}
@@ -9,7 +9,7 @@ use Rattle.lift_keeper.specs.declared.fault.KeeperFault.{KeeperFault}
 use Rattle.lift_parts.specs.declared.counts.FlushCounts.{FlushCounts}
 use Rattle.lift_clerk.specs.Answered.{AreApart}
 use Rattle.lift_parts.specs.Batch.{BatchState, IsDecided, AreBelow, commands_in, turns_behind}
-use Rattle.lift_parts.specs.Flusher.{Answered, IsSettled, is_ok}
+use Rattle.lift_parts.specs.Flusher.{Answered, IsSettled}
 
 pub record SettlerState (D : Type 0) : Type 0 where
   pub desk : List TableId

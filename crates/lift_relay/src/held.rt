@@ -149,8 +149,7 @@ impl<'d, 'b, D: Disk, P: Policy + Drop, K> HeldClerk<'d, 'b, D, P, K> {
         K: HeardBy<V>,
         ensures turn { TurnsOnce
             D.state (P.chooses self.entry.policy) self.entry result.0 result.1 }
-        ensures advances { TurnAdvances
-            D.state (P.chooses self.entry.policy) self.entry result.0 result.1 }
+        ensures advances { TurnAdvances D.state self.entry result.0 result.1 }
         ensures heard { FailureHeard V.hears self.entry.keeper.writer.is_broken
             result.0.keeper.writer.is_broken witness.old witness.new }
     {

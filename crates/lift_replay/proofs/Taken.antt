@@ -1,7 +1,8 @@
 -- What was taken from a reader.
-use Rattle.std.proofs.Common.{◌≡◌, ℕ, suc, ◌+◌, ◌<◌, ◌≤◌, List, ◌++◌, length, length-append, refl, ap, inr, arith}
-use Rattle.std.specs.Prelude.{Option, Some, None, IfSome}
-use Rattle.std.specs.Io.KnownBytes.{Consumes}
+use Rattle.std.proofs.Common.{◌≡◌, ℕ, suc, ◌+◌, ◌<◌, ◌≤◌, List, ◌++◌, length, length-append, refl, ap, sym, subst, ◌∙◌, [], inr, arith}
+use Rattle.std.specs.Prelude.{Option, Some, None, IfSome, Result, Err, IsErrAnd}
+use Rattle.std.specs.Io.KnownBytes.{Consumes, IsAtEnd}
+use Rattle.std.proofs.lemmas.List.{append-nil}
 use Rattle.std.proofs.KnownBytes.{Consumes-trans}
 use Rattle.lift_base.specs.Input.{InputState}
 use Rattle.lift_replay.specs.Reading.{GiveEach, IsInput, IsLastCall, TakesByEach, TakesUpTo}
@@ -23,6 +24,10 @@ pub each_on : {R : Type 0} (remaining : R → Option (List ℕ)) (n m : ℕ) (ol
 each_on remaining n m old mid new items next is next_is grows (calls, each) one (more, whole, taken) =
     (suc calls, (mid, items, more, each, (one, taken), omega (arith, is, next_is, grows, ap length whole, length-append items more), whole))
 
+-- what is known of a fault that is handed on
+pub handed_on : {T E : Type 0} (P : Type 0) (result : Result T E) (fault wanted : E) → IsErrAnd result (λ told. told ≡ fault) → (fault ≡ wanted → P) → result ≡ Err wanted → P
+handed_on P result fault wanted is holds same = holds (sym (subst (λ r. IsErrAnd r (λ told. told ≡ fault)) same is))
+
 -- what was taken is too long, so all of it is
 pub long_input : (most : ℕ) (old new : Option (List ℕ)) (bytes : List ℕ) → Consumes old new bytes → most < length bytes → (all : List ℕ) × IsInput old all × (most < length all)
 long_input most None new bytes taken long = (bytes, tt, long)
@@ -33,3 +38,9 @@ long_input most (Some all) None bytes taken long = absurd taken
 pub whole_input : (old : Option (List ℕ)) (bytes : List ℕ) → IfSome old (λ all. bytes ≡ all) → IsInput old bytes
 whole_input None bytes is = tt
 whole_input (Some all) bytes is = is
+
+-- what was taken up to the end is all of it
+pub all_taken : (old new : Option (List ℕ)) (bytes : List ℕ) → Consumes old new bytes → IsAtEnd new → IfSome old (λ all. bytes ≡ all)
+all_taken None new bytes taken end = tt
+all_taken (Some all) (Some rest) bytes taken end = sym (taken ∙ ap (λ (r : List ℕ). bytes ++ r) end ∙ append-nil bytes)
+all_taken (Some all) None bytes taken end = absurd taken

@@ -3,6 +3,7 @@ use Rattle.std.specs.Prelude.{ℕ, zero, suc, ◌≡◌, ◌⊎◌, ◌+◌, ◌
 use Rattle.std.specs.Prelude.{List, [], ◌++◌, length, IfSome}
 use Rattle.std.specs.Io.KnownBytes.{Consumes, IsAtEnd}
 use Rattle.lift_base.specs.Input.{InputState}
+use Rattle.lift_replay.specs.Writing.{TakesSomeEachCall}
 
 -- a script has this many bytes at most
 abbrev pub most_bytes : ℕ
@@ -83,6 +84,13 @@ pub record LeavesUnread {R : Type 0} (most calls : ℕ) (remaining : R → Optio
     (old new : InputState R) : Type 0 where
   pub cause : (new.failed ≡ true) ⊎ ((new.calls ≡ calls) × (new.ended ≡ false))
   pub taken : TakesUpTo most remaining old.reader new.reader
+
+-- The reader is called as a writer is, but gives: each of its calls gave a byte at least, but the last
+-- one, which failed.
+abbrev pub ReaderFails : {R : Type 0} → (gives : R → List ℕ → Option ℕ → R → Type 0)
+    → (old new : R) → Type 0
+ReaderFails {R} gives old new =
+    (last : R) × (buffer : List ℕ) × TakesSomeEachCall gives old last × gives last buffer None new
 
 -- These bytes are the input of a reader that has so much left; of one that doesn't tell, they may
 -- be any.

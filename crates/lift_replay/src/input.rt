@@ -1,14 +1,14 @@
 //! All bytes of a reader, within bounds.
 
-ghost use Rattle.std.specs.Prelude.{◌≡◌, List, ◌+◌, ◌≤◌, ◌<◌, ◌^◌, ◌++◌, vec_len, IfOk, OnOk};
-ghost use Rattle.std.specs.Prelude.{ℕ, true, false};
+ghost use Rattle.std.specs.Prelude.{◌≡◌, ◌⊎◌, List, ◌+◌, ◌≤◌, ◌<◌, ◌^◌, ◌++◌, vec_len, IfOk, OnOk};
+ghost use Rattle.std.specs.Prelude.{ℕ, Some, None, true, false};
 ghost use Rattle.std.specs.Io.KnownBytes.{Consumes, IsAtEnd, Keeps};
 ghost use Rattle.lift_replay.specs.Reading.{GivesInput, IsLastCall, LeavesUnread, ReadsUpTo};
+ghost use Rattle.lift_replay.specs.Reading.{ReaderFails};
 
 use crate::refused::{NoMemory, add_bytes};
-use lift_base::text::{Counted, ReadFault};
+use lift_base::text::{Counted, Inlet, ReadFault};
 use std::alloc::Global;
-use std::io::Read;
 
 /// Why the bytes were not read.
 #[derive(Clone, Copy, PartialEq, Eq)]
@@ -24,7 +24,7 @@ const CHUNK: usize = 16_384;
 
 /// One call of the reader, which adds what it gives to the bytes, as long as these are no more than
 /// `most` and one. The answer is whether anything came.
-fn read_some<R: Read + Drop>(
+fn read_some<R: Inlet + Drop>(
     input: &mut Counted<R>,
     buffer: &mut [u8; CHUNK],
     bytes: &mut Vec<u8>,
@@ -44,6 +44,10 @@ fn read_some<R: Read + Drop>(
         × Keeps (R.remaining input.old.reader) (R.remaining input.new.reader) }
     ensures refused { result ≡ Err (InputFault.Memory tt) → input.new.failed ≡ input.old.failed }
     ensures bound { OnOk result (vec_len bytes.new ≤ most + 1) }
+    ensures one { result ≡ Ok true → (buffer : List ℕ) × (count : ℕ)
+        × R.gives input.old.reader buffer (Some count) input.new.reader × (0 < count) }
+    ensures one_err { result ≡ Err InputFault.Read → (buffer : List ℕ)
+        × R.gives input.old.reader buffer None input.new.reader }
 {
     let room = CHUNK.min(most - bytes.len() + 1);
     let part = &mut buffer[..room];
@@ -60,7 +64,7 @@ fn read_some<R: Read + Drop>(
 
 /// All bytes of a reader that was not called yet. Reading stops once more than `most` have come;
 /// that the end was not found in this many calls is a fault.
-pub fn read_all<R: Read + Drop>(
+pub fn read_all<R: Inlet + Drop>(
     alloc: Global,
     input: &mut Counted<R>,
     most: usize,
@@ -76,6 +80,10 @@ pub fn read_all<R: Read + Drop>(
     ensures unread { result ≡ Err InputFault.Read
         → LeavesUnread most calls R.remaining input.old input.new }
     ensures refused { result ≡ Err (InputFault.Memory tt) → input.new.failed ≡ false }
+    // Where a call failed it was the last.
+    ensures fails { result ≡ Err InputFault.Read
+        → ReaderFails R.gives input.old.reader input.new.reader
+        ⊎ ((input.new.calls ≡ calls) × (input.new.ended ≡ false)) }
 {
     let mut buffer = [0u8; CHUNK];
     let mut bytes = Vec::new(alloc);

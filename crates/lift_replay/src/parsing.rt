@@ -1,7 +1,7 @@
 //! From a script's line to what it asks for.
 
 ghost use Rattle.std.specs.Prelude.{◌≡◌, ◌≢◌, ◌<◌, ◌≤◌, ◌⊎◌, ◌∷◌, [], ℕ, List, map, IfSome, IfNone};
-ghost use Rattle.std.specs.Prelude.{codes};
+ghost use Rattle.std.specs.Prelude.{codes, IsTrue, false};
 ghost use Rattle.std.specs.Fmt.{decimal};
 ghost use Rattle.lift_base.specs.Text.{dir_text};
 ghost use Rattle.lift_base.specs.declared.travel.Dir.{Dir as Direction};
@@ -164,17 +164,42 @@ fn alone(words: &[&str], line: ScriptLine) -> Option<ScriptLine>
     if words.is_empty() { Some(line) } else { None }
 }
 
+/// Whether a text is this word of four letters: the words of most lines have as many, and are told
+/// without a call.
+fn is_four(text: &str, word: &[u8; 4]) -> bool
+    ensures same { IsTrue result → text.now ≡ word.now }
+    ensures other { result ≡ false → text.now ≢ word.now }
+{
+    let bytes = text.as_bytes();
+    if bytes.len() != 4 {
+        return false;
+    }
+    for i in 0..4 {
+        if bytes[i] != word[i] {
+            return false;
+        }
+    }
+    true
+}
+
 /// What a line's words ask for, by the first one.
 fn asked_by(first: &str, others: &[&str]) -> Option<ScriptLine>
     ensures { AreReadAsLine (first.now ∷ texts others.now) result }
 {
+    // The most frequent lines come first.
+    if is_four(first, b"stop") {
+        return stop_of(others);
+    }
+    if is_four(first, b"call") {
+        return call_of(others);
+    }
+    if is_four(first, b"cost") {
+        return cost_of(others);
+    }
     match first {
         "place" => place_of(others),
-        "call" => call_of(others),
-        "stop" => stop_of(others),
-        "turn" => alone(others, ScriptLine::Turn),
         "stops" => stops_of(others),
-        "cost" => cost_of(others),
+        "turn" => alone(others, ScriptLine::Turn),
         "rows" => alone(others, ScriptLine::Rows),
         "fuse" => fuse_of(others),
         "cut" => cut_of(others),
@@ -188,7 +213,7 @@ pub fn parse(line: &str) -> Option<ScriptLine>
     ensures none { IfNone result ((wanted : Wanted) → Spells line.now wanted → ⊥) }
 {
     // The most frequent line is not cut into words.
-    if line == "turn" {
+    if is_four(line, b"turn") {
         return Some(ScriptLine::Turn);
     }
     let words = words_of(line)?;

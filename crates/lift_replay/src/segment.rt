@@ -1,7 +1,7 @@
 //! What a script does between two power cuts.
 
 ghost use Rattle.std.specs.Prelude.{◌≡◌, ◌≢◌, ◌<◌, ◌≤◌, List, ℕ, [], length, string_bytes, OnOk};
-ghost use Rattle.std.specs.Prelude.{OnErr, IfOk};
+ghost use Rattle.std.specs.Prelude.{OnErr, IfOk, ◌++◌, is_ok, if◌then◌else◌};
 ghost use Rattle.lift_replay.specs.Group.{ScriptGroup, new_terminals};
 ghost use Rattle.lift_replay.specs.Report.{Reports, ReportsPart, cut_text};
 ghost use Rattle.lift_replay.specs.Running.{LinesEnd, SegmentEnds, TellsPart};
@@ -12,7 +12,7 @@ ghost use Rattle.lift_replay.specs.Writing.{WritesPieces};
 
 use crate::lines::{End, Verdict, push_line};
 use crate::piece::put_large_piece;
-use crate::refused::{add, new_desk};
+use crate::refused::{NoMemory, add, new_desk};
 use crate::report::push_cut;
 use crate::script::ReplayFault;
 use crate::source::Lines;
@@ -31,6 +31,17 @@ pub enum SegmentEnd<'b> {
     Run(Verdict),
     /// By a power cut, after which this keeper goes on.
     Cut(Keeper<'b, FuseDisk>),
+}
+
+/// Adds what a line reports to a piece of the report. Most lines report nothing.
+fn add_line(piece: &mut String, line: &str) -> Result<(), NoMemory>
+    ensures { string_bytes piece.new ≡ (if is_ok result
+        then string_bytes piece.old ++ line.now else string_bytes piece.old) }
+{
+    if line.is_empty() {
+        return Ok(());
+    }
+    add(piece, line)
 }
 
 /// Carries out lines up to a power cut or to the end of the run, and adds what each reports to a
@@ -74,7 +85,7 @@ fn add_lines<W: Outlet>(
         };
         report.clear();
         let end = push_line(&mut report, station, line, number)?;
-        add(piece, &report)?;
+        add_line(piece, &report)?;
         if let Some(end) = end {
             return Ok(end);
         }

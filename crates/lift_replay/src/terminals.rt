@@ -73,6 +73,7 @@ impl<'d> Terminals<'d> {
 
     /// Tells the clerk what a terminal has asked so far, and the terminal what was answered there
     /// so far.
+    #[inline(always)]
     pub fn tell(&mut self, clerk: &mut Clerk<'_, '_, FuseDisk, Etd>, index: u8)
         requires desk { clerk.old.desk ≡ self.old.desk.now }
         requires inside { index < length self.old.seats.items }

@@ -1,5 +1,5 @@
 -- What a run of both parts leaves for the clerk of them.
-use Rattle.std.proofs.Common.{◌≡◌, ◌≢◌, ℕ, ◌⊎◌, inl, inr, ◌||◌, true, List, [], ◌++◌, Option, Some, None, refl, sym, ap, subst, ◌∙◌}
+use Rattle.std.proofs.Common.{◌≡◌, ◌≢◌, ℕ, ◌||◌, true, List, [], Option, Some, None, refl, sym, ap, subst, ◌∙◌}
 use Rattle.std.specs.Prelude.{is_err, Result, Ok, Err, IfSome, IsErr, IsSome}
 use Rattle.std.proofs.Math.Logic.{∥∥₁_map}
 use Rattle.lift_base.specs.declared.history.Entry.{Entry}
@@ -7,15 +7,13 @@ use Rattle.lift_disk.specs.Disk.{DiskState}
 use Rattle.lift_register.specs.Register.{RegisterState}
 use Rattle.lift_policy.specs.Eligible.{Choice}
 use Rattle.lift_desk.specs.Seats.{clerk_of}
-use Rattle.lift_journal.specs.declared.fault.JournalFault.TheVariants.{Disk, Broken}
 use Rattle.lift_keeper.specs.declared.fault.KeeperFault.{KeeperFault}
-use Rattle.lift_keeper.specs.declared.fault.KeeperFault.TheVariants.{Journal}
 use Rattle.lift_keeper.specs.Writer.{WriterView}
 use Rattle.lift_world.specs.declared.event.Taken.{Taken}
 use Rattle.lift_clerk.specs.declared.counts.Counts.{Counts}
 use Rattle.lift_clerk.specs.Clerk.{ClerkState}
 use Rattle.lift_clerk.specs.History.{History}
-use Rattle.lift_clerk.specs.Once.{TurnsOnce, TurnAdds, Safe, InDoubt, Unknown}
+use Rattle.lift_clerk.specs.Once.{TurnsOnce}
 use Rattle.lift_clerk.specs.Steps.{group_of}
 use Rattle.lift_relay.specs.declared.pair.RunFault.{RunFault}
 use Rattle.lift_relay.specs.declared.pair.RunFault.TheVariants.{Keeper, Spawn}
@@ -27,7 +25,7 @@ use Rattle.lift_parts.specs.Flusher.{FlusherState, IsFlusher}
 use Rattle.lift_parts.specs.Keeping.{HaveKept, TurnsKeep}
 use Rattle.lift_parts.specs.History.{JoinedGoOn, group_behind}
 use Rattle.lift_parts.specs.Parts.{AreParts, AreOfOne}
-use Rattle.lift_parts.specs.Turns.{AllocatorTurns, NoMore, FlusherTurns, NoFlush, OneFlush, first_of}
+use Rattle.lift_parts.specs.Turns.{AllocatorTurns, NoMore, FlusherTurns, IsSameAllocator, NoFlush, OneFlush, first_of}
 use Rattle.lift_parts.specs.lemmas.Paired.{same_allocator, turns_joined, flushes_joined}
 use Rattle.lift_serve.specs.declared.serving.ServeFault.{ServeFault}
 use Rattle.lift_serve.specs.declared.serving.ServeFault.TheVariants.{Thread}
@@ -71,6 +69,11 @@ module _ {D P : Type 0} (choice : Choice) (state : D → DiskState) (before : Cl
   stays_broken old after of (Ok counts) once broken = absurd (let other = once.commits.is.broken.1 broken in cc)
   stays_broken old after of (Err fault) once broken = refl
 
+  stays : (fault : Option RunFault) → HaveRunOn choice state a b f g fault → IsSameAllocator a b
+  stays None run = same_allocator choice a b (run.ran no_fault).allocator
+  stays (Some (Keeper of)) run = same_allocator choice a b (run.ran (not_spawn of)).allocator
+  stays (Some (Spawn no_thread)) run = subst (λ (x : AllocatorState P). IsSameAllocator a x) (sym (run.refused refl).0) (record { line = refl; desk = refl; plan = refl; policy = refl; start = refl })
+
   breaks : (chooses : P → Choice) (fault : Option RunFault) (after : ClerkState D P) → HaveRunOn choice state a b f g fault → (last : IsLastTurn chooses state b g after)
       → after.keeper.writer.is_broken ≡ (has_failed fault || is_err last.result)
   breaks chooses None after run last = ends_broken last.joined after (chooses last.joined.policy) last.result last.turn
@@ -79,27 +82,6 @@ module _ {D P : Type 0} (choice : Choice) (state : D → DiskState) (before : Cl
       ends_broken last.joined after (chooses last.joined.policy) last.result last.turn
       ∙ stays_broken last.joined after (chooses last.joined.policy) last.result last.turn
       (ap (λ (w : WriterView D). w.is_broken) last.rejoined.writer ∙ run.broken of refl)
-
--- what a turn adds, whatever it answers
-record Added {D P : Type 0} (choice : Choice) (before after : ClerkState D P) (result : Result Counts KeeperFault) : Type 0 where
-  batch : List Entry
-  more : List Entry
-  told : List Taken
-  adds : TurnAdds choice before after result batch more told
-
-module _ {D P : Type 0} (state : D → DiskState) (choice : Choice) (before after : ClerkState D P) where
-  abbrev failing : KeeperFault → Result Counts KeeperFault
-  failing fault = Err fault
-
-  by_fault : (fault : KeeperFault) → (fault ≡ Journal Disk) ⊎ (fault ≡ Journal Broken) → TurnsOnce state choice before after (failing fault) → Added choice before after (failing fault)
-  by_fault fault (inl is) once =
-      subst (λ (f : KeeperFault). Added choice before after (failing f)) (sym is) (record { batch = _; more = _; told = _; adds = InDoubt (once.fails (ap failing is)) })
-  by_fault fault (inr is) once =
-      subst (λ (f : KeeperFault). Added choice before after (failing f)) (sym is) (record { batch = _; more = _; told = _; adds = Unknown (once.rests (ap failing is)) })
-
-  added : (result : Result Counts KeeperFault) → TurnsOnce state choice before after result → Added choice before after result
-  added (Ok counts) once = record { batch = _; more = _; told = _; adds = Safe once.turns }
-  added (Err fault) once = by_fault fault once.commits.is.causes once
 
 -- What was answered before is kept by the turns that both parts had, if they had any.
 module _ {D P : Type 0} (chooses : P → Choice) (state : D → DiskState) (law : TurnsKeep D state) (joins : JoinedGoOn D P) (before : ClerkState D P) (a b : AllocatorState P) (f g : FlusherState D)
@@ -117,14 +99,14 @@ module _ {D P : Type 0} (chooses : P → Choice) (state : D → DiskState) (law 
   kept_relay fault after run last =
       let k = kept_on fault run in
       let r = last.rejoined in
-      let x : Added (chooses last.joined.policy) last.joined after last.result = added state (chooses last.joined.policy) last.joined after last.result last.turn in
+      let x = last.advances.adds in
       record {
         turns = k;
-        batch = x.batch;
-        more = x.more;
-        told = x.told;
-        adds = x.adds;
-        advances = last.advances x.batch x.more x.told x.adds base k.now_safe k.now_given
+        batch = x.0;
+        more = x.1;
+        told = x.2;
+        adds = x.3;
+        advances = last.advances.goes_on x.0 x.1 x.2 x.3 base k.now_safe k.now_given
             (joins last.joined g base k.now_safe k.now_given (r.desk ∙ sym run.of_one.desk) r.seat r.writer (r.state ∙ r.same_state) k.history);
       }
 
@@ -149,8 +131,8 @@ relayed_on {D} {P} chooses state law joins before after a b f g fault parts spli
   ran = subst (λ (p : P). HaveRunOn (chooses p) state a b f g fault) parts.policy run;
   last = last;
   broken = breaks (chooses a.policy) state before a b f g chooses fault after run last;
-  desk = last.turn.kept.0 ∙ last.rejoined.desk ∙ run.same.desk ∙ parts.desks.0;
-  policy = last.turn.kept.1 ∙ last.rejoined.policy ∙ run.same.policy ∙ parts.policy;
+  desk = last.turn.kept.0 ∙ last.rejoined.desk ∙ (stays (chooses a.policy) state before a b f g fault run).desk ∙ parts.desks.0;
+  policy = last.turn.kept.1 ∙ last.rejoined.policy ∙ (stays (chooses a.policy) state before a b f g fault run).policy ∙ parts.policy;
   keeps = λ base safe given history. kept_relay chooses state law joins before a b f g base safe given (split base safe given history) fault after run last;
 }
 
@@ -161,7 +143,6 @@ not_run choice state a f of_one = record {
   ran = λ other. absurd (other refl);
   received = λ other. absurd (other refl);
   broken = λ of is. absurd (not_spawn of (sym is));
-  same = record { line = refl; desk = refl; plan = refl; policy = refl; start = refl };
   of_one = of_one;
 }
 

@@ -13,14 +13,14 @@ use Rattle.lift_clerk.specs.declared.counts.Counts.{Counts}
 use Rattle.lift_clerk.specs.Clerk.{ClerkState}
 use Rattle.lift_clerk.specs.History.{History}
 use Rattle.lift_clerk.specs.Keeping.{AdvancesFrom}
-use Rattle.lift_clerk.specs.Once.{TurnsOnce, TurnAdds, TurnAdvances}
-use Rattle.lift_clerk.specs.Steps.{group_of}
+use Rattle.lift_clerk.specs.Once.{TurnsOnce, TurnAdvances}
+use Rattle.lift_clerk.specs.Steps.{group_of, TurnAdds}
 use Rattle.lift_relay.specs.declared.pair.RunFault.{RunFault}
 use Rattle.lift_relay.specs.declared.pair.RunFault.TheVariants.{Keeper, Spawn}
 use Rattle.lift_parts.specs.Allocator.{AllocatorState}
 use Rattle.lift_parts.specs.Flusher.{FlusherState, IsFlusher}
 use Rattle.lift_relay.specs.Pair.{HaveRun}
-use Rattle.lift_parts.specs.Turns.{AllocatorTurns, FlusherTurns, IsSameAllocator}
+use Rattle.lift_parts.specs.Turns.{AllocatorTurns, FlusherTurns}
 use Rattle.lift_parts.specs.Keeping.{HaveKept}
 use Rattle.lift_parts.specs.Parts.{AreOfOne, AreParts, IsRejoined}
 use Rattle.lift_serve.specs.declared.serving.ServeFault.{ServeFault}
@@ -48,7 +48,6 @@ pub record HaveRunOn {D P : Type 0} (choice : Choice) (state : D
   pub ran : fault ≢ Some (Spawn tt) → HaveRun choice state a b f g fault
   pub received : fault ≢ Some (Spawn tt) → b.end.sent ≡ g.end.received
   pub broken : (of : KeeperFault) → fault ≡ Some (Keeper of) → g.writer.is_broken ≡ true
-  pub same : IsSameAllocator a b
   pub of_one : AreOfOne b g
 
 -- The clerk of both parts, behind one turn more, by which its group's history goes on and all that
@@ -60,7 +59,7 @@ pub record IsLastTurn {D P : Type 0} (chooses : P → Choice) (state : D
   pub rejoined : IsRejoined a f joined
   pub result : Result Counts KeeperFault
   pub turn : TurnsOnce state (chooses joined.policy) joined after result
-  pub advances : TurnAdvances state (chooses joined.policy) joined after result
+  pub advances : TurnAdvances state joined after result
 
 -- What was safe and had been answered was kept by the flusher's turns, of which each kept all that
 -- those before it left, and then by the last one of the clerk of both parts.
@@ -72,7 +71,7 @@ pub record KeptRelay {D P : Type 0} (chooses : P → Choice) (state : D → Disk
   pub batch : List Entry
   pub more : List Entry
   pub told : List Taken
-  pub adds : TurnAdds (chooses last.joined.policy) last.joined after last.result batch more told
+  pub adds : TurnAdds (group_of last.joined) (group_of after) (is_err last.result) batch more told
   pub advances : AdvancesFrom base (group_of last.joined) turns.now_safe turns.now_given
       (group_of after) batch more told (state last.joined.keeper.writer.device) (state after.keeper.writer.device)
 

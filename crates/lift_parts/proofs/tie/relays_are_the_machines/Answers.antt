@@ -11,20 +11,14 @@ returns-clause-split g c = splits_are_no_events c.relay_laws.ensures
 pub returns-clause-rejoined : goal.returns-clause-rejoined
 returns-clause-rejoined g c = rejoinings c.relay_laws.ensures
 
-pub returns-clause-full : goal.returns-clause-full
-returns-clause-full g c = full_turns
-
-pub returns-clause-empty : goal.returns-clause-empty
-returns-clause-empty g c = empty_turns
+pub returns-clause-idle : goal.returns-clause-idle
+returns-clause-idle g c policy = record { full = full_turns; empty = empty_turns; nothing = nothing_taken (g.P.Policy.chooses policy) }
 
 pub returns-clause-sent : goal.returns-clause-sent
 returns-clause-sent g c = sendings
 
 pub returns-clause-told : goal.returns-clause-told
 returns-clause-told g c = tellings
-
-pub returns-clause-nothing : goal.returns-clause-nothing
-returns-clause-nothing g c policy = nothing_taken (g.P.Policy.chooses policy)
 
 pub returns-clause-terminals : goal.returns-clause-terminals
 returns-clause-terminals g c = terminals_keep_parts c.relay_laws.ensures

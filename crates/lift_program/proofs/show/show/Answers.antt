@@ -6,6 +6,7 @@ use Rattle.lift_program.specs.Ends.{IsFileFault, IsReportOfFault, IsShowingFault
 use Rattle.lift_disk.specs.Files.{sector_file_state_of}
 use Rattle.lift_program.specs.Images.{CommandFiles, IsTextRead, image_files}
 use Rattle.lift_program.specs.Showing.{IsShown, ShowsFront}
+use Rattle.lift_program.specs.Stages.{IsNoText}
 use Rattle.lift_program.specs.declared.fault.Role.TheVariants.{Output}
 use Rattle.lift_program.proofs.Flushing.{building_no_output, image_no_output}
 use Rattle.lift_program.proofs.Stages.{showing_left, showing_part}
@@ -17,6 +18,7 @@ returns-in-Ok-outcome-clause-shown g c =
     let files : CommandFiles = record {
       image = image_files c.args.files.image (g.I.FileOpener.stands c.args.files.image) (g.I.FileOpener.opens c.args.files.image) (g.I.FileOpener.names c.args.files.image) (g.I.FileOpener.unnamed c.args.files.image) g.I.Told.ToldFile.gives g.I.Told.ToldFile.fails g.I.Told.ToldFile.holds (buffered_state_of (sector_file_state_of g.I.Told.ToldFile.holds)) (buffered_state_of (unwritten_state_of g.I.Told.ToldFile.holds));
       is_text = λ path. IsTextRead (g.B.TextOpener.opens c.args.files.building path) g.B.Text.Read.remaining;
+      is_no_text = λ path. IsNoText (g.B.TextOpener.opens c.args.files.building path) g.B.Text.Read.remaining g.B.Text.Inlet.gives;
     } in
     let before = g.W.Write.contents c.args.writer.now in
     let after = g.W.Write.contents c.show_on-disk.new.writer in
@@ -62,7 +64,7 @@ returns-in-Err-outcome-clause-only g c =
     c.in-Err-outcome.is c.show_on-disk.ensures.front)
 
 pub returns-in-Err-clause-failed : goal.returns-in-Err-clause-failed
-returns-in-Err-clause-failed g c = λ same. absurd (building_no_output _ _ c.in-Err.ensures.fault same)
+returns-in-Err-clause-failed g c = λ same. absurd (building_no_output _ _ _ c.in-Err.ensures.fault same)
 
 pub returns-in-Err-image_to_show-clause-failed : goal.returns-in-Err-image_to_show-clause-failed
 returns-in-Err-image_to_show-clause-failed g c = λ same. absurd (image_no_output _ c.in-Err-image_to_show.ensures.unhad.is_fault same)

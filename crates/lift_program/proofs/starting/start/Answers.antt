@@ -5,14 +5,16 @@ use Rattle.lift_base.specs.Output.{OutputState}
 use Rattle.lift_disk.specs.Below.{buffered_state_of}
 use Rattle.lift_disk.specs.Files.{sector_file_state_of}
 use Rattle.lift_program.specs.Images.{CommandFiles, IsTextRead, image_files}
-use Rattle.lift_program.specs.Ends.{EndOver, IsEndOf, TellsLine, line_at_once, line_at_once_in, undone_for}
+use Rattle.lift_program.specs.Ends.{EndOver, IsEndOf, IsPassedOn, TellsLine, line_at_once, line_at_once_in, undone_for}
 use Rattle.lift_program.specs.Listening.{local}
-use Rattle.lift_program.specs.Output.{WriterHasFailed}
+use Rattle.lift_program.specs.Stages.{IsNoText}
+use Rattle.lift_program.specs.Output.{IsFlushed, WriterHasFailed}
 use Rattle.lift_program.specs.Unwritten.{unwritten_state_of}
 use Rattle.lift_program.specs.declared.fault.Fault.TheVariants.{File}
 use Rattle.lift_program.specs.declared.fault.Role.TheVariants.{Output}
 use Rattle.lift_program.proofs.Asked.{served_end}
 use Rattle.lift_program.proofs.Telling.{told_once}
+use Rattle.lift_program.proofs.starting.start.Goals.{in-Ok, in-Err}
 use Rattle.lift_program.proofs.starting.start.Goals as goal
 
 pub returns-clause-end : goal.returns-clause-end
@@ -20,6 +22,7 @@ returns-clause-end g c =
     let files : CommandFiles = record {
       image = image_files c.args.given.files.image (g.I.FileOpener.stands c.args.given.files.image) (g.I.FileOpener.opens c.args.given.files.image) (g.I.FileOpener.names c.args.given.files.image) (g.I.FileOpener.unnamed c.args.given.files.image) g.I.Told.ToldFile.gives g.I.Told.ToldFile.fails g.I.Told.ToldFile.holds (buffered_state_of (sector_file_state_of g.I.Told.ToldFile.holds)) (buffered_state_of (unwritten_state_of g.I.Told.ToldFile.holds));
       is_text = λ path. IsTextRead (g.B.TextOpener.opens c.args.given.files.building path) g.B.Text.Read.remaining;
+      is_no_text = λ path. IsNoText (g.B.TextOpener.opens c.args.given.files.building path) g.B.Text.Read.remaining g.B.Text.Inlet.gives;
     } in
     let gives : ℕ → Option Listener → Type 0 = g.L.Listens.gives c.args.given.socket local in
     let words = map g.S.AsStr.text c.args.given.words.now in
@@ -41,6 +44,14 @@ returns-clause-unwritten g c =
     elim c.match-prepare.branch [
       | in-Ok w ↦ λ is. let e = w.end-is in absurd (cc)
       | in-Err w ↦ λ is. w.in-Err.ensures.unwritten (subst (λ e. undone_for e ≡ Some (File Output)) w.end-is is)
+    ]
+
+pub returns-clause-passed_on : goal.returns-clause-passed_on
+returns-clause-passed_on g c =
+    let flushed = IsFlushed g.W.Outlet.gives g.W.Outflow.flushes c.args.writer.now c.prepare.new.writer in
+    elim c.match-prepare.branch [
+      | in-Ok w ↦ subst (λ e. IsPassedOn e flushed) (sym w.end-is) w.in-Ok.ensures.said_on
+      | in-Err w ↦ subst (λ e. IsPassedOn e flushed) (sym w.end-is) w.in-Err.ensures.passed_on
     ]
 
 pub returns-clause-told : goal.returns-clause-told

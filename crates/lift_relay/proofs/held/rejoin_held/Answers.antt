@@ -17,12 +17,11 @@ returns-clause-joined g c =
       state = search rules;
       writer = search rules;
       policy = search rules;
-      all_received = counts;
+      all_received = all_received a.end f.end c.compare.ensures.queued counts;
       nothing_in_hand = none;
       all_answered = search rules;
       all_safe = search rules;
       same_state = c.register.ensures.behind none ∙ sym (same_state a.end f.end c.compare.ensures.queued counts);
-      same_batches = all_received a.end f.end c.compare.ensures.queued counts;
     } in
     subst (λ (p : AllocatorState g.row.P.Denot × FlusherState g.row.D.Denot). IsRejoined p.0 p.1 c.join.result)
     (λ i. (c.compare.ensures.allocator i, c.compare.ensures.flusher i)) joined

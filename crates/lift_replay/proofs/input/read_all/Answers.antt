@@ -1,7 +1,8 @@
-use Rattle.std.proofs.Common.{◌≡◌, ◌<◌, ◌≤◌, ◌+◌, ◌∙◌, length, vec_len, ap, sym, subst, refl, inl, arith, rules}
-use Rattle.std.specs.Io.KnownBytes.{Consumes}
+use Rattle.std.proofs.Common.{◌≡◌, ◌<◌, ◌≤◌, ◌+◌, ◌∙◌, true, length, vec_len, ap, sym, subst, refl, inl, arith, rules, suc, Ok, Err}
+use Rattle.std.specs.Io.KnownBytes.{Consumes, IsAtEnd}
 use Rattle.std.proofs.KnownBytes.{Consumes-trans}
-use Rattle.lift_replay.proofs.Taken.{each_more, each_on, taken_more}
+use Rattle.lift_replay.proofs.Taken.{all_taken, each_more, each_on, handed_on, taken_more}
+use Rattle.lift_replay.proofs.input.read_all.Goals.{then-not-branch-via-then-not-branch, then-not-branch-via-else-not-branch+then-len-most}
 use Rattle.lift_replay.proofs.input.read_all.Goals as goal
 
 pub returns-in_err-read_some-clause-reads : goal.returns-in_err-read_some-clause-reads
@@ -24,12 +25,34 @@ returns-then-not-branch-clause-reads g c =
       few_calls = omega (arith, last.1.0, c.loop.invariant.calls);
     }
 
+pub returns-then-not-branch-clause-gives : goal.returns-then-not-branch-clause-gives
+returns-then-not-branch-clause-gives g c =
+    let gave = c.in_ok-read_some.ensures.gave in
+    let new = c.read_some.new.input in
+    let items = c.read_some.new.bytes.items in
+    let count : length items ≡ vec_len c.read_some.new.bytes = search rules in
+    let bound : vec_len c.read_some.new.bytes ≤ c.args.most + 1 = search rules in
+    let front = subst (Consumes (g.R.Read.remaining c.args.input.now.reader) (g.R.Read.remaining new.reader)) (sym gave.1) (Consumes-trans _ _ _ c.loop.bytes.items gave.0 c.loop.invariant.taken gave.2) in
+    let ends : length items ≤ c.args.most → (new.ended ≡ true) × IsAtEnd (g.R.Read.remaining new.reader) = λ short. elim c.then-not-branch.branch [
+      | then-not-branch-via-then-not-branch w ↦ search rules
+      | then-not-branch-via-else-not-branch+then-len-most w ↦ absurd (omega (arith, count, short))
+    ] in
+    record {
+      front = front;
+      few = omega (arith, count, bound);
+      whole = λ short. all_taken _ _ items front (ends short).1;
+      ended = ends;
+      unfailed = c.in_ok-read_some.ensures.ok ∙ c.loop.invariant.unhurt;
+    }
+
 pub loop-preserved : goal.loop-preserved
 loop-preserved g c =
     let gave = c.in_ok-read_some.ensures.gave in
     let count : length c.loop.bytes.items ≡ vec_len c.loop.bytes = search rules in
     let more : length c.read_some.new.bytes.items ≡ vec_len c.read_some.new.bytes = search rules in
     let grows : vec_len c.loop.bytes < vec_len c.read_some.new.bytes = search rules in
+    let came : c.read_some.result ≡ Ok true = search rules in
+    let one = c.read_some.ensures.one came in
     record {
       taken = subst (Consumes (g.R.Read.remaining c.args.input.now.reader) (g.R.Read.remaining c.read_some.new.input.reader)) (sym gave.1)
           (Consumes-trans _ _ _ c.loop.bytes.items gave.0 c.loop.invariant.taken gave.2);
@@ -37,6 +60,7 @@ loop-preserved g c =
       calls = c.read_some.ensures.one_call.1.0 ∙ ap (λ n. n + 1) c.loop.invariant.calls;
       each = each_on g.R.Read.remaining _ _ c.args.input.now c.loop.input c.read_some.new.input c.loop.bytes.items c.read_some.new.bytes.items count more grows
           c.loop.invariant.each c.read_some.ensures.one_call.1.0 gave;
+      told = (suc c.loop.invariant.told.0, (c.loop.input.reader, one.0, one.1, c.loop.invariant.told.1, one.2, one.3));
       unhurt = c.in_ok-read_some.ensures.ok ∙ c.loop.invariant.unhurt;
       unended = search rules;
     }
@@ -49,3 +73,7 @@ returns-clause-reads g c =
       each_call = (c.loop.invariant.each.0, c.loop.bytes.items, c.loop.input, c.loop.invariant.each.1, room, inl refl);
       few_calls = omega (arith, c.loop.invariant.calls);
     }
+
+pub returns-in_err-read_some-clause-fails : goal.returns-in_err-read_some-clause-fails
+returns-in_err-read_some-clause-fails g c =
+    handed_on _ c.from_residual.result _ _ c.from_residual.ensures.1 (λ is. let failed = c.in_err-read_some.ensures.one_err (ap Err is) in inl (c.loop.input.reader, failed.0, c.loop.invariant.told, failed.1))

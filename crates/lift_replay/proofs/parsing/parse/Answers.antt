@@ -1,11 +1,10 @@
 use Rattle.std.proofs.Common.{ap, sym, ◌∙◌}
 use Rattle.lift_base.specs.lemmas.Texts.{first_and_others, texts}
-use Rattle.lift_base.specs.lemmas.Words.{same_text}
 use Rattle.lift_replay.proofs.Words.{line_read, line_unread, turn_line}
 use Rattle.lift_replay.proofs.parsing.parse.Goals as goal
 
-pub returns-then-eq-clause-some : goal.returns-then-eq-clause-some
-returns-then-eq-clause-some c = turn_line c.args.line.now (same_text _ _ (sym c.if-eq.ensures))
+pub returns-then-is_four-clause-some : goal.returns-then-is_four-clause-some
+returns-then-is_four-clause-some c = turn_line c.args.line.now (c.is_four.ensures.same c.if-is_four.true)
 
 pub returns-in-len1-up-clause-some : goal.returns-in-len1-up-clause-some
 returns-in-len1-up-clause-some c =

@@ -16,7 +16,7 @@ pub loop-preserved : goal.loop-preserved
 loop-preserved g c =
     let tells = c.in_ok-end.ensures.tells in
     let told_is : c.deref.result.now ≡ tells.0 = c.deref.ensures ∙ tells.2 ∙ ap (λ bytes. bytes ++ tells.0) c.clear.ensures.bytes in
-    let piece_is : string_bytes c.add.new.text ≡ string_bytes c.loop.piece ++ tells.0 = c.in_ok-add.ensures ∙ ap (λ bytes. string_bytes c.loop.piece ++ bytes) told_is in
+    let piece_is : string_bytes c.add_line.new.piece ≡ string_bytes c.loop.piece ++ tells.0 = c.in_ok-add_line.ensures ∙ ap (λ bytes. string_bytes c.loop.piece ++ bytes) told_is in
     let same : c.loop.station.building.now ≡ c.args.station.now.building.now = λ i. (c.loop.invariant.building i).now in
     record {
       tells = λ group shows.
@@ -36,7 +36,7 @@ loop-preserved g c =
             more.1,
             more.2,
             reports_on _ _ _ _ _ _ before.0 tells.0 before.4
-                (reports_put _ _ (string_bytes c.loop.piece) (string_bytes c.add.new.text) _ tells.0 piece_is c.in_ok-put_large_piece.ensures.ok),
+                (reports_put _ _ (string_bytes c.loop.piece) (string_bytes c.add_line.new.piece) _ tells.0 piece_is c.in_ok-put_large_piece.ensures.ok),
           ));
       small = c.in_ok-put_large_piece.ensures.small;
       called = takes_more g.W.Outlet.gives _ _ _ c.loop.invariant.called c.in_ok-put_large_piece.ensures.each_call;
@@ -48,7 +48,7 @@ pub returns-in-Some-end-clause-tells : goal.returns-in-Some-end-clause-tells
 returns-in-Some-end-clause-tells g c = λ group shows.
     let tells = c.in_ok-end.ensures.tells in
     let told_is : c.deref.result.now ≡ tells.0 = c.deref.ensures ∙ tells.2 ∙ ap (λ bytes. bytes ++ tells.0) c.clear.ensures.bytes in
-    let piece_is : string_bytes c.add.new.text ≡ string_bytes c.loop.piece ++ tells.0 = c.in_ok-add.ensures ∙ ap (λ bytes. string_bytes c.loop.piece ++ bytes) told_is in
+    let piece_is : string_bytes c.add_line.new.piece ≡ string_bytes c.loop.piece ++ tells.0 = c.in_ok-add_line.ensures ∙ ap (λ bytes. string_bytes c.loop.piece ++ bytes) told_is in
     let same : c.loop.station.building.now ≡ c.args.station.now.building.now = λ i. (c.loop.invariant.building i).now in
     (let before = c.loop.invariant.tells group shows in
     let number = c.next.new.self.count in
@@ -63,7 +63,7 @@ returns-in-Some-end-clause-tells g c = λ group shows.
     c.in-Some.ensures.first (c.in-Some.ensures.counted ∙ c.in-Some.ensures.number) before.3 c.in-Some-end.end line in (
       before.0 ++ tells.0,
       more,
-      reports_on _ _ _ _ _ _ before.0 tells.0 before.4 (reports_kept _ (string_bytes c.loop.piece) (string_bytes c.add.new.text) tells.0 piece_is),
+      reports_on _ _ _ _ _ _ before.0 tells.0 before.4 (reports_kept _ (string_bytes c.loop.piece) (string_bytes c.add_line.new.piece) tells.0 piece_is),
     ))
 
 pub returns-in-Some-end-clause-small : goal.returns-in-Some-end-clause-small
@@ -74,8 +74,8 @@ returns-in-Some-end-clause-small g c = λ other.
     c.in-Some.line.now c.in-Some.number c.in-Some-end.end tells.0
     (subst (λ end. LineTells c.loop.station.building.now c.loop.station.clerk c.push_line.new.station.clerk c.loop.station.terminals.seats.items c.push_line.new.station.terminals.seats.items c.in-Some.line.now c.in-Some.number end tells.0) c.in-Some-end.is tells.1)
     other in
-    let kept : string_bytes c.add.new.text ≡ string_bytes c.loop.piece =
-    c.in_ok-add.ensures ∙ ap (λ bytes. string_bytes c.loop.piece ++ bytes) (told_is ∙ none) ∙ append-nil (string_bytes c.loop.piece) in
+    let kept : string_bytes c.add_line.new.piece ≡ string_bytes c.loop.piece =
+    c.in_ok-add_line.ensures ∙ ap (λ bytes. string_bytes c.loop.piece ++ bytes) (told_is ∙ none) ∙ append-nil (string_bytes c.loop.piece) in
     subst (λ bytes. length bytes < 32768) (sym kept) c.loop.invariant.small
 
 pub returns-in_default-clause-tells : goal.returns-in_default-clause-tells
@@ -93,18 +93,18 @@ returns-in_err-end-clause-front g c = err_so c.from_residual.result (λ group sh
     let before = c.loop.invariant.tells group shows in
     tells_so_far c.args.station.now.building.now c.args.lines.now.count c.loop.lines.count group before.1 (lines_in c.args.lines.now.rest.now) (lines_in c.loop.lines.rest.now) _ _ _ _ before.0 before.3 before.4)
 
-pub returns-in_err-add-clause-front : goal.returns-in_err-add-clause-front
-returns-in_err-add-clause-front g c = err_so c.from_residual-in_err-add.result (λ group shows.
+pub returns-in_err-add_line-clause-front : goal.returns-in_err-add_line-clause-front
+returns-in_err-add_line-clause-front g c = err_so c.from_residual-in_err-add_line.result (λ group shows.
     let before = c.loop.invariant.tells group shows in
-    let kept : string_bytes c.add.new.text ≡ string_bytes c.loop.piece = c.in_err-add.ensures in
-    tells_kept c.args.station.now.building.now c.args.lines.now.count group (lines_in c.args.lines.now.rest.now) _ _ _ (string_bytes c.loop.piece) (string_bytes c.add.new.text) kept
+    let kept : string_bytes c.add_line.new.piece ≡ string_bytes c.loop.piece = c.in_err-add_line.ensures in
+    tells_kept c.args.station.now.building.now c.args.lines.now.count group (lines_in c.args.lines.now.rest.now) _ _ _ (string_bytes c.loop.piece) (string_bytes c.add_line.new.piece) kept
     (tells_so_far c.args.station.now.building.now c.args.lines.now.count c.loop.lines.count group before.1 (lines_in c.args.lines.now.rest.now) (lines_in c.loop.lines.rest.now) _ _ _ _ before.0 before.3 before.4))
 
 pub returns-in_err-put_large_piece-clause-front : goal.returns-in_err-put_large_piece-clause-front
 returns-in_err-put_large_piece-clause-front g c =
     let tells = c.in_ok-end.ensures.tells in
     let told_is : c.deref.result.now ≡ tells.0 = c.deref.ensures ∙ tells.2 ∙ ap (λ bytes. bytes ++ tells.0) c.clear.ensures.bytes in
-    let piece_is : string_bytes c.add.new.text ≡ string_bytes c.loop.piece ++ tells.0 = c.in_ok-add.ensures ∙ ap (λ bytes. string_bytes c.loop.piece ++ bytes) told_is in
+    let piece_is : string_bytes c.add_line.new.piece ≡ string_bytes c.loop.piece ++ tells.0 = c.in_ok-add_line.ensures ∙ ap (λ bytes. string_bytes c.loop.piece ++ bytes) told_is in
     let same : c.loop.station.building.now ≡ c.args.station.now.building.now = λ i. (c.loop.invariant.building i).now in
     err_so c.from_residual-in_err-put_large_piece.result (λ group shows.
     (let before = c.loop.invariant.tells group shows in
@@ -119,8 +119,8 @@ returns-in_err-put_large_piece-clause-front g c =
     c.args.lines.now.count c.loop.lines.count group (lines_in c.args.lines.now.rest.now) (lines_in c.loop.lines.rest.now) (lines_in c.next.new.self.rest.now) c.in-Some.line.now before.0 tells.0 number
     c.in-Some.ensures.first (c.in-Some.ensures.counted ∙ c.in-Some.ensures.number) before.3 line in
     tells_more plan c.args.lines.now.count number group more.0 (lines_in c.args.lines.now.rest.now) (lines_in c.next.new.self.rest.now) _ _ _ _ _ _ (before.0 ++ tells.0) more.2
-    (reports_on _ _ _ _ _ _ before.0 tells.0 before.4 (reports_kept _ (string_bytes c.loop.piece) (string_bytes c.add.new.text) tells.0 piece_is))
-    (tells_torn plan number more.0 (lines_in c.next.new.self.rest.now) _ _ _ (string_bytes c.add.new.text) (string_bytes c.put_large_piece.new.piece)
+    (reports_on _ _ _ _ _ _ before.0 tells.0 before.4 (reports_kept _ (string_bytes c.loop.piece) (string_bytes c.add_line.new.piece) tells.0 piece_is))
+    (tells_torn plan number more.0 (lines_in c.next.new.self.rest.now) _ _ _ (string_bytes c.add_line.new.piece) (string_bytes c.put_large_piece.new.piece)
     c.in_err-put_large_piece.ensures.front c.in_err-put_large_piece.ensures.emptied)))
 
 pub returns-in_default-clause-writes : goal.returns-in_default-clause-writes
@@ -132,8 +132,8 @@ returns-in-Some-end-clause-writes g c = pieces_ok g.W.Outlet.gives _ _ _ _ c.loo
 pub returns-in_err-end-clause-writes : goal.returns-in_err-end-clause-writes
 returns-in_err-end-clause-writes g c = pieces_memory g.W.Outlet.gives _ _ _ c.from_residual.result c.from_residual.ensures.1 c.loop.invariant.called
 
-pub returns-in_err-add-clause-writes : goal.returns-in_err-add-clause-writes
-returns-in_err-add-clause-writes g c = pieces_memory g.W.Outlet.gives _ _ _ c.from_residual-in_err-add.result c.from_residual-in_err-add.ensures.1 c.loop.invariant.called
+pub returns-in_err-add_line-clause-writes : goal.returns-in_err-add_line-clause-writes
+returns-in_err-add_line-clause-writes g c = pieces_memory g.W.Outlet.gives _ _ _ c.from_residual-in_err-add_line.result c.from_residual-in_err-add_line.ensures.1 c.loop.invariant.called
 
 pub returns-in_err-put_large_piece-clause-writes : goal.returns-in_err-put_large_piece-clause-writes
 returns-in_err-put_large_piece-clause-writes g c = pieces_failed g.W.Outlet.gives _ _ _ c.from_residual-in_err-put_large_piece.result c.from_residual-in_err-put_large_piece.ensures.1
