@@ -10,7 +10,7 @@ use Rattle.lift_serve.proofs.Sessions.{are_new}
 use Rattle.lift_serve.proofs.serving.serve.Goals as goal
 
 pub lobby_of-requires-clause-new : goal.lobby_of-requires-clause-new
-lobby_of-requires-clause-new g c earlier = subst (λ (seats : List TerminalSeat). All IsNewSeat seats) (sym c.in-Ok.ensures.seats) (are_new 0 c.in-Ok.opened.desk)
+lobby_of-requires-clause-new g c = subst (λ (seats : List TerminalSeat). All IsNewSeat seats) (sym c.in-Ok.ensures.seats) (are_new 0 c.in-Ok.opened.desk)
 
 pub returns-in-Ok-run-clause-comes : goal.returns-in-Ok-run-clause-comes
 returns-in-Ok-run-clause-comes g c =
