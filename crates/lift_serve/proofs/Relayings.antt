@@ -217,9 +217,10 @@ tells_spawn (Ok ended) first is_told says given_up = absurd (cc)
 tells_spawn (Err given_up) first is_told says over = says
 
 -- that connections have ended is told where so many have,
-pub ended_so : (over : Result EndedState (Unit {0})) (ended : Option EndedState) (listener : Listener) (sessions : ℕ) → IsEndAt listener sessions over → ended ≡ ended_in over → IfSome ended (AreEndedAt listener sessions)
-ended_so (Ok over) ended listener sessions at_end is = subst (λ (e : Option EndedState). IfSome e (AreEndedAt listener sessions)) (sym is) at_end
-ended_so (Err given_up) ended listener sessions at_end is = subst (λ (e : Option EndedState). IfSome e (AreEndedAt listener sessions)) (sym is) tt
+pub ended_so : (over : Result EndedState (Unit {0})) (ended : Option EndedState) (bound : EndedState) (listener : Listener) (sessions : ℕ)
+    → bound ≡ record { listener = listener; sessions = sessions } → IsEndAt bound over → ended ≡ ended_in over → IfSome ended (AreEndedAt listener sessions)
+ended_so (Ok over) ended bound listener sessions at at_end is = subst (λ (e : Option EndedState). IfSome e (AreEndedAt listener sessions)) (sym is) (at_end ∙ at)
+ended_so (Err given_up) ended bound listener sessions at at_end is = subst (λ (e : Option EndedState). IfSome e (AreEndedAt listener sessions)) (sym is) tt
 
 abbrev is_told_of : Option ServeFault → Type 0
 is_told_of None = ⊥

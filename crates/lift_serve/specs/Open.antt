@@ -14,7 +14,7 @@ pub record OpenState : Type 0 where
   pub given_up : Option (Unit {0})
   pub lacked : Option ServeFault
 
--- at this socket, so many connections
+-- at this socket, so many connections: as are to end, or have
 pub record EndedState : Type 0 where
   pub listener : Listener
   pub sessions : ℕ
@@ -37,8 +37,8 @@ abbrev pub AreEndedAt : Listener → ℕ → EndedState → Type 0
 AreEndedAt listener sessions ended = ended ≡ record { listener = listener; sessions = sessions }
 
 -- The accepting is over: so many connections at this socket have ended, unless all were given up.
-abbrev pub IsEndAt : Listener → ℕ → Result EndedState (Unit {0}) → Type 0
-IsEndAt listener sessions over = IfOk over (AreEndedAt listener sessions)
+abbrev pub IsEndAt : EndedState → Result EndedState (Unit {0}) → Type 0
+IsEndAt bound over = IfOk over (λ ended. ended ≡ bound)
 
 -- that they have ended, where they were not given up
 abbrev pub ended_in : Result EndedState (Unit {0}) → Option EndedState

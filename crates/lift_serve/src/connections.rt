@@ -1,5 +1,5 @@
-//! The connections that are open, and how many have ended. How many are to end is not known here:
-//! who asks says it, so that what a lock holds can't be of another number.
+//! The connections that are open, and how many have ended. How many are to end is not kept with them:
+//! who asks has it of the serving's one `Bound`, so that what a lock holds can't be of another number.
 
 ghost use Rattle.std.specs.Prelude.{◌≡◌, ◌≤◌, ℕ, ◌+◌, ◌%◌, ◌^◌, ◌∷◌, ◌++◌, [], None, Some};
 ghost use Rattle.std.specs.Prelude.{IfOk, IfErr, IfSome, IfNone, IsErr, IsSome, IsTrue, OnErr, ◌↔◌};
@@ -8,9 +8,10 @@ ghost use Rattle.lift_serve.specs.Open.{AreOver, IsEndAt, first_told, one_more};
 
 use crate::attending::Attended;
 use crate::lacks::{GivenUp, Lacking, Lacks, push};
+use crate::prepared::{Bound, Untold};
 use crate::serving::ServeFault;
 use crate::shared::Shared;
-use crate::socket::{Arrival, Closer, Listening, ListeningCloser, Socket};
+use crate::socket::{Arrival, Closer, ListeningCloser, Socket};
 use std::alloc::Global;
 use std::marker::Model;
 use std::net::Shutdown;
@@ -138,14 +139,13 @@ impl Model for Left {
     ghost view = { λ l. l.number };
 }
 
-/// That so many connections at this socket have ended. Only `Connections` makes one, which has
-/// counted them.
+/// That all connections have ended that were to end in a serving that is bound so. Only `Connections`
+/// makes one, which has counted them.
 #[derive(Drop)]
 pub struct Ended {
     connections: Snapshot<Connections>,
-    listener: Snapshot<Listening>,
-    sessions: u32,
-    ghost counted: { sessions ≤ connections.value.ended },
+    bound: Snapshot<Bound>,
+    ghost counted: { bound.value.sessions ≤ connections.value.ended },
 }
 
 impl Model for Ended {
@@ -153,7 +153,7 @@ impl Model for Ended {
 
     ghost Value = { EndedState };
 
-    ghost view = { λ e. record { listener = e.listener.value; sessions = e.sessions } };
+    ghost view = { λ e. e.bound.value };
 }
 
 /// That no more connections are accepted: all have ended that were to end, or all were given up.
@@ -207,8 +207,8 @@ impl Model for Connections {
 }
 
 impl Connections {
-    /// None is open, and none has ended.
-    pub fn new(alloc: Global, listening: ListeningCloser) -> Self
+    /// None is open, and none has ended: those of one serving.
+    pub(crate) fn new(alloc: Global, listening: ListeningCloser, untold: Untold) -> Self
         ensures { result ≡ record {
           numbers = [];
           next = 0;
@@ -222,18 +222,18 @@ impl Connections {
             next: 0,
             ended: 0,
             given_up: None,
-            lacks: Lacks::new(),
+            lacks: Lacks::new(untold),
             listening,
         }
     }
 
-    /// Whether so many have ended at this socket, or all were given up.
-    pub(crate) fn is_over(&self, listener: &Listening, sessions: u32) -> Option<Over>
-        ensures over { IsSome result ↔ AreOver sessions self.now }
-        ensures ended { IfSome result (IsEndAt listener.now sessions) }
+    /// Whether all have ended that were to end, or all were given up.
+    pub(crate) fn is_over(&self, bound: &Bound) -> Option<Over>
+        ensures over { IsSome result ↔ AreOver bound.now.sessions self.now }
+        ensures ended { IfSome result (IsEndAt bound.now) }
     {
-        if self.ended >= sessions {
-            return Some(Ok(self.all_ended(listener, sessions)));
+        if self.ended >= bound.sessions() {
+            return Some(Ok(self.all_ended(bound)));
         }
         match self.given_up {
             Some(given_up) => Some(Err(given_up)),
@@ -241,15 +241,14 @@ impl Connections {
         }
     }
 
-    /// So many have ended.
-    fn all_ended(&self, listener: &Listening, sessions: u32) -> Ended
-        requires { sessions ≤ self.now.ended }
-        ensures { result ≡ record { listener = listener.now; sessions = sessions } }
+    /// All have ended that were to end.
+    fn all_ended(&self, bound: &Bound) -> Ended
+        requires { bound.now.sessions ≤ self.now.ended }
+        ensures { result ≡ bound.now }
     {
         Ended {
             connections: Snapshot::of(self),
-            listener: Snapshot::of(listener),
-            sessions,
+            bound: Snapshot::of(bound),
         }
     }
 
@@ -261,30 +260,28 @@ impl Connections {
     }
 
     /// Somebody who came is let in: a connection is open from now on, by the number of its ticket.
-    /// Nobody is where so many have ended, or all were given up; and where memory is wanting for it,
+    /// Nobody is where all have ended that were to end, or all were given up; and where memory is wanting for it,
     /// that is noted, and the connection has ended.
     pub(crate) fn enter(
         &mut self,
         alloc: Global,
-        listener: &Listening,
-        sessions: u32,
-        reading: &Reading,
+        bound: &Bound,
         arrival: Arrival,
     ) -> Result<Option<(Connection, Awaited)>, Over>
-        ensures over { IsErr result ↔ AreOver sessions self.old }
+        ensures over { IsErr result ↔ AreOver bound.now.sessions self.old }
         ensures left_out { OnErr result (self.new ≡ self.old) }
-        ensures ended { IfErr result (IsEndAt listener.now sessions) }
+        ensures ended { IfErr result (IsEndAt bound.now) }
         ensures let_in { IfOk result (λ entered. IfSome entered (λ came. (came.0 ≡ self.old.next)
             × (came.1 ≡ came.0) × (self.new ≡ record self.old {
               numbers = self.old.numbers ++ came.0 ∷ [];
               next = (self.old.next + 1) % 2 ^ 64;
             }))) }
         ensures refused { IfOk result (λ entered. IfNone entered (self.new ≡ record self.old {
-          ended = one_more sessions self.old.ended;
+          ended = one_more bound.now.sessions self.old.ended;
           lacked = first_told self.old.lacked (Some ServeFault.Memory);
         })) }
     {
-        if let Some(over) = self.is_over(listener, sessions) {
+        if let Some(over) = self.is_over(bound) {
             arrival.close(&over);
             return Err(over);
         }
@@ -292,7 +289,7 @@ impl Connections {
             Ok(entered) => Ok(Some(entered)),
             Err(lacking) => {
                 self.lacks.note(lacking);
-                self.ended(sessions, reading);
+                self.ended(bound);
                 Ok(None)
             }
         }
@@ -318,84 +315,72 @@ impl Connections {
     }
 
     /// The connection of this number has ended, which was attended to.
-    pub(crate) fn leave(
-        &mut self,
-        sessions: u32,
-        reading: &Reading,
-        number: u64,
-        attended: Attended<'_>,
-    ) -> Left
+    pub(crate) fn leave(&mut self, bound: &Bound, number: u64, attended: Attended<'_>) -> Left
         ensures left { self.new ≡ record self.old {
           numbers = filter (λ n.
               not (n == number)) self.old.numbers;
-          ended = one_more sessions self.old.ended;
+          ended = one_more bound.now.sessions self.old.ended;
         } }
         ensures number { result ≡ number }
     {
         let _used = attended;
-        self.remove(sessions, reading, number)
+        self.remove(bound, number)
     }
 
     /// The connection of this number has ended, for which this was wanting.
-    pub(crate) fn leave_unattended(
-        &mut self,
-        sessions: u32,
-        reading: &Reading,
-        number: u64,
-        lacking: Lacking,
-    ) -> Left
+    pub(crate) fn leave_unattended(&mut self, bound: &Bound, number: u64, lacking: Lacking) -> Left
         ensures left { self.new ≡ record self.old {
           numbers = filter (λ n.
               not (n == number)) self.old.numbers;
-          ended = one_more sessions self.old.ended;
+          ended = one_more bound.now.sessions self.old.ended;
           lacked = first_told self.old.lacked (Some lacking);
         } }
         ensures number { result ≡ number }
     {
         self.lacks.note(lacking);
-        self.remove(sessions, reading, number)
+        self.remove(bound, number)
     }
 
     /// The connection of this number is open no more, and its end is counted.
-    fn remove(&mut self, sessions: u32, reading: &Reading, number: u64) -> Left
+    fn remove(&mut self, bound: &Bound, number: u64) -> Left
         ensures left { self.new ≡ record self.old {
           numbers = filter (λ n.
               not (n == number)) self.old.numbers;
-          ended = one_more sessions self.old.ended;
+          ended = one_more bound.now.sessions self.old.ended;
         } }
         ensures number { result ≡ number }
     {
         self.open.retain(|open| open.number != number);
-        self.ended(sessions, reading);
+        self.ended(bound);
         Left { number }
     }
 
     /// One connection more has ended. After the last one that is to end no more are accepted, and
     /// nothing more is read from the others.
-    fn ended(&mut self, sessions: u32, reading: &Reading)
-        ensures { self.new ≡ record self.old { ended = one_more sessions self.old.ended } }
+    fn ended(&mut self, bound: &Bound)
+        ensures { self.new ≡ record self.old { ended = one_more bound.now.sessions self.old.ended } }
     {
-        if self.ended >= sessions {
+        if self.ended >= bound.sessions() {
             return;
         }
         self.ended += 1;
-        if self.ended == sessions {
-            self.turn_away(reading);
+        if self.ended == bound.sessions() {
+            self.turn_away(bound);
         }
     }
 
     /// No more are to end: as after the last one that was to.
-    pub(crate) fn give_up(&mut self, reading: &Reading, given_up: GivenUp)
+    pub(crate) fn give_up(&mut self, bound: &Bound, given_up: GivenUp)
         ensures { self.new ≡ record self.old { given_up = Some given_up } }
     {
         self.given_up = Some(given_up);
-        self.turn_away(reading);
+        self.turn_away(bound);
     }
 
     /// No more are accepted, and nothing more is read from those that are open: who waits for a line
     /// finds the end, and the others look at this before each read.
-    fn turn_away(&self, reading: &Reading) {
-        reading.is_over.store(true, Ordering::SeqCst);
+    fn turn_away(&self, bound: &Bound) {
+        bound.reading().is_over.store(true, Ordering::SeqCst);
         self.shut(Shutdown::Read);
         self.listening.shut();
     }

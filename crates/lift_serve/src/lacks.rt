@@ -18,8 +18,9 @@ ghost use Rattle.lift_serve.specs.Open.{first_told, told_behind};
 
 use crate::connections::{Awaited, Ended, Left, Over};
 use crate::pager::Pager;
+use crate::prepared::{Bound, Untold};
 use crate::relaying::Parts;
-use crate::serving::{ServeFault, Served, unserved};
+use crate::serving::{ServeFault, Served};
 use crate::socket::{Listening, ListeningCloser};
 use lift_base::{MOST_TERMINALS, two_owners};
 use lift_desk::{Desk, DeskParts};
@@ -63,8 +64,8 @@ impl Refusal {
 }
 
 /// That a thread or memory is wanting. Only the calls below that were refused it make one, of which
-/// none asks for more than the serving has a use for. It can't be let go: it is noted, or it is told
-/// and nobody is served.
+/// none asks for more than the serving has a use for. It can't be let go: it is noted, or nobody is
+/// served for it.
 pub struct Lacking {
     refusal: Refusal,
     ghost begun: { refusal ≢ ServeFault.Network },
@@ -79,13 +80,27 @@ impl Model for Lacking {
 }
 
 impl Lacking {
-    /// It is told.
-    pub(crate) fn told(self) -> Refusal
+    /// Nobody can be served for it.
+    pub(crate) fn hinders(self) -> Hindrance
         ensures { result ≡ self }
     {
         let Lacking { refusal } = self;
-        refusal
+        Hindrance { refusal }
     }
+}
+
+/// Why nobody can be served: memory is wanting, or the socket failed. Only the calls below that were
+/// refused it make one. It can't be let go: it is told, and nobody is served.
+pub struct Hindrance {
+    refusal: Refusal,
+}
+
+impl Model for Hindrance {
+    ghost use Rattle.lift_serve.specs.declared.serving.ServeFault.{ServeFault};
+
+    ghost Value = { ServeFault };
+
+    ghost view = { λ h. h.refusal };
 }
 
 /// A growth was refused.
@@ -139,8 +154,8 @@ impl GivenUp {
 }
 
 /// How a serving ended: what it was refused, if anything was, and that so many connections have ended,
-/// unless they haven't. Only what comes of the serving makes one: so nobody hides what was refused it,
-/// or tells more.
+/// unless they haven't. Only `Lacks` make one, of which each serving has one, which end by it: so
+/// nobody hides what was refused it, or tells more.
 #[derive(Drop)]
 pub struct ServingEnd {
     fault: Option<Refusal>,
@@ -156,17 +171,6 @@ impl Model for ServingEnd {
 }
 
 impl ServingEnd {
-    /// Nobody was served, for this.
-    pub(crate) fn unserved(refusal: Refusal) -> Self
-        ensures fault { result.fault ≡ Some refusal }
-        ensures ended { result.ended ≡ None }
-    {
-        ServingEnd {
-            fault: Some(refusal),
-            ended: None,
-        }
-    }
-
     /// That no thread could be had for the serving itself, and else the first that was refused to the
     /// rest.
     pub fn fault(&self) -> Option<Refusal>
@@ -176,8 +180,8 @@ impl ServingEnd {
     }
 }
 
-/// The first of what was wanting to a serving, if anything was. Only `note` adds to it. It can't be
-/// let go: what comes of the serving ends it, which takes the keeper and tells it.
+/// The first of what was wanting to a serving, if anything was. Each serving has one. Only `note` adds
+/// to it. It can't be let go: what comes of the serving ends it, which takes the keeper and tells it.
 pub struct Lacks {
     first: Option<Refusal>,
     ghost begun: { first ≢ Some ServeFault.Network },
@@ -194,9 +198,10 @@ impl Model for Lacks {
 
 impl Lacks {
     /// Nothing was wanting.
-    pub(crate) fn new() -> Self
+    pub(crate) fn new(untold: Untold) -> Self
         ensures { result ≡ None }
     {
+        let _used = untold;
         Lacks { first: None }
     }
 
@@ -228,7 +233,10 @@ impl Lacks {
         let Lacks { first } = self;
         let (ended, fault) = match over {
             Ok(ended) => (Some(ended), first),
-            Err(_) => (None, Some(no_thread().told())),
+            Err(_) => {
+                let Lacking { refusal } = no_thread();
+                (None, Some(refusal))
+            }
         };
         Served {
             keeper,
@@ -239,20 +247,29 @@ impl Lacks {
 
     /// Nobody was served, for this, which is told whatever else there was: the keeper and the witness
     /// as they are.
+    #[tactic(auto, using(lift_relay::specs::lemmas::Heard::heard_none))]
     pub(crate) fn unserved<'b, D: Disk + Drop, K: Drop, V: Witness + Drop>(
         self,
-        lacking: Lacking,
+        hindrance: Hindrance,
         keeper: HeldKeeper<'b, D, K>,
         witness: V,
     ) -> Served<'b, D, K, V>
         ensures keeper { result.keeper ≡ keeper.entry }
         ensures heard { FailureHeard V.hears keeper.entry.writer.is_broken
             result.keeper.writer.is_broken witness result.witness }
-        ensures fault { result.end.fault ≡ Some lacking }
+        ensures fault { result.end.fault ≡ Some hindrance }
         ensures ended { result.end.ended ≡ None }
     {
         let Lacks { first: _ } = self;
-        unserved(keeper, witness, lacking.told())
+        let Hindrance { refusal } = hindrance;
+        Served {
+            keeper,
+            end: ServingEnd {
+                fault: Some(refusal),
+                ended: None,
+            },
+            witness,
+        }
     }
 }
 
@@ -302,22 +319,19 @@ pub(crate) fn push<T: Drop>(values: &mut Vec<T>, value: T) -> Result<(), Lacking
     }
 }
 
-/// What a thread for the accepting promises: that it returns once so many connections have ended at
-/// this socket, or all were given up.
+/// What a thread for the accepting promises: that it returns once all connections have ended that are
+/// to end in a serving that is bound so, or all were given up.
 #[derive(Drop)]
 pub(crate) struct EndAt {
-    listener: Snapshot<Listening>,
-    sessions: u32,
+    bound: Snapshot<Bound>,
 }
 
 impl EndAt {
-    pub(crate) fn new(listener: &Listening, sessions: u32) -> Self
-        ensures listener { result.listener.value ≡ listener.now }
-        ensures sessions { result.sessions ≡ sessions }
+    pub(crate) fn new(bound: &Bound) -> Self
+        ensures { result.bound.value ≡ bound.now }
     {
         EndAt {
-            listener: Snapshot::of(listener),
-            sessions,
+            bound: Snapshot::of(bound),
         }
     }
 }
@@ -325,7 +339,7 @@ impl EndAt {
 impl Promise<Over> for EndAt {
     ghost use Rattle.lift_serve.specs.Open.{IsEndAt};
 
-    ghost kept_by = { λ p over. IsEndAt p.listener.value p.sessions over };
+    ghost kept_by = { λ p over. IsEndAt p.bound.value over };
 }
 
 /// A thread of a scope for the accepting, which returns once that is over. Who has both parts starts
@@ -344,7 +358,7 @@ where
     V: Witness + Drop,
     requires runs { F.pre work }
     requires keeps { (over : Result EndedState (Unit {0})) → F.post work over
-        → IsEndAt promise.listener.value promise.sessions over }
+        → IsEndAt promise.bound.value over }
     ensures promised { IfOk result (λ child. child.promise ≡ promise) }
 {
     match scope.spawn_with(promise, work) {
@@ -371,13 +385,15 @@ pub(crate) fn start_session<'s, E, F: FnOnce() -> Left + Send + Drop + 's>(
 }
 
 /// What shuts a listening socket down.
-pub(crate) fn closer_of(listening: &Listening) -> Result<ListeningCloser, Refusal>
-    ensures network { IfErr result (λ refusal. refusal ≡ ServeFault.Network) }
+pub(crate) fn closer_of(listening: &Listening) -> Result<ListeningCloser, Hindrance>
+    ensures network { IfErr result (λ hindrance. hindrance ≡ ServeFault.Network) }
 {
     match listening.closer() {
         Ok(closer) => Ok(closer),
-        Err(_) => Err(Refusal {
-            fault: ServeFault::Network,
+        Err(_) => Err(Hindrance {
+            refusal: Refusal {
+                fault: ServeFault::Network,
+            },
         }),
     }
 }

@@ -4,11 +4,12 @@ ghost use Rattle.std.specs.Prelude.{◌≡◌, ◌≤◌, ◌⊎◌, IfOk, IfErr
 ghost use Rattle.lift_desk.specs.Seats.{AreSeatsOf, IsClerkOf, OwesNothing, clerk_of, seats_from};
 ghost use Rattle.lift_serve.specs.Lobby.{AreInOrder};
 
-use crate::lacks::{Refusal, closer_of, open_desk};
+use crate::lacks::{Hindrance, closer_of, open_desk};
 use crate::pager::Pager;
+use crate::prepared::Bound;
 use crate::seating::new_pagers;
 use crate::serving::ServeFault;
-use crate::socket::{Listening, ListeningCloser};
+use crate::socket::ListeningCloser;
 use lift_desk::{ClerkSeat, Desk, DeskParts, Seat};
 use std::alloc::Global;
 
@@ -22,12 +23,9 @@ pub(crate) struct Opened {
     pub(crate) closer: ListeningCloser,
 }
 
-/// A desk of so many terminals and what belongs to it, and what shuts this socket down.
-pub(crate) fn open(
-    alloc: Global,
-    listening: &Listening,
-    terminals: usize,
-) -> Result<Opened, Refusal>
+/// A desk of so many terminals and what belongs to it, and what shuts down the socket of a serving that
+/// is bound so.
+pub(crate) fn open(alloc: Global, bound: &Bound, terminals: usize) -> Result<Opened, Hindrance>
     requires { (1 ≤ terminals) × (terminals ≤ 63) }
     ensures count { IfOk result (λ opened. length opened.desk ≡ terminals) }
     ensures seats { IfOk result (λ opened. opened.seats.items ≡ seats_from 0 opened.desk) }
@@ -37,21 +35,18 @@ pub(crate) fn open(
     ensures owes { IfOk result (λ opened. OwesNothing opened.clerk) }
     ensures pagers { IfOk result (λ opened. length opened.pagers.items ≡ 63) }
     ensures in_order { IfOk result (λ opened. AreInOrder opened.pagers.items) }
-    ensures refused { IfErr result (λ refusal. (refusal ≡ ServeFault.Network)
-        ⊎ (refusal ≡ ServeFault.Memory)) }
+    ensures refused { IfErr result (λ hindrance. (hindrance ≡ ServeFault.Network)
+        ⊎ (hindrance ≡ ServeFault.Memory)) }
 {
     let DeskParts { desk, seats, clerk } = match open_desk(alloc, terminals) {
         Ok(parts) => parts,
-        Err(lacking) => return Err(lacking.told()),
+        Err(lacking) => return Err(lacking.hinders()),
     };
     let pagers = match new_pagers(alloc) {
         Ok(pagers) => pagers,
-        Err(lacking) => return Err(lacking.told()),
+        Err(lacking) => return Err(lacking.hinders()),
     };
-    let closer = match closer_of(listening) {
-        Ok(closer) => closer,
-        Err(refusal) => return Err(refusal),
-    };
+    let closer = closer_of(bound.listening())?;
     Ok(Opened {
         desk,
         seats,

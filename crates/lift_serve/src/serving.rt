@@ -2,26 +2,26 @@
 
 ghost use Rattle.std.specs.Prelude.{◌≡◌, [], Option, None, Some, IfOk, IfErr, IfSome, IsErr};
 ghost use Rattle.std.specs.Prelude.{IsSome, ℕ};
-ghost use Rattle.std.specs.declared.net.tcp.TcpListener.{TcpListener as Listener};
 ghost use Rattle.std.specs.Thread.{IsSend, IsSync};
 ghost use Rattle.lift_desk.specs.Seats.{clerk_of};
 ghost use Rattle.lift_serve.specs.Lobby.{AreInOrder, found_seats};
 ghost use Rattle.lift_relay.specs.Heard.{FailureHeard};
 ghost use Rattle.lift_relay.specs.declared.pair.RunFault.{RunFault as Fault};
-ghost use Rattle.lift_serve.specs.Open.{AreEndedAt, IsEndAt};
+ghost use Rattle.lift_serve.specs.Open.{AreEndedAt, EndedState, IsEndAt};
 ghost use Rattle.lift_serve.specs.Relaying.{ComesTo, HaveRunOn, Relayed};
 
-use crate::connections::{Connection, Connections, Left, Over, Reading};
+use crate::connections::{Connection, Connections, Left, Over};
 use crate::lacks::{
-    EndAt, GivenUp, Lacking, Refusal, ServingEnd, part, start_accepting, start_session,
+    EndAt, GivenUp, Lacking, Lacks, ServingEnd, part, start_accepting, start_session,
 };
 use crate::lobby::Lobby;
 use crate::opened::{Opened, open};
 use crate::pace::{Bells, Closing, Pace};
+use crate::prepared::{Begun, Prepared};
 use crate::relaying::{Parts, run_parts, turn_rejoined, unrun};
 use crate::seating::lobby_of;
 use crate::shared::Shared;
-use crate::socket::{Arrival, Listening};
+use crate::socket::Arrival;
 use lift_base::MOST_CARS;
 use lift_disk::Disk;
 use lift_parts::{parts_are_clerks, turns_keep_what_was_given};
@@ -43,39 +43,6 @@ pub enum ServeFault {
     Thread,
     /// A growth was refused.
     Memory,
-}
-
-/// A group that is to be served. It can't be let go or taken apart: `serve` alone takes it. So whoever
-/// waits with it can serve at its socket no other group, with no other policy, and no other number of
-/// connections.
-pub struct Prepared<'b, D: Disk + Drop, P, K: Drop> {
-    listening: Listening,
-    sessions: u32,
-    keeper: HeldKeeper<'b, D, K>,
-    policy: P,
-    ghost settled: { keeper.state.batch ≡ [] },
-}
-
-impl<'b, D: Disk + Drop, P, K: Drop> Prepared<'b, D, P, K> {
-    /// The keeper's building is to be served with this policy at this socket, until so many
-    /// connections have ended.
-    ///
-    /// It stays a call: built into its caller, the copies of a keeper take the compiler ten minutes.
-    #[inline(never)]
-    pub fn new(listening: Listening, sessions: u32, keeper: HeldKeeper<'b, D, K>, policy: P) -> Self
-        requires { keeper.state.batch ≡ [] }
-        ensures listening { result.listening ≡ listening }
-        ensures sessions { result.sessions ≡ sessions }
-        ensures keeper { result.keeper ≡ keeper.entry }
-        ensures policy { result.policy ≡ policy }
-    {
-        Prepared {
-            listening,
-            sessions,
-            keeper,
-            policy,
-        }
-    }
 }
 
 /// What came of the serving.
@@ -118,10 +85,10 @@ fn accept_all<'s, 'd: 's, E, R: Threads + Wait + Clock + Sync>(
     scope: &Scope<'s, E>,
     shared: Shared<'s, 'd>,
 ) -> Over
-    ensures { IsEndAt shared.entry.listener.now shared.entry.sessions result }
+    ensures { IsEndAt shared.entry.bound.now result }
 {
     for _ in rt.forever() {
-        let Ok(arrival) = Arrival::at(shared.listener) else {
+        let Ok(arrival) = Arrival::at(shared.bound) else {
             if let Some(over) = shared.is_over(rt) {
                 return over;
             }
@@ -145,7 +112,7 @@ fn accept_all<'s, 'd: 's, E, R: Threads + Wait + Clock + Sync>(
 /// Accepts connections until all have ended that were to end, and once each thread of one has, has
 /// both parts end.
 fn welcome<R: Threads + Wait + Clock + Sync>(rt: &R, alloc: Global, shared: Shared<'_, '_>) -> Over
-    ensures { IsEndAt shared.entry.listener.now shared.entry.sessions result }
+    ensures { IsEndAt shared.entry.bound.now result }
 {
     let over = thread::scope(
         thread::scope_env(),
@@ -166,8 +133,7 @@ fn welcome<R: Threads + Wait + Clock + Sync>(rt: &R, alloc: Global, shared: Shar
 /// How a serving is over whose accepting was over so: given up, where it was.
 fn over_behind(given_up: Option<GivenUp>, over: Over) -> Over
     ensures given_up { IsSome given_up → IsErr result }
-    ensures ended { (listener : Listener) (sessions : ℕ)
-        → IsEndAt listener sessions over → IsEndAt listener sessions result }
+    ensures ended { (bound : EndedState) → IsEndAt bound over → IsEndAt bound result }
 {
     match given_up {
         Some(given_up) => Err(given_up),
@@ -198,7 +164,7 @@ where
         × (fault ≡ Some (Fault.Spawn tt) → IsErr result.1) }
     ensures heard { FailureHeard V.hears parts.entry.flusher.writer.is_broken
         result.0.flusher.writer.is_broken parts.entry.witness result.0.witness }
-    ensures over { IsEndAt shared.entry.listener.now shared.entry.sessions result.1 }
+    ensures over { IsEndAt shared.entry.bound.now result.1 }
 {
     thread::scope(
         thread::scope_env(),
@@ -211,11 +177,11 @@ where
                 × (fault ≡ Some (Fault.Spawn tt) → IsErr result.1) }
             ensures heard { FailureHeard V.hears parts.entry.flusher.writer.is_broken
                 result.0.flusher.writer.is_broken parts.entry.witness result.0.witness }
-            ensures over { IsEndAt shared.entry.listener.now shared.entry.sessions result.1 }
+            ensures over { IsEndAt shared.entry.bound.now result.1 }
         {
-            let promise = EndAt::new(shared.listener, shared.sessions);
+            let promise = EndAt::new(shared.bound);
             let work = move || -> Over
-                ensures { IsEndAt shared.entry.listener.now shared.entry.sessions result }
+                ensures { IsEndAt shared.entry.bound.now result }
             { welcome(rt, alloc, shared) };
             let accepting = match start_accepting(scope, &parts, promise, work) {
                 Ok(accepting) => accepting,
@@ -257,7 +223,7 @@ where
         × (fault ≡ Some (Fault.Spawn tt) → IsErr ran.1)) }
     ensures heard { IfOk result (λ ran. FailureHeard V.hears clerk.entry.keeper.writer.is_broken
         ran.0.keeper.writer.is_broken witness ran.2) }
-    ensures over { IfOk result (λ ran. IsEndAt shared.entry.listener.now shared.entry.sessions ran.1) }
+    ensures over { IfOk result (λ ran. IsEndAt shared.entry.bound.now ran.1) }
     ensures refused { IfErr result (λ back. (back.0 ≡ clerk.entry) × (back.2 ≡ witness)) }
     ensures lack { IfErr result (λ back. back.1 ≡ ServeFault.Memory) }
 {
@@ -280,26 +246,6 @@ where
             Ok((clerk, over, witness))
         }
         Err((clerk, lacking)) => Err((clerk, lacking, witness)),
-    }
-}
-
-/// Nobody is served, for this: the keeper and the witness as they are.
-#[tactic(auto, using(lift_relay::specs::lemmas::Heard::heard_none))]
-pub(crate) fn unserved<'b, D: Disk + Drop, K: Drop, V: Witness + Drop>(
-    keeper: HeldKeeper<'b, D, K>,
-    witness: V,
-    refusal: Refusal,
-) -> Served<'b, D, K, V>
-    ensures keeper { result.keeper ≡ keeper.entry }
-    ensures heard { FailureHeard V.hears keeper.entry.writer.is_broken result.keeper.writer.is_broken
-        witness result.witness }
-    ensures fault { result.end.fault ≡ Some refusal }
-    ensures ended { result.end.ended ≡ None }
-{
-    Served {
-        keeper,
-        end: ServingEnd::unserved(refusal),
-        witness,
     }
 }
 
@@ -338,12 +284,12 @@ where
     ensures ended { IfSome result.end.ended (AreEndedAt prepared.entry.listening prepared.entry.sessions) }
     ensures counted { result.end.fault ≡ None → IsSome result.end.ended }
 {
-    let Prepared {
-        listening,
-        sessions,
+    let Begun {
+        bound,
+        untold,
         keeper,
         policy,
-    } = prepared;
+    } = prepared.begun();
     let terminals = MOST_CARS + usize::from(keeper.keeper().building().kiosks());
     let Opened {
         desk,
@@ -351,24 +297,21 @@ where
         clerk,
         pagers,
         closer,
-    } = match open(alloc, &listening, terminals) {
+    } = match open(alloc, &bound, terminals) {
         Ok(opened) => opened,
-        Err(refusal) => return unserved(keeper, witness, refusal),
+        Err(hindrance) => return Lacks::new(untold).unserved(hindrance, keeper, witness),
     };
     let clerk = keeper.at(&desk, clerk, policy);
     let register = clerk.keeper().register();
     let lobby = Mutex::new(lobby_of(&desk, &pagers, seats, register));
-    let connections = Mutex::new(Connections::new(alloc, closer));
+    let connections = Mutex::new(Connections::new(alloc, closer, untold));
     let bells = Bells::new(&pagers);
-    let reading = Reading::new();
     let closing = Closing::new();
     let shared = Shared {
         building: clerk.keeper().building(),
-        listener: &listening,
-        sessions,
+        bound: &bound,
         lobby: &lobby,
         bells: &bells,
-        reading: &reading,
         closing: &closing,
         connections: &connections,
     };
@@ -379,7 +322,7 @@ where
         }
         Err((clerk, lacking, witness)) => {
             let lacks = connections.into_inner().into_lacks();
-            lacks.unserved(lacking, clerk.leave(), witness)
+            lacks.unserved(lacking.hinders(), clerk.leave(), witness)
         }
     }
 }

@@ -4,11 +4,12 @@ ghost use Rattle.std.specs.Prelude.{◌≡◌, IfOk, IfErr, IfSome};
 ghost use Rattle.lift_serve.specs.Open.{IsEndAt};
 
 use crate::attending::Attended;
-use crate::connections::{Awaited, Connection, Connections, Left, Over, Reading};
+use crate::connections::{Awaited, Connection, Connections, Left, Over};
 use crate::lacks::{GivenUp, Lacking};
 use crate::lobby::Lobby;
 use crate::pace::{Bells, Closing};
-use crate::socket::{Arrival, Listening};
+use crate::prepared::Bound;
+use crate::socket::Arrival;
 use lift_building::Building;
 use std::alloc::Global;
 use std::sync::{Mutex, Wait};
@@ -23,28 +24,23 @@ const FAREWELL_MS: u64 = 1_000;
 #[derive(Clone, Copy)]
 pub(crate) struct Shared<'a, 'd> {
     pub(crate) building: &'a Building,
-    pub(crate) listener: &'a Listening,
-    /// How many connections are to end.
-    pub(crate) sessions: u32,
+    pub(crate) bound: &'a Bound,
     pub(crate) lobby: &'a Mutex<Lobby<'d>>,
     pub(crate) bells: &'a Bells<'a>,
-    pub(crate) reading: &'a Reading,
     pub(crate) closing: &'a Closing,
     pub(crate) connections: &'a Mutex<Connections>,
 }
 
 impl<'a, 'd> Shared<'a, 'd> {
     pub(crate) fn is_over<R: Wait>(self, rt: &R) -> Option<Over>
-        ensures { IfSome result (IsEndAt self.entry.listener.now self.entry.sessions) }
+        ensures { IfSome result (IsEndAt self.entry.bound.now) }
     {
-        self.connections
-            .lock(rt)
-            .is_over(self.listener, self.sessions)
+        self.connections.lock(rt).is_over(self.bound)
     }
 
     /// How the accepting is over, as it stays from then on.
     pub(crate) fn over<R: Wait>(self, rt: &R) -> Over
-        ensures { IsEndAt self.entry.listener.now self.entry.sessions result }
+        ensures { IsEndAt self.entry.bound.now result }
     {
         for _ in rt.forever() {
             if let Some(over) = self.is_over(rt) {
@@ -63,16 +59,14 @@ impl<'a, 'd> Shared<'a, 'd> {
         arrival: Arrival,
     ) -> Result<Option<(Connection, Awaited)>, Over>
         ensures awaited { IfOk result (λ entered. IfSome entered (λ came. came.1 ≡ came.0)) }
-        ensures over { IfErr result (IsEndAt self.entry.listener.now self.entry.sessions) }
+        ensures over { IfErr result (IsEndAt self.entry.bound.now) }
     {
-        self.connections
-            .lock(rt)
-            .enter(alloc, self.listener, self.sessions, self.reading, arrival)
+        self.connections.lock(rt).enter(alloc, self.bound, arrival)
     }
 
     /// No connection is served any more.
     pub(crate) fn give_up<R: Wait>(self, rt: &R, given_up: GivenUp) {
-        self.connections.lock(rt).give_up(self.reading, given_up);
+        self.connections.lock(rt).give_up(self.bound, given_up);
     }
 
     /// The connection of this number has ended, which was attended to.
@@ -81,7 +75,7 @@ impl<'a, 'd> Shared<'a, 'd> {
     {
         self.connections
             .lock(rt)
-            .leave(self.sessions, self.reading, number, attended)
+            .leave(self.bound, number, attended)
     }
 
     /// The connection of this number has ended, for which this was wanting.
@@ -90,7 +84,7 @@ impl<'a, 'd> Shared<'a, 'd> {
     {
         self.connections
             .lock(rt)
-            .leave_unattended(self.sessions, self.reading, number, lacking)
+            .leave_unattended(self.bound, number, lacking)
     }
 
     fn is_empty<R: Wait>(self, rt: &R) -> bool {

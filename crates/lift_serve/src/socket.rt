@@ -7,6 +7,7 @@ ghost use Rattle.std.specs.declared.net.tcp.TcpListener.{TcpListener as Listener
 use crate::attending::Attended;
 use crate::connections::{Over, Ticket};
 use crate::lacks::{Lacking, read_ahead, share};
+use crate::prepared::Bound;
 use crate::serving::ServeFault;
 use crate::shared::Shared;
 use crate::speaking::speak;
@@ -71,9 +72,9 @@ pub(crate) struct Arrival {
 }
 
 impl Arrival {
-    /// The next one at a listening socket.
-    pub(crate) fn at(listening: &Listening) -> io::Result<Arrival> {
-        let (stream, _address) = listening.listener.accept()?;
+    /// The next one at the socket of a serving that is bound so.
+    pub(crate) fn at(bound: &Bound) -> io::Result<Arrival> {
+        let (stream, _address) = bound.listening().listener.accept()?;
         Ok(Arrival { stream })
     }
 

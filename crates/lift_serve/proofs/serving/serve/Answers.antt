@@ -10,7 +10,7 @@ use Rattle.lift_serve.proofs.Sessions.{are_new}
 use Rattle.lift_serve.proofs.serving.serve.Goals as goal
 
 pub lobby_of-requires-clause-new : goal.lobby_of-requires-clause-new
-lobby_of-requires-clause-new g c κs within = subst (λ (seats : List TerminalSeat). All IsNewSeat seats) (sym c.in-Ok.ensures.seats) (are_new 0 c.in-Ok.opened.desk)
+lobby_of-requires-clause-new g c = subst (λ (seats : List TerminalSeat). All IsNewSeat seats) (sym c.in-Ok.ensures.seats) (are_new 0 c.in-Ok.opened.desk)
 
 pub returns-in-Ok-run-clause-comes : goal.returns-in-Ok-run-clause-comes
 returns-in-Ok-run-clause-comes g c =
@@ -21,9 +21,9 @@ returns-in-Ok-run-clause-comes g c =
         before = c.at-clerk.result;
         after = c.in-Ok-run.clerk;
         fault = c.in-Ok-run.ensures.ran.0;
-        begins = ap (λ (s : ClerkState g.row.D.Denot g.row.P.Denot). s.keeper) at;
+        begins = ap (λ (s : ClerkState g.row.D.Denot g.row.P.Denot). s.keeper) at ∙ c.begun-bound.ensures.keeper;
         unused = subst (λ (s : ClerkState g.row.D.Denot g.row.P.Denot). s.seat ≡ clerk_of s.desk) (sym at) c.in-Ok.ensures.clerk;
-        policy_is = ap (λ (s : ClerkState g.row.D.Denot g.row.P.Denot). s.policy) at;
+        policy_is = ap (λ (s : ClerkState g.row.D.Denot g.row.P.Denot). s.policy) at ∙ c.begun-bound.ensures.policy;
         relayed = c.in-Ok-run.ensures.ran.1;
         ends = sym (c.behind.ensures.keeper ∙ c.leave.ensures.keeper);
       };
@@ -33,13 +33,14 @@ returns-in-Ok-run-clause-comes g c =
     })
 
 pub returns-in-Ok-run-clause-ended : goal.returns-in-Ok-run-clause-ended
-returns-in-Ok-run-clause-ended g c = ended_so c.in-Ok-run.over _ c.args.prepared.listening c.args.prepared.sessions c.in-Ok-run.ensures.over c.behind.ensures.ended
+returns-in-Ok-run-clause-ended g c = ended_so c.in-Ok-run.over _ _ c.args.prepared.listening c.args.prepared.sessions c.begun-bound.ensures.bound c.in-Ok-run.ensures.over c.behind.ensures.ended
 
 pub returns-in-Ok-run-clause-counted : goal.returns-in-Ok-run-clause-counted
 returns-in-Ok-run-clause-counted g c = all_ended c.in-Ok-run.over _ _ _ c.behind.ensures.fault c.behind.ensures.ended
 
 pub returns-in-Ok-run-clause-heard : goal.returns-in-Ok-run-clause-heard
 returns-in-Ok-run-clause-heard g c =
-    let heard = subst (λ (s : ClerkState g.row.D.Denot g.row.P.Denot). FailureHeard g.V.Witness.hears s.keeper.writer.is_broken c.in-Ok-run.clerk.keeper.writer.is_broken c.args.witness c.in-Ok-run.witness) c.at-clerk.ensures c.in-Ok-run.ensures.heard in
+    let begins = ap (λ (s : ClerkState g.row.D.Denot g.row.P.Denot). s.keeper) c.at-clerk.ensures ∙ c.begun-bound.ensures.keeper in
+    let heard = subst (λ (k : KeeperView g.row.D.Denot). FailureHeard g.V.Witness.hears k.writer.is_broken c.in-Ok-run.clerk.keeper.writer.is_broken c.args.witness c.in-Ok-run.witness) begins c.in-Ok-run.ensures.heard in
     subst (λ (p : KeeperView g.row.D.Denot × g.row.V.Denot). FailureHeard g.V.Witness.hears c.args.prepared.keeper.writer.is_broken p.0.writer.is_broken c.args.witness p.1)
     (λ i. (sym (c.behind.ensures.keeper ∙ c.leave.ensures.keeper) i, sym c.behind.ensures.witness i)) heard

@@ -1,0 +1,123 @@
+//! What a serving is bound to, which is settled before it begins.
+
+ghost use Rattle.std.specs.Prelude.{◌≡◌, []};
+
+use crate::connections::Reading;
+use crate::socket::Listening;
+use lift_disk::Disk;
+use lift_relay::HeldKeeper;
+use std::marker::Model;
+
+/// A group that is to be served. It can't be let go or taken apart: `serve` alone takes it. So whoever
+/// waits with it can serve at its socket no other group, with no other policy, and no other number of
+/// connections.
+pub struct Prepared<'b, D: Disk + Drop, P, K: Drop> {
+    listening: Listening,
+    sessions: u32,
+    keeper: HeldKeeper<'b, D, K>,
+    policy: P,
+    ghost settled: { keeper.state.batch ≡ [] },
+}
+
+impl<'b, D: Disk + Drop, P, K: Drop> Prepared<'b, D, P, K> {
+    /// The keeper's building is to be served with this policy at this socket, until so many
+    /// connections have ended.
+    ///
+    /// It stays a call: built into its caller, the copies of a keeper take the compiler ten minutes.
+    #[inline(never)]
+    pub fn new(listening: Listening, sessions: u32, keeper: HeldKeeper<'b, D, K>, policy: P) -> Self
+        requires { keeper.state.batch ≡ [] }
+        ensures listening { result.listening ≡ listening }
+        ensures sessions { result.sessions ≡ sessions }
+        ensures keeper { result.keeper ≡ keeper.entry }
+        ensures policy { result.policy ≡ policy }
+    {
+        Prepared {
+            listening,
+            sessions,
+            keeper,
+            policy,
+        }
+    }
+
+    /// Its serving begins. It stays a call too.
+    #[inline(never)]
+    pub(crate) fn begun(self) -> Begun<'b, D, P, K>
+        ensures bound { result.bound ≡ record {
+          listener = self.entry.listening;
+          sessions = self.entry.sessions;
+        } }
+        ensures keeper { result.keeper ≡ self.entry.keeper }
+        ensures settled { result.keeper.state.batch ≡ [] }
+        ensures policy { result.policy ≡ self.entry.policy }
+    {
+        let Prepared {
+            listening,
+            sessions,
+            keeper,
+            policy,
+        } = self;
+        Begun {
+            bound: Bound {
+                listening,
+                sessions,
+                reading: Reading::new(),
+            },
+            untold: Untold { made: () },
+            keeper,
+            policy,
+        }
+    }
+}
+
+/// What a serving begins with.
+pub(crate) struct Begun<'b, D: Disk + Drop, P, K: Drop> {
+    pub(crate) bound: Bound,
+    pub(crate) untold: Untold,
+    pub(crate) keeper: HeldKeeper<'b, D, K>,
+    pub(crate) policy: P,
+}
+
+/// What a serving is bound to: its socket, how many connections are to end there, and whether they
+/// are still read. Each serving has one, which nobody copies or makes another of. So whoever asks
+/// whether it is over, or counts an end, does so by that socket and that number.
+#[derive(Drop)]
+pub struct Bound {
+    listening: Listening,
+    sessions: u32,
+    reading: Reading,
+}
+
+impl Model for Bound {
+    ghost use Rattle.lift_serve.specs.Open.{EndedState};
+
+    ghost Value = { EndedState };
+
+    ghost view = { λ b. record { listener = b.listening; sessions = b.sessions } };
+}
+
+impl Bound {
+    /// The socket.
+    pub(crate) fn listening(&self) -> &Listening {
+        &self.listening
+    }
+
+    /// How many connections are to end.
+    pub(crate) fn sessions(&self) -> u32
+        ensures { result ≡ self.now.sessions }
+    {
+        self.sessions
+    }
+
+    /// Whether connections are still read.
+    pub(crate) fn reading(&self) -> &Reading {
+        &self.reading
+    }
+}
+
+/// That nothing is told yet of what was wanting to a serving. Each serving has one: who uses it up keeps
+/// what is wanting, or tells why nobody is served.
+#[derive(Drop)]
+pub struct Untold {
+    made: (),
+}
