@@ -11,4 +11,4 @@ returns-in-Err-clause-wanting g c = λ same. c.in-Err.ensures.refused (ap Err (c
 
 pub returns-in-Err-clause-no_text : goal.returns-in-Err-clause-no_text
 returns-in-Err-clause-no_text g c = λ same.
-    fails g.R.Read.remaining g.R.Inlet.gives c.args.reader.now c.read_all.new.input c.read_all.ensures.reads.each_call c.args.requires.uncalled.0 (c.in-Err.ensures.fails (ap Err (c.unread.ensures.unread (err_same _ _ same))))
+    fails g.R.Read.remaining g.R.Inlet.gives c.args.reader.now c.read_all.new.input c.read_all.ensures.reads.each_call c.requires.uncalled.0 (c.in-Err.ensures.fails (ap Err (c.unread.ensures.unread (err_same _ _ same))))
