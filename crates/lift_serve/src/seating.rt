@@ -14,8 +14,11 @@ use crate::serving::ServeFault;
 use arrayvec::ArrayVec;
 use lift_base::{Content, Letter, MOST_TERMINALS, Number, Terminal};
 use lift_desk::{Desk, Seat};
+use lift_disk::Disk;
 use lift_kiosk::LastLetter;
+use lift_policy::Policy;
 use lift_register::Register;
+use lift_relay::HeldClerk;
 use std::alloc::Global;
 
 /// The letter that a kiosk's last call got.
@@ -86,7 +89,7 @@ fn add<'d>(places: &mut ArrayVec<Option<Held<'d>>, MOST_TERMINALS>, held: Held<'
 /// The lobby with all seats of a desk, each at its place, and what a register knows of their
 /// terminals.
 #[tactic(auto, using(crate::proofs::Places::one_taken_more))]
-pub(crate) fn lobby_of<'d>(
+fn lobby_at<'d>(
     desk: &'d Desk,
     pagers: &'d [Pager],
     seats: Vec<Seat>,
@@ -106,4 +109,24 @@ pub(crate) fn lobby_of<'d>(
         add(&mut places, held_of(desk, pagers, seat, register));
     }
     Lobby::new(desk, places)
+}
+
+/// The lobby of a clerk's desk, with all its seats, and what the clerk's register knows of their
+/// terminals.
+pub(crate) fn lobby_of<'d, D: Disk, P: Policy + Drop, K>(
+    clerk: &HeldClerk<'d, '_, D, P, K>,
+    pagers: &'d [Pager],
+    seats: Vec<Seat>,
+) -> Lobby<'d>
+    requires pagers { 63 ≤ length pagers.now }
+    requires in_order { AreInOrder pagers.now }
+    requires new { All IsNewSeat seats.items }
+    requires seats { AreSeatsOf clerk.now.desk seats.items }
+    requires all { seats.items ≡ seats_from 0 clerk.now.desk }
+    ensures desk { result.desk ≡ clerk.now.desk }
+    ensures all { result.places
+        ≡ found_seats clerk.now.keeper.state.register clerk.now.desk seats.items }
+    ensures found { AreAsFound clerk.now.keeper.state.register clerk.now.desk result.places }
+{
+    lobby_at(clerk.desk(), pagers, seats, clerk.keeper().register())
 }

@@ -302,8 +302,7 @@ where
         Err(hindrance) => return Lacks::new(untold).unserved(hindrance, keeper, witness),
     };
     let clerk = keeper.at(&desk, clerk, policy);
-    let register = clerk.keeper().register();
-    let lobby = Mutex::new(lobby_of(&desk, &pagers, seats, register));
+    let lobby = Mutex::new(lobby_of(&clerk, &pagers, seats));
     let connections = Mutex::new(Connections::new(alloc, closer, untold));
     let bells = Bells::new(&pagers);
     let closing = Closing::new();

@@ -1,7 +1,7 @@
 use Rattle.std.proofs.Common.{◌≡◌, ◌+◌, List, length, ap, sym, ◌∙◌, inl, subst, rules}
 use Rattle.std.specs.Prelude.{All}
 use Rattle.lift_clerk.specs.Clerk.{ClerkState}
-use Rattle.lift_desk.specs.Seats.{TerminalSeat, clerk_of}
+use Rattle.lift_desk.specs.Seats.{TerminalSeat, AreSeatsOf, clerk_of, seats_from}
 use Rattle.lift_keeper.specs.Keeper.{KeeperView}
 use Rattle.lift_relay.specs.Heard.{FailureHeard}
 use Rattle.lift_serve.specs.Visits.{IsNewSeat}
@@ -11,6 +11,12 @@ use Rattle.lift_serve.proofs.serving.serve.Goals as goal
 
 pub lobby_of-requires-clause-new : goal.lobby_of-requires-clause-new
 lobby_of-requires-clause-new g c = subst (λ (seats : List TerminalSeat). All IsNewSeat seats) (sym c.in-Ok.ensures.seats) (are_new 0 c.in-Ok.opened.desk)
+
+pub lobby_of-requires-clause-seats : goal.lobby_of-requires-clause-seats
+lobby_of-requires-clause-seats g c = subst (λ (s : ClerkState g.row.D.Denot g.row.P.Denot). AreSeatsOf s.desk c.in-Ok.opened.seats.items) (sym c.at-clerk.ensures) c.in-Ok.ensures.seats_at
+
+pub lobby_of-requires-clause-all : goal.lobby_of-requires-clause-all
+lobby_of-requires-clause-all g c = subst (λ (s : ClerkState g.row.D.Denot g.row.P.Denot). c.in-Ok.opened.seats.items ≡ seats_from 0 s.desk) (sym c.at-clerk.ensures) c.in-Ok.ensures.seats
 
 pub returns-in-Ok-run-clause-comes : goal.returns-in-Ok-run-clause-comes
 returns-in-Ok-run-clause-comes g c =
