@@ -10,7 +10,7 @@ use Rattle.lift_replay.specs.declared.lines.Verdict.{Verdict}
 use Rattle.lift_disk.specs.Disk.{DiskState}
 use Rattle.lift_program.specs.Ends.{SaysFront, serving_text}
 use Rattle.lift_program.specs.Images.{CommandFiles}
-use Rattle.lift_program.specs.Showing.{ShowsRegister, ShowsFront, ShowsPart}
+use Rattle.lift_program.specs.Showing.{IsShown, ShowsFront, ShowsPart, ShowsRegister}
 use Rattle.lift_program.specs.Stages.{HasBuilding}
 
 -- where nothing was written, nothing of the port was
@@ -42,6 +42,12 @@ shown_front plan opened left old new shows =
       count = length text;
       written = subst (Appends old new) (sym (take_all (length text) text (omega arith))) shows.written;
     }
+
+-- the open calls were written, and nothing was done to the image but that it was read
+pub is_shown : (files : CommandFiles) (path building : List ℕ) (plan : Plan) (opened left : files.image.Shown) (old new : Option (List ℕ)) → HasBuilding (files.is_text building) plan → files.image.is_to_be_shown path opened
+    → ShowsRegister plan (files.image.shown_state opened) (files.image.shown_state left) old new → files.image.is_only_read left → IsShown files path building left old new
+is_shown files path building plan opened left old new described fresh shows only_read =
+    record { plan = plan; described = described; opened = opened; fresh = fresh; shows = shows; only_read = only_read }
 
 pub part_shown : (files : CommandFiles) (path building : List ℕ) (plan : Plan) (opened left : files.image.Shown) (old new : Option (List ℕ)) → HasBuilding (files.is_text building) plan → files.image.is_to_be_shown path opened
     → ShowsFront plan (files.image.shown_state opened) (files.image.shown_state left) old new → ShowsPart files path building old new

@@ -1,40 +1,32 @@
 use Rattle.std.proofs.Common.{rules, arith, ◌≡◌, sym, subst, ap, ◌∙◌, Err}
 use Rattle.std.specs.Prelude.{IfErr}
 use Rattle.lift_disk.specs.Below.{below, buffered_state_of}
-use Rattle.lift_program.specs.Unwritten.{unwritten_state_of}
+use Rattle.lift_program.specs.Unwritten.{unwritten_file_of, unwritten_state_of}
 use Rattle.lift_program.specs.Ends.{IsFileFault, IsReportOfFault, IsShowingFault}
 use Rattle.lift_disk.specs.Files.{sector_file_state_of}
-use Rattle.lift_program.specs.Images.{CommandFiles, IsTextRead, image_files}
-use Rattle.lift_program.specs.Showing.{IsShown, ShowsFront}
-use Rattle.lift_program.specs.Stages.{IsNoText}
+use Rattle.lift_program.specs.Images.{IsOnlyRead}
+use Rattle.lift_program.specs.Showing.{ShowsFront, ShowsRegister}
 use Rattle.lift_program.specs.declared.fault.Role.TheVariants.{Output}
 use Rattle.lift_program.proofs.Flushing.{building_no_output, image_no_output}
 use Rattle.lift_program.proofs.Stages.{showing_left, showing_part}
-use Rattle.lift_program.proofs.Writing.{part_shown, shown_front}
+use Rattle.lift_program.proofs.Writing.{is_shown, part_shown, shown_front}
 use Rattle.lift_program.proofs.show.show.Goals as goal
 
 pub returns-in-Ok-outcome-clause-shown : goal.returns-in-Ok-outcome-clause-shown
 returns-in-Ok-outcome-clause-shown g c =
-    let files : CommandFiles = record {
-      image = image_files c.args.files.image (g.I.FileOpener.stands c.args.files.image) (g.I.FileOpener.opens c.args.files.image) (g.I.FileOpener.names c.args.files.image) (g.I.FileOpener.unnamed c.args.files.image) g.I.Told.ToldFile.gives g.I.Told.ToldFile.fails g.I.Told.ToldFile.holds (buffered_state_of (sector_file_state_of g.I.Told.ToldFile.holds)) (buffered_state_of (unwritten_state_of g.I.Told.ToldFile.holds));
-      is_text = λ path. IsTextRead (g.B.TextOpener.opens c.args.files.building path) g.B.Text.Read.remaining;
-      is_no_text = λ path. IsNoText (g.B.TextOpener.opens c.args.files.building path) g.B.Text.Read.remaining g.B.Text.Inlet.gives;
-    } in
     let before = g.W.Write.contents c.args.writer.now in
     let after = g.W.Write.contents c.show_on-disk.new.writer in
-    let shown : IsShown files c.args.image.now c.args.building.now c.show_on-disk.result.0 before after = record {
-      plan = c.in-Ok.building;
-      described = c.in-Ok.ensures.found;
-      opened = c.in-Ok-image_to_show.disk;
-      fresh = c.in-Ok-image_to_show.ensures.opened;
-      shows = search rules;
-      only_read = record {
-        unwritten = (below c.show_on-disk.result.0).unwritten;
-        unhurt = let same : (unwritten_state_of g.I.Told.ToldFile.holds (below c.show_on-disk.result.0)).failures ≡ (unwritten_state_of g.I.Told.ToldFile.holds (below c.in-Ok-image_to_show.disk)).failures = search rules in
-            omega (arith, same, c.in-Ok-image_to_show.ensures.opened.unhurt);
-      };
+    let state = buffered_state_of (unwritten_state_of g.I.Told.ToldFile.holds) in
+    let shows : ShowsRegister c.in-Ok.building (state c.in-Ok-image_to_show.disk) (state c.show_on-disk.result.0) before after = search rules in
+    let same : (unwritten_state_of g.I.Told.ToldFile.holds (below c.show_on-disk.result.0)).failures ≡ (unwritten_state_of g.I.Told.ToldFile.holds (below c.in-Ok-image_to_show.disk)).failures = search rules in
+    let only_read : IsOnlyRead (sector_file_state_of g.I.Told.ToldFile.holds (unwritten_file_of (below c.show_on-disk.result.0))) = record {
+      unwritten = (below c.show_on-disk.result.0).unwritten;
+      unhurt = omega (arith, same, c.in-Ok-image_to_show.ensures.opened.unhurt);
     } in
-    subst (λ (d : files.image.Shown). IsShown files c.args.image.now c.args.building.now d before after) (sym c.new-in-Ok-outcome.ensures) shown
+    let is = sym c.new-in-Ok-outcome.ensures in
+    is_shown _ c.args.image.now c.args.building.now c.in-Ok.building c.in-Ok-image_to_show.disk c.new-in-Ok-outcome.result before after c.in-Ok.ensures.found c.in-Ok-image_to_show.ensures.opened
+    (subst (λ d. ShowsRegister c.in-Ok.building (state c.in-Ok-image_to_show.disk) (state d) before after) is shows)
+    (subst (λ d. IsOnlyRead (sector_file_state_of g.I.Told.ToldFile.holds (unwritten_file_of (below d)))) is only_read)
 
 pub returns-in-Err-outcome-clause-undone : goal.returns-in-Err-outcome-clause-undone
 returns-in-Err-outcome-clause-undone g c =
