@@ -37,13 +37,13 @@ other_than P result fault wanted is holds same = holds (sym (subst (λ r. IsErrA
 
 -- no fault but a building's file and text, or memory
 abbrev pub IsOfBuilding : Fault → Type 0
-IsOfBuilding = IsBuildingFault (λ text. ⊥) ⊥
+IsOfBuilding = IsBuildingFault (λ text. ⊥)
 
-pub building_no_output : (is_text : List ℕ → Type 0) (is_no_text : Type 0) (fault : Fault) → IsBuildingFault is_text is_no_text fault → fault ≡ File Output → ⊥
-building_no_output is_text is_no_text fault is same = subst (IsBuildingFault is_text is_no_text) same is
+pub building_no_output : (is_text : List ℕ → Type 0) (fault : Fault) → IsBuildingFault is_text fault → fault ≡ File Output → ⊥
+building_no_output is_text fault is same = subst (IsBuildingFault is_text) same is
 
-pub building_no_network : (is_text : List ℕ → Type 0) (is_no_text : Type 0) (fault : Fault) → IsBuildingFault is_text is_no_text fault → fault ≡ Network → ⊥
-building_no_network is_text is_no_text fault is same = subst (IsBuildingFault is_text is_no_text) same is
+pub building_no_network : (is_text : List ℕ → Type 0) (fault : Fault) → IsBuildingFault is_text fault → fault ≡ Network → ⊥
+building_no_network is_text fault is same = subst (IsBuildingFault is_text) same is
 
 pub image_no_output : (fault : Fault) → IsFileFault OfImage fault → fault ≡ File Output → ⊥
 image_no_output fault (inl is) same = absurd (let other = sym is ∙ same in cc)

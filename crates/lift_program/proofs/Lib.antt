@@ -3,6 +3,5 @@ mod Commands
 mod Flushing
 mod Rows
 mod Telling
-mod Unread
 mod Stages
 mod Writing

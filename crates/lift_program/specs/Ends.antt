@@ -214,8 +214,7 @@ pub record IsUnformatted (files : CommandFiles) (image building : List ℕ) (hal
 abbrev pub IsUnmade : (files : CommandFiles) → (image building : List ℕ) → (half : ℕ)
     → Undone files.image.Made files.image.File files.image.Opener → Type 0
 IsUnmade files image building half (NoBuilding fault unused) =
-    IsBuildingFault (files.is_text building) (files.is_no_text building) fault
-    × (unused ≡ files.image.opener)
+    IsBuildingFault (files.is_text building) fault × (unused ≡ files.image.opener)
 IsUnmade files image building half (NoImageHad refused) =
     IsNoImage (files.is_text building) (files.image.is_unmade image (2 + 2 * half)) refused.fault
     refused.cause
@@ -258,11 +257,11 @@ IsUnread new = (new.failed ≡ true) ⊎ ((new.calls ≡ 2097152) × (new.ended 
 abbrev pub IsRequestFault : CommandFiles → Request → Fault → Type 0
 IsRequestFault files Replay fault = IsReplayFault fault
 IsRequestFault files (Format image building half) fault =
-    IsBuildingFault (files.is_text building.now) (files.is_no_text building.now) fault
+    IsBuildingFault (files.is_text building.now) fault
 IsRequestFault files (Show image building) fault =
-    IsBuildingFault (files.is_text building.now) (files.is_no_text building.now) fault
+    IsBuildingFault (files.is_text building.now) fault
 IsRequestFault files (Serve image building port sessions policy) fault =
-    IsBuildingFault (files.is_text building.now) (files.is_no_text building.now) fault
+    IsBuildingFault (files.is_text building.now) fault
 
 -- no image was had at the path that was named, for this
 abbrev pub IsNoImageFor : (files : CommandFiles) → Request → Fault

@@ -50,8 +50,6 @@ pub record CommandFiles : Type 1 where
   pub image : ImageFiles
   -- this text was read from the building's file, which was opened at this path
   pub is_text : (path text : List ℕ) → Type 0
-  -- the building's file at this path gave no text
-  pub is_no_text : (path : List ℕ) → Type 0
 
 -- A file was opened, and this text was all that its reader held, where it is known what it held.
 abbrev pub IsTextRead : {R : Type 0} → (opens : Option R → Type 0)

@@ -10,7 +10,7 @@ ghost use Rattle.lift_replay.specs.Reading.{TakesUpTo};
 ghost use Rattle.lift_program.specs.Ends.{IsFileFault, IsUncalled, IsUnread};
 ghost use Rattle.lift_program.specs.Images.{IsJustMade, IsTextRead};
 ghost use Rattle.lift_program.specs.Stages.{HasBuilding, HasNoImage, IsBuildingFault, IsImageFault};
-ghost use Rattle.lift_program.specs.Stages.{GivesNoText, IsNoText, TakesBytes, most_text};
+ghost use Rattle.lift_program.specs.Stages.{TakesBytes, most_text};
 ghost use Rattle.lift_program.specs.declared.fault.Role.TheVariants.{Building as OfBuilding};
 ghost use Rattle.lift_program.specs.declared.fault.Role.TheVariants.{Image as OfImage};
 
@@ -19,11 +19,12 @@ use crate::left::{Left, Refused};
 use crate::opening::{ImageView, TextOpener};
 use crate::refused::{text_in, told_as};
 use crate::unwritten::{ShownImage, UnwrittenFile};
-use lift_base::text::{Counted, Inlet};
+use lift_base::text::Counted;
 use lift_building::Building;
 use lift_disk::{Buffered, FileFault, FileOpener, SectorFile};
 use lift_replay::{InputFault, MOST_BYTES, MOST_CALLS, read_all};
 use std::alloc::Global;
+use std::io::Read;
 use std::str;
 
 /// What a building's file comes to that couldn't be read.
@@ -40,7 +41,7 @@ fn unread(fault: InputFault) -> Fault
 
 /// The bytes of a building's file, as many as a script may have. Reading stops after one byte more,
 /// and the file is refused then.
-fn bytes_of<R: Inlet + Drop>(alloc: Global, reader: &mut Counted<R>) -> Result<Vec<u8>, Fault>
+fn bytes_of<R: Read + Drop>(alloc: Global, reader: &mut Counted<R>) -> Result<Vec<u8>, Fault>
     requires uncalled { IsUncalled reader.old }
     ensures whole { IfOk result (λ bytes.
         IfSome (R.remaining reader.old.reader) (λ all. bytes.items ≡ all)) }
@@ -52,8 +53,6 @@ fn bytes_of<R: Inlet + Drop>(alloc: Global, reader: &mut Counted<R>) -> Result<V
     // wanting only where no call failed.
     ensures refused { result ≡ Err (Fault.File OfBuilding) → IsUnread reader.new
         ⊎ TakesBytes (most_text + 1) R.remaining reader.old.reader reader.new.reader }
-    ensures no_text { result ≡ Err (Fault.File OfBuilding)
-        → GivesNoText R.remaining R.gives reader.old.reader reader.new.reader }
     ensures wanting { result ≡ Err (Fault.Memory tt) → reader.new.failed ≡ false }
     ensures unfailed { OnOk result (reader.new.failed ≡ false) }
 {
@@ -74,8 +73,7 @@ fn bytes_of<R: Inlet + Drop>(alloc: Global, reader: &mut Counted<R>) -> Result<V
 fn building_of(alloc: Global, bytes: &[u8]) -> Result<Building, Fault>
     requires bound { length bytes.now ≤ most_text }
     ensures found { IfOk result (HasBuilding (λ text. text ≡ bytes.now)) }
-    ensures fault { IfErr result
-        (IsBuildingFault (λ text. text ≡ bytes.now) (¬ IsUtf8 bytes.now)) }
+    ensures fault { IfErr result (IsBuildingFault (λ text. text ≡ bytes.now)) }
     // It is refused as a file just where it is no text.
     ensures no_text { ¬ IsUtf8 bytes.now → result ≡ Err (Fault.File OfBuilding) }
     ensures text { IsUtf8 bytes.now → IfErr result (λ fault. fault ≢ Fault.File OfBuilding) }
@@ -95,8 +93,7 @@ pub fn building_in<B: TextOpener>(opener: B, alloc: Global, path: &str) -> Resul
     ensures found { IfOk result
         (HasBuilding (IsTextRead (B.opens opener path.now) B.Text.remaining)) }
     ensures fault { IfErr result
-        (IsBuildingFault (IsTextRead (B.opens opener path.now) B.Text.remaining)
-        (IsNoText (B.opens opener path.now) B.Text.remaining B.Text.gives)) }
+        (IsBuildingFault (IsTextRead (B.opens opener path.now) B.Text.remaining)) }
 {
     let text = text_in(opener, path)?;
     let bytes = bytes_of(alloc, &mut Counted::new(text))?;

@@ -2,14 +2,12 @@
 
 ghost use Rattle.std.specs.Prelude.{◌≡◌, ℕ, List, Option, Some, None, IfOk, OnErr, ⊤};
 ghost use Rattle.lift_program.specs.Images.{CommandFiles, ImageFiles, IsTextRead, image_files};
-ghost use Rattle.lift_program.specs.Stages.{IsNoText};
 
 use crate::left::Left;
 use crate::unwritten::ShownImage;
-use lift_base::text::Inlet;
 use lift_disk::{BufferedFile, Disk, FileOpener};
 use std::fs::File;
-use std::io::ErrorKind;
+use std::io::{ErrorKind, Read};
 use std::os::fd::AsRawFd;
 use std::rt::LibcRuntime;
 use std::{fs, io};
@@ -20,7 +18,7 @@ const STANDARD_ERROR: i32 = 2;
 /// What opens the file of a building to read it, once: an opening takes it, whether or not it
 /// succeeds.
 pub trait TextOpener: Drop {
-    type Text: Inlet + Drop;
+    type Text: Read + Drop;
 
     /// What was given where the file at a path was to be opened.
     ghost opens: { Self → List ℕ → Option Self.Text → Type 0 };
@@ -110,7 +108,5 @@ impl<B: TextOpener, I: FileOpener> FilesView for Files<B, I> {
     ghost view = { λ files. record {
       image = ⟦<I as ImageView>⟧.image files.image;
       is_text = λ path. IsTextRead (B.opens files.building path) B.Text.remaining;
-      is_no_text = λ path. IsNoText (B.opens files.building path) B.Text.remaining
-          ⟦<B::Text as Inlet>⟧.gives;
     } };
 }

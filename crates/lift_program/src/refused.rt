@@ -112,7 +112,6 @@ pub(crate) fn told_as<F: Drop, O: Drop>(cause: &FileFault<F, O>) -> Fault
 /// What reads the file of a building.
 pub(crate) fn text_in<B: TextOpener>(opener: B, path: &str) -> Result<B::Text, Fault>
     ensures opened { IfOk result (λ text. B.opens opener path.now (Some text)) }
-    ensures refused { OnErr result (B.opens opener path.now None) }
     ensures fault { IfErr result (IsFileFault OfBuilding) }
 {
     match opener.open_text(path) {

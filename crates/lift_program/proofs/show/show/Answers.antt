@@ -56,7 +56,7 @@ returns-in-Err-outcome-clause-only g c =
     c.in-Err-outcome.is c.show_on-disk.ensures.front)
 
 pub returns-in-Err-clause-failed : goal.returns-in-Err-clause-failed
-returns-in-Err-clause-failed g c = λ same. absurd (building_no_output _ _ _ c.in-Err.ensures.fault same)
+returns-in-Err-clause-failed g c = λ same. absurd (building_no_output _ _ c.in-Err.ensures.fault same)
 
 pub returns-in-Err-image_to_show-clause-failed : goal.returns-in-Err-image_to_show-clause-failed
 returns-in-Err-image_to_show-clause-failed g c = λ same. absurd (image_no_output _ c.in-Err-image_to_show.ensures.unhad.is_fault same)

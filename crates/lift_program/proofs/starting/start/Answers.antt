@@ -7,7 +7,6 @@ use Rattle.lift_disk.specs.Files.{sector_file_state_of}
 use Rattle.lift_program.specs.Images.{CommandFiles, IsTextRead, image_files}
 use Rattle.lift_program.specs.Ends.{EndOver, IsEndOf, IsPassedOn, TellsLine, line_at_once, line_at_once_in, undone_for}
 use Rattle.lift_program.specs.Listening.{local}
-use Rattle.lift_program.specs.Stages.{IsNoText}
 use Rattle.lift_program.specs.Output.{IsFlushed, WriterHasFailed}
 use Rattle.lift_program.specs.Unwritten.{unwritten_state_of}
 use Rattle.lift_program.specs.declared.fault.Fault.TheVariants.{File}
@@ -23,7 +22,6 @@ returns-clause-end g c =
     let files : CommandFiles = record {
       image = image_files c.args.given.files.image (g.I.FileOpener.stands c.args.given.files.image) (g.I.FileOpener.opens c.args.given.files.image) (g.I.FileOpener.names c.args.given.files.image) (g.I.FileOpener.unnamed c.args.given.files.image) g.I.Told.ToldFile.gives g.I.Told.ToldFile.fails g.I.Told.ToldFile.holds (buffered_state_of (sector_file_state_of g.I.Told.ToldFile.holds)) (buffered_state_of (unwritten_state_of g.I.Told.ToldFile.holds));
       is_text = λ path. IsTextRead (g.B.TextOpener.opens c.args.given.files.building path) g.B.Text.Read.remaining;
-      is_no_text = λ path. IsNoText (g.B.TextOpener.opens c.args.given.files.building path) g.B.Text.Read.remaining g.B.Text.Inlet.gives;
     } in
     let gives : ℕ → Option Listener → Type 0 = g.L.Listens.gives c.args.given.socket local in
     let words = map g.S.AsStr.text c.args.given.words.now in
