@@ -1,4 +1,4 @@
-use Rattle.std.proofs.Common.{◌≡◌, ◌∙◌, ℕ, Option, Some, ap, map, subst, sym}
+use Rattle.std.proofs.Common.{◌≡◌, ◌∙◌, ℕ, Option, Some, Err, ⊥, ap, map, subst, sym}
 use Rattle.std.specs.declared.net.tcp.TcpListener.{TcpListener as Listener}
 use Rattle.lift_base.specs.Input.{InputState}
 use Rattle.lift_base.specs.Output.{OutputState}
@@ -36,6 +36,13 @@ returns-clause-end g c =
           subst is_end (sym w.end-is) (served_end files gives (g.R.Read.remaining c.args.reader) words before after of.keeper of.listening first.port of.sessions of.policy serving.fault serving.left serving.end
           w.in-Ok.ensures.ready w.serve-serving.ensures.served)
       | in-Err w ↦ subst is_end (sym w.end-is) (subst (λ r. IsEndOf files gives (g.R.Read.remaining r) words before after w.in-Err.end) same w.in-Err.ensures.end)
+    ]
+
+pub returns-clause-answered : goal.returns-clause-answered
+returns-clause-answered g c =
+    elim c.match-prepare.branch [
+      | in-Ok w ↦ λ is. absurd (subst (λ e. IsPassedOn e ⊥) (sym is ∙ w.end-is) tt)
+      | in-Err w ↦ λ is. w.in-Err.ensures.answered (ap Err (sym w.end-is ∙ is))
     ]
 
 pub returns-clause-unwritten : goal.returns-clause-unwritten
