@@ -1,8 +1,8 @@
 -- What several calls of a file come to, one after the other.
 use Rattle.std.proofs.Common.{Result, Ok, Err, OnOk, OnErr, append_assoc, ◌≡◌, ◌∙◌, inl, inr, ⊎_elim, ℕ, zero, suc, ◌+◌, Bool, IsTrue, List, [], ◌∷◌, ◌++◌, refl, sym, ap, subst, arith}
-use Rattle.lift_disk.specs.Disk.{DiskState, CountsNow, TouchesNothing}
+use Rattle.lift_disk.specs.Disk.{DiskState, CountsNow, KeepsWrites, TouchesNothing}
 use Rattle.lift_disk.specs.FileCalls.{FailsIn, FileCall, LeadsBy}
-use Rattle.lift_disk.specs.Runs.{KeepsWrites, Rests}
+use Rattle.lift_disk.specs.Runs.{Rests}
 use Rattle.std.proofs.Math.Logic.{∥∥₁_map}
 use Rattle.lift_disk.specs.Holding.{IsKnownSteady, IsSameFile, SyncMakesSafe}
 use Rattle.lift_disk.specs.Traced.{IsMaking, file_of, making_of, zero_write, zero_writes}
@@ -47,14 +47,16 @@ safe_behind old mid new counts honest rests keeps safe =
             (λ now. inr now) (second.nothing_else since left (omega (arith, le, first.later)) was);
         keeps = λ since left le was. second.keeps since left (omega (arith, le, first.later)) (first.keeps since left le was);
       };
-      settled = λ i bytes was. safe.settled i bytes (keeps.written honest i bytes was);
-      touched = touches_nothing_then old mid new touched safe.touched;
-      synced = safe.synced;
-      steady = λ was.
-          let now = keeps.steady honest was in
-          let then = safe.steady now.steady in
-          record { steady = then.steady; same = then.same ∙ now.same };
-      saved = safe.saved;
+      saves = record {
+        settled = λ i bytes was. safe.saves.settled i bytes (keeps.written honest i bytes was);
+        touched = touches_nothing_then old mid new touched safe.saves.touched;
+        synced = safe.saves.synced;
+        steady = λ was.
+            let now = keeps.steady honest was in
+            let then = safe.saves.steady now.steady in
+            record { steady = then.steady; same = then.same ∙ now.same };
+        saved = safe.saves.saved;
+      };
     }
 
 pub leads_then : {F : Type 0} (gives : F → FileCall → F → Type 0) (calls more : List FileCall) (old mid new : F) → LeadsBy gives calls old mid → LeadsBy gives more mid new → LeadsBy gives (calls ++ more) old new

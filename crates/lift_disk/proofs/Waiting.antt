@@ -3,8 +3,8 @@ use Rattle.std.proofs.Common.{◌≡◌, ◌≢◌, ◌⊎◌, ◌↔◌, ◌<�
 use Rattle.std.proofs.lemmas.Option.{slice_get-get_or}
 use Rattle.std.proofs.lemmas.List.{length-set}
 use Rattle.lift_disk.specs.Trace.{Access}
-use Rattle.lift_disk.specs.Disk.{DiskState, Image, ChangesWithin, Elapses, GoesOn, Settles, ReadsAsWritten, Touches, TouchesNothing, StaysLoose, KeepsSynced, IsSteadyAt}
-use Rattle.lift_disk.specs.Runs.{IsInRun, with_run, Announces, buffered, waiting, Rests, Loosens, KeepsWrites, run_outside, run_loose, left_with}
+use Rattle.lift_disk.specs.Disk.{DiskState, Image, ChangesWithin, Elapses, GoesOn, Settles, ReadsAsWritten, Touches, TouchesNothing, LeavesAsBefore, IsSteadyAt, KeepsWrites}
+use Rattle.lift_disk.specs.Runs.{IsInRun, with_run, Announces, buffered, waiting, Rests, Loosens, run_outside, run_loose, left_with}
 use Rattle.lift_disk.specs.lemmas.History.{set_here}
 use Rattle.lift_disk.specs.lemmas.Moments.{changes_nothing, changes_more, changes_twice, changes_both}
 
@@ -66,20 +66,20 @@ later_of old new from from2 pending pending2 same time waits honest =
     }
 
 -- a call of the other device that opens no sector
-pub rests_of : (old new : DiskState) (from from2 : ℕ) (pending pending2 : List (List ℕ)) → GoesOn old new → (old.is_honest → TouchesNothing old new) → (old.is_honest → StaysLoose old new) → KeepsSynced old new
+pub rests_of : (old new : DiskState) (from from2 : ℕ) (pending pending2 : List (List ℕ)) → GoesOn old new → LeavesAsBefore old new
     → Waits old from pending → Waits new from2 pending2 → Rests (waiting old from pending) (waiting new from2 pending2)
-rests_of old new from from2 pending pending2 goes_on touched loose kept waits waits2 = record {
+rests_of old new from from2 pending pending2 goes_on leaves waits waits2 = record {
   size = goes_on.size;
   honest = goes_on.honest;
   time = later_of old new from from2 pending pending2 goes_on.honest goes_on.time waits2;
   touched = λ honest. record {
-    loose = (touched honest).loose;
+    loose = (leaves.touched honest).loose;
     within = left_with old.is_loose old.image (image_of old from pending) (image_of new from2 pending2) (within_of old from pending waits honest)
-        (changes_twice old.is_loose old.image new.image (image_of new from2 pending2) (touched honest).within
-        (changes_more new.is_loose old.is_loose new.image (image_of new from2 pending2) (touched honest).loose (within_of new from2 pending2 waits2 (goes_on.honest.1 honest))));
+        (changes_twice old.is_loose old.image new.image (image_of new from2 pending2) (leaves.touched honest).within
+        (changes_more new.is_loose old.is_loose new.image (image_of new from2 pending2) (leaves.touched honest).loose (within_of new from2 pending2 waits2 (goes_on.honest.1 honest))));
   };
-  loose = loose;
-  kept = kept;
+  loose = leaves.loose;
+  kept = leaves.kept;
 }
 
 pub none_waits : (disk : DiskState) (from : ℕ) (pending : List (List ℕ)) → pending ≡ [] → Waits disk from pending

@@ -1,6 +1,6 @@
 -- What a device holds, what its calls do to it, and what a crash may leave of it.
 use Rattle.lift_disk.specs.Trace.{Access, Records}
-use Rattle.lift_disk.specs.Trace.Access.{Read}
+use Rattle.lift_disk.specs.Trace.Access.{Read, Write, Sync}
 use Rattle.std.specs.Prelude.{◌≡◌, ◌⊎◌, ◌↔◌, ◌<◌, ◌≤◌, ◌+◌, ℕ, Bool, true, List, length, replicate}
 use Rattle.std.specs.Prelude.{slice_get, slice_set, Some, Result, OnOk, OnErr}
 
@@ -130,15 +130,31 @@ pub record FailsAsToldOrShort {T E : Type 0} (result : Result T E)
       ⊎ ¬ old.fails_at (old.calls + 1) × (new.is_short ≡ true))
   pub short : old.is_short ≡ true → new.is_short ≡ true
 
--- One call, a read of this sector, by the counts and the calls of the device alone.
-pub record MakesRead {T E : Type 0} (result : Result T E) (sector : ℕ)
+-- what an inert device fails such a call for: a read takes no memory
+abbrev pub FailsFor : {T E : Type 0} → Access → Result T E → DiskState → DiskState → Type 0
+FailsFor (Read sector) result old new = FailsAsTold result old new
+FailsFor (Write sector bytes) result old new = FailsAsToldOrShort result old new
+FailsFor Sync result old new = FailsAsToldOrShort result old new
+
+-- how many writes such a call is
+abbrev pub writes_in : Access → ℕ
+writes_in (Read sector) = 0
+writes_in (Write sector bytes) = 1
+writes_in Sync = 0
+
+-- One failure more if it failed, else none.
+pub record CountsFault {T E : Type 0} (result : Result T E) (old new : DiskState) : Type 0 where
+  pub ok : OnOk result (new.failures ≡ old.failures)
+  pub err : OnErr result (new.failures ≡ old.failures + 1)
+
+-- One call of a device, by its counts, its faults and the list of its calls.
+pub record IsAccess {T E : Type 0} (result : Result T E) (call : Access)
     (old new : DiskState) : Type 0 where
   pub goes_on : GoesOn old new
-  pub cause : HasCause result old new
-  pub counted : OnErr result (new.failures ≡ old.failures + 1)
-  pub told : FailsAsTold result old new
-  pub writes : new.writes ≡ old.writes
-  pub recorded : Records result (Read sector) old.trace new.trace
+  pub fault : CountsFault result old new
+  pub told : FailsFor call result old new
+  pub writes : new.writes ≡ old.writes + writes_in call
+  pub recorded : Records result call old.trace new.trace
 
 -- One sector more is loose, and nothing but loose sectors has changed.
 pub record Touches (sector : ℕ) (old new : DiskState) : Type 0 where
@@ -191,6 +207,33 @@ pub record IsSteadyAt (image : Image) (disk : DiskState) : Type 0 where
 pub record IsSynced (disk : DiskState) : Type 0 where
   pub steady : disk.is_steady
   pub none_loose : (i : ℕ) → ¬ disk.is_loose i
+
+-- A crash leaves what it would have left before: no sector more or less is loose, nothing but
+-- loose sectors has changed, and the image of the last sync is the same.
+pub record LeavesAsBefore (old new : DiskState) : Type 0 where
+  pub touched : old.is_honest → TouchesNothing old new
+  pub loose : old.is_honest → StaysLoose old new
+  pub kept : KeepsSynced old new
+
+-- What was written and has stood since still does, and where no call has failed the same is read.
+pub record KeepsWrites (old new : DiskState) : Type 0 where
+  pub written : StaysWritten old new
+  pub steady : old.is_honest → old.is_steady → IsSteadyAt old.image new
+
+-- These bytes are written in the sector: they are read at once where no call has failed, and after
+-- the next sync that succeeds.
+pub record StoresSector (sector : ℕ) (bytes : List ℕ) (old new : DiskState) : Type 0 where
+  pub settles : old.is_honest → Settles sector bytes old new
+  pub steady : old.is_honest → old.is_steady → IsSteadyAt (slice_set old.image sector bytes) new
+  pub image : SetsSector sector bytes old new
+
+-- What was written is read, and from now on a crash leaves what is read.
+pub record SavesAll (old new : DiskState) : Type 0 where
+  pub settled : ReadsAsWritten old new
+  pub touched : TouchesNothing old new
+  pub synced : IsSynced new
+  pub steady : old.is_steady → IsSteadyAt old.image new
+  pub saved : new.synced ≡ new.image
 
 -- nothing that is said of the device has changed, but for what it was told
 pub record IsUnchanged (old new : DiskState) : Type 0 where

@@ -1,9 +1,8 @@
 -- What a file holds, by its sectors, and what its calls do to that where it is honest.
 use Rattle.std.specs.Prelude.{◌≡◌, ◌↔◌, ◌⊎◌, ◌≤◌, ◌<◌, ◌+◌, ◌*◌, ◌/◌, ℕ, List, [], length, false}
 use Rattle.std.specs.Prelude.{if◌then◌else◌, nat_lt, Result, OnOk, OnErr}
-use Rattle.lift_disk.specs.Disk.{DiskState, Elapses, IsSteadyAt, IsSynced, ReadsAsWritten}
-use Rattle.lift_disk.specs.Disk.{TouchesNothing}
-use Rattle.lift_disk.specs.Runs.{HoldsRun, IsInRun, KeepsWrites, Rests, SettlesRun, with_run}
+use Rattle.lift_disk.specs.Disk.{DiskState, Elapses, IsSteadyAt, KeepsWrites, SavesAll}
+use Rattle.lift_disk.specs.Runs.{HoldsRun, IsInRun, Rests, SettlesRun, with_run}
 use Rattle.lift_disk.specs.Trace.{Access}
 
 -- the whole sectors of this many bytes, as many of them as can be numbered
@@ -77,11 +76,7 @@ pub record WritesRun (sector : ℕ) (run : List (List ℕ)) (old new : DiskState
 -- What was written was made safe: a crash leaves what is read.
 pub record SyncMakesSafe (old new : DiskState) : Type 0 where
   pub time : Elapses old new
-  pub settled : ReadsAsWritten old new
-  pub touched : TouchesNothing old new
-  pub synced : IsSynced new
-  pub steady : old.is_steady → IsSteadyAt old.image new
-  pub saved : new.synced ≡ new.image
+  pub saves : SavesAll old new
 
 -- it has as many sectors as before, and is as honest
 pub record IsSameFile (old new : DiskState) : Type 0 where

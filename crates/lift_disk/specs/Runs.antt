@@ -8,7 +8,7 @@ use Rattle.std.proofs.lemmas.List.{length-set}
 use Rattle.lift_disk.specs.Trace.{Access}
 use Rattle.lift_disk.specs.Trace.Access.{Write}
 use Rattle.lift_disk.specs.Disk.{DiskState, Image, ChangesWithin, Elapses, Touches, TouchesNothing}
-use Rattle.lift_disk.specs.Disk.{StaysLoose, StaysWritten, KeepsSynced, IsSteadyAt}
+use Rattle.lift_disk.specs.Disk.{StaysLoose, KeepsSynced, IsSteadyAt}
 
 -- one of this many sectors from that one on
 abbrev pub IsInRun : ℕ → ℕ → ℕ → Type 0
@@ -44,6 +44,11 @@ pub record SettlesRun (from : ℕ) (run : List (List ℕ)) (old new : DiskState)
       → new.settles i bytes
   pub others : (i : ℕ) (other : List ℕ) → ¬ IsInRun from (length run) i → old.settles i other
       → new.settles i other
+
+-- The same, and they are read at once where no call has failed.
+pub record StoresRun (from : ℕ) (run : List (List ℕ)) (old new : DiskState) : Type 0 where
+  pub settles : old.is_honest → SettlesRun from run old new
+  pub steady : old.is_honest → old.is_steady → IsSteadyAt (with_run from run old.image) new
 
 -- One sector more is loose. It is no call, and changes nothing else that is said of the device.
 pub record Announces (sector : ℕ) (old new : DiskState) : Type 0 where
@@ -91,11 +96,6 @@ buffered disk from pending calls writes trace = record {
 abbrev pub waiting : DiskState → ℕ → List (List ℕ) → DiskState
 waiting disk from pending = buffered disk from pending 0 0 []
 
--- One failure more if it failed, else none.
-pub record CountsFault {T E : Type 0} (result : Result T E) (old new : DiskState) : Type 0 where
-  pub ok : OnOk result (new.failures ≡ old.failures)
-  pub err : OnErr result (new.failures ≡ old.failures + 1)
-
 -- These calls were made, and all of them have succeeded.
 pub record MakesAll (calls : List Access) (old new : DiskState) : Type 0 where
   pub count : new.calls ≡ old.calls + length calls
@@ -132,11 +132,6 @@ pub record Loosens (sector : ℕ) (old new : DiskState) : Type 0 where
   pub time : old.is_honest → Elapses old new
   pub touched : old.is_honest → Touches sector old new
   pub kept : KeepsSynced old new
-
--- What was written and has stood since still does, and where no call has failed the same is read.
-pub record KeepsWrites (old new : DiskState) : Type 0 where
-  pub written : StaysWritten old new
-  pub steady : old.is_honest → old.is_steady → IsSteadyAt old.image new
 
 -- the rest of a list after a write to another place
 get_other : {X : Type 0} (xs : List X) (i k : ℕ) (x : X) → k ≢ i

@@ -1,9 +1,9 @@
 //! A device that reads ahead, and holds neighbouring writes back until it makes them as one.
 ghost use Rattle.std.specs.Prelude.{◌≡◌, ◌≤◌, ◌<◌, ◌+◌, ◌++◌, [], ◌∷◌, ℕ, List, length, Some};
 ghost use Rattle.std.specs.Prelude.{slice_get, IsTrue, OnOk, IfSome, IfNone, ◌↔◌};
-ghost use Rattle.lift_disk.specs.Disk.{MayLeave};
-ghost use Rattle.lift_disk.specs.Runs.{Announces, CountsFault, GivesRun, HoldsRun, IsInRun};
-ghost use Rattle.lift_disk.specs.Runs.{KeepsWrites, MakesCalls, Loosens, Rests};
+ghost use Rattle.lift_disk.specs.Disk.{CountsFault, KeepsWrites, MayLeave};
+ghost use Rattle.lift_disk.specs.Runs.{Announces, GivesRun, HoldsRun, IsInRun};
+ghost use Rattle.lift_disk.specs.Runs.{MakesCalls, Loosens, Rests};
 ghost use Rattle.lift_disk.specs.Runs.{left_with, left_without, run_calls, run_loose, run_whole};
 ghost use Rattle.lift_disk.specs.Runs.{with_run};
 ghost use Rattle.lift_disk.specs.Trace.Access.{Sync};

@@ -1,14 +1,11 @@
 //! What a device promises. Its contract says what is read, and what a crash at any moment may
 //! leave.
-ghost use Rattle.std.specs.Prelude.{◌≡◌, ◌≤◌, ◌<◌, ◌+◌, ℕ, OnOk, OnErr, List, length, Bool};
-ghost use Rattle.std.specs.Prelude.{slice_get, slice_set, Some, Result, ⊤};
-ghost use Rattle.lift_disk.specs.Trace.{Records};
+ghost use Rattle.std.specs.Prelude.{◌≡◌, ◌<◌, ℕ, OnOk, OnErr, List, Some, Result, slice_get, ⊤};
 ghost use Rattle.lift_disk.specs.Trace.Access.{Read, Write, Sync};
-ghost use Rattle.lift_disk.specs.Disk.{DiskState, StaysWritten, Settles, ReadsAsWritten, GoesOn};
-ghost use Rattle.lift_disk.specs.Disk.{HasCause, FailsAsTold, FailsAsToldOrShort, Touches};
-ghost use Rattle.lift_disk.specs.Disk.{TouchesNothing, StaysLoose, KeepsSynced, KeepsImage};
-ghost use Rattle.lift_disk.specs.Disk.{SetsSector, IsSteadyAt, IsSynced, IsUnchanged, IsTold};
-ghost use Rattle.lift_disk.specs.Disk.{IsWhole, CountsNow, LeavesNoOther, MayLose};
+ghost use Rattle.lift_disk.specs.Disk.{DiskState, IsAccess, KeepsImage, KeepsSynced, KeepsWrites};
+ghost use Rattle.lift_disk.specs.Disk.{LeavesAsBefore, SavesAll, StoresSector, Touches};
+ghost use Rattle.lift_disk.specs.Disk.{IsUnchanged, IsTold, IsWhole, CountsNow, LeavesNoOther};
+ghost use Rattle.lift_disk.specs.Disk.{MayLose};
 
 /// A call of the device has failed.
 #[derive(Clone, Copy, PartialEq, Eq)]
@@ -40,69 +37,35 @@ pub trait Disk {
     /// Reads a sector. A failed read leaves the buffer open.
     fn read(&mut self, sector: u32, buffer: &mut [u8; 512]) -> Result<(), DiskFault>
         requires { sector < (state self.old).size }
-        ensures goes_on { GoesOn (state self.old) (state self.new) }
-        ensures cause { HasCause result (state self.old) (state self.new) }
-        ensures counted { OnErr result ((state self.new).failures ≡ (state self.old).failures + 1) }
-        ensures told { FailsAsTold result (state self.old) (state self.new) }
-        ensures writes { (state self.new).writes ≡ (state self.old).writes }
-        ensures recorded { Records result (Read sector) (state self.old).trace
-            (state self.new).trace }
-        ensures written { OnOk result (StaysWritten (state self.old) (state self.new)) }
-        ensures touched { (state self.old).is_honest
-            → TouchesNothing (state self.old) (state self.new) }
-        ensures loose { (state self.old).is_honest → StaysLoose (state self.old) (state self.new) }
+        ensures access { IsAccess result (Read sector) (state self.old) (state self.new) }
+        ensures leaves { LeavesAsBefore (state self.old) (state self.new) }
+        ensures keeps { OnOk result (KeepsWrites (state self.old) (state self.new)) }
         ensures gives { OnOk result ((state self.old).is_honest
             → slice_get (state self.new).image sector ≡ Some buffer.new) }
-        ensures steady { OnOk result ((state self.old).is_honest → (state self.old).is_steady
-            → IsSteadyAt (state self.old).image (state self.new)) }
         ensures image { KeepsImage (state self.old) (state self.new) }
-        ensures kept { KeepsSynced (state self.old) (state self.new) }
         ensures own { read_gives self.old sector buffer.new result self.new };
 
     /// Writes a sector. Until a sync succeeds a crash may leave any bytes at all in it, also where
     /// the write failed.
     fn write(&mut self, sector: u32, bytes: &[u8; 512]) -> Result<(), DiskFault>
         requires { sector < (state self.old).size }
-        ensures goes_on { GoesOn (state self.old) (state self.new) }
-        ensures cause { HasCause result (state self.old) (state self.new) }
-        ensures counted { OnErr result ((state self.new).failures ≡ (state self.old).failures + 1) }
-        ensures told { FailsAsToldOrShort result (state self.old) (state self.new) }
-        ensures writes { (state self.new).writes ≡ (state self.old).writes + 1 }
-        ensures recorded { Records result (Write sector bytes.now) (state self.old).trace
-            (state self.new).trace }
-        ensures settles { OnOk result ((state self.old).is_honest
-            → Settles sector bytes.now (state self.old) (state self.new)) }
+        ensures access { IsAccess result (Write sector bytes.now) (state self.old)
+            (state self.new) }
         ensures touched { (state self.old).is_honest
             → Touches sector (state self.old) (state self.new) }
-        ensures steady { OnOk result ((state self.old).is_honest → (state self.old).is_steady
-            → IsSteadyAt (slice_set (state self.old).image sector bytes.now) (state self.new)) }
-        ensures image { OnOk result
-            (SetsSector sector bytes.now (state self.old) (state self.new)) }
-        ensures image_err { OnErr result (KeepsImage (state self.old) (state self.new)) }
         ensures kept { KeepsSynced (state self.old) (state self.new) }
+        ensures stores { OnOk result
+            (StoresSector sector bytes.now (state self.old) (state self.new)) }
+        ensures image_err { OnErr result (KeepsImage (state self.old) (state self.new)) }
         ensures own { write_gives self.old sector bytes.now result self.new };
 
     /// Once it succeeds, a crash leaves what is read.
     fn sync(&mut self) -> Result<(), DiskFault>
-        ensures goes_on { GoesOn (state self.old) (state self.new) }
-        ensures cause { HasCause result (state self.old) (state self.new) }
-        ensures counted { OnErr result ((state self.new).failures ≡ (state self.old).failures + 1) }
-        ensures told { FailsAsToldOrShort result (state self.old) (state self.new) }
-        ensures writes { (state self.new).writes ≡ (state self.old).writes }
-        ensures recorded { Records result Sync (state self.old).trace (state self.new).trace }
-        ensures settled { OnOk result ((state self.old).is_honest
-            → ReadsAsWritten (state self.old) (state self.new)) }
-        ensures touched { (state self.old).is_honest
-            → TouchesNothing (state self.old) (state self.new) }
-        ensures synced { OnOk result ((state self.old).is_honest → IsSynced (state self.new)) }
-        ensures steady { OnOk result ((state self.old).is_honest → (state self.old).is_steady
-            → IsSteadyAt (state self.old).image (state self.new)) }
-        ensures loose { OnErr result ((state self.old).is_honest
-            → StaysLoose (state self.old) (state self.new)) }
+        ensures access { IsAccess result Sync (state self.old) (state self.new) }
+        ensures saves { OnOk result ((state self.old).is_honest
+            → SavesAll (state self.old) (state self.new)) }
+        ensures leaves { OnErr result (LeavesAsBefore (state self.old) (state self.new)) }
         ensures image { KeepsImage (state self.old) (state self.new) }
-        ensures saved { OnOk result ((state self.old).is_honest
-            → (state self.new).synced ≡ (state self.new).image) }
-        ensures kept { OnErr result (KeepsSynced (state self.old) (state self.new)) }
         ensures own { sync_gives self.old result self.new };
 
     /// The image has as many sectors as the device says.

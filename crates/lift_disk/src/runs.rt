@@ -1,11 +1,7 @@
 //! Devices that take several neighbouring sectors in one call.
-ghost use Rattle.std.specs.Prelude.{◌≡◌, ◌≤◌, ◌<◌, ◌+◌, ℕ, OnOk, OnErr, List, length, Result, ⊤};
-ghost use Rattle.lift_disk.specs.Disk.{StaysWritten, GoesOn, HasCause, FailsAsTold};
-ghost use Rattle.lift_disk.specs.Disk.{FailsAsToldOrShort, TouchesNothing, StaysLoose, KeepsSynced};
-ghost use Rattle.lift_disk.specs.Disk.{IsSteadyAt};
-ghost use Rattle.lift_disk.specs.Runs.{Announces, GivesRun, HoldsRun, IsInRun, SettlesRun, joined};
-ghost use Rattle.lift_disk.specs.Runs.{with_run};
-ghost use Rattle.lift_disk.specs.Trace.{Records};
+ghost use Rattle.std.specs.Prelude.{◌≡◌, ◌≤◌, ◌<◌, ◌+◌, ℕ, OnOk, List, length, Result, ⊤};
+ghost use Rattle.lift_disk.specs.Disk.{IsAccess, KeepsWrites, LeavesAsBefore};
+ghost use Rattle.lift_disk.specs.Runs.{Announces, GivesRun, HoldsRun, IsInRun, StoresRun, joined};
 ghost use Rattle.lift_disk.specs.Trace.Access.{Read, Write};
 
 use crate::{Disk, DiskFault};
@@ -40,26 +36,12 @@ pub trait RunDisk: Disk {
     fn read_run(&mut self, sector: u32, count: usize, buffer: &mut Ahead) -> Result<(), DiskFault>
         requires count { count ≤ 16 }
         requires inside { sector + count ≤ (Self.state self.old).size }
-        ensures goes_on { GoesOn (Self.state self.old) (Self.state self.new) }
-        ensures cause { HasCause result (Self.state self.old) (Self.state self.new) }
-        ensures counted { OnErr result ((Self.state self.new).failures
-            ≡ (Self.state self.old).failures + 1) }
-        ensures told { FailsAsTold result (Self.state self.old) (Self.state self.new) }
-        ensures writes { (Self.state self.new).writes ≡ (Self.state self.old).writes }
-        ensures recorded { Records result (Read sector) (Self.state self.old).trace
-            (Self.state self.new).trace }
-        ensures written { OnOk result (StaysWritten (Self.state self.old) (Self.state self.new)) }
-        ensures touched { (Self.state self.old).is_honest
-            → TouchesNothing (Self.state self.old) (Self.state self.new) }
-        ensures loose { (Self.state self.old).is_honest
-            → StaysLoose (Self.state self.old) (Self.state self.new) }
+        ensures access { IsAccess result (Read sector) (Self.state self.old) (Self.state self.new) }
+        ensures leaves { LeavesAsBefore (Self.state self.old) (Self.state self.new) }
+        ensures keeps { OnOk result (KeepsWrites (Self.state self.old) (Self.state self.new)) }
         ensures gives { OnOk result ((Self.state self.old).is_honest
             → HoldsRun sector count buffer.new (Self.state self.new).image) }
         ensures given { OnOk result (GivesRun (has_given self.new) sector count buffer.new) }
-        ensures steady { OnOk result ((Self.state self.old).is_honest
-            → (Self.state self.old).is_steady
-            → IsSteadyAt (Self.state self.old).image (Self.state self.new)) }
-        ensures kept { KeepsSynced (Self.state self.old) (Self.state self.new) }
         ensures own { read_run_gives self.old sector count buffer.new result self.new };
 
     /// Writes these sectors from that one on, each of which was announced. Until a sync succeeds a
@@ -68,23 +50,9 @@ pub trait RunDisk: Disk {
         requires inside { sector + length run.now ≤ (Self.state self.old).size }
         requires announced { (Self.state self.old).is_honest → (i : ℕ)
             → ¬ (Self.state self.old).is_loose i → ¬ IsInRun sector (length run.now) i }
-        ensures goes_on { GoesOn (Self.state self.old) (Self.state self.new) }
-        ensures cause { HasCause result (Self.state self.old) (Self.state self.new) }
-        ensures counted { OnErr result ((Self.state self.new).failures
-            ≡ (Self.state self.old).failures + 1) }
-        ensures told { FailsAsToldOrShort result (Self.state self.old) (Self.state self.new) }
-        ensures writes { (Self.state self.new).writes ≡ (Self.state self.old).writes + 1 }
-        ensures recorded { Records result (Write sector (joined run.now))
-            (Self.state self.old).trace (Self.state self.new).trace }
-        ensures settles { OnOk result ((Self.state self.old).is_honest
-            → SettlesRun sector run.now (Self.state self.old) (Self.state self.new)) }
-        ensures touched { (Self.state self.old).is_honest
-            → TouchesNothing (Self.state self.old) (Self.state self.new) }
-        ensures loose { (Self.state self.old).is_honest
-            → StaysLoose (Self.state self.old) (Self.state self.new) }
-        ensures steady { OnOk result ((Self.state self.old).is_honest
-            → (Self.state self.old).is_steady
-            → IsSteadyAt (with_run sector run.now (Self.state self.old).image)
-            (Self.state self.new)) }
-        ensures kept { KeepsSynced (Self.state self.old) (Self.state self.new) };
+        ensures access { IsAccess result (Write sector (joined run.now)) (Self.state self.old)
+            (Self.state self.new) }
+        ensures leaves { LeavesAsBefore (Self.state self.old) (Self.state self.new) }
+        ensures stores { OnOk result
+            (StoresRun sector run.now (Self.state self.old) (Self.state self.new)) };
 }

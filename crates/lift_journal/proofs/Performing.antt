@@ -1,40 +1,40 @@
 -- The calls of a step, run after run.
-use Rattle.std.proofs.Common.{◌≡◌, true, false, ◌≤◌, ◌+◌, ◌++◌, [], ◌∷◌, ◌∙◌, ℕ, List, Result, Ok, Err, arith, ap, subst, length, take, length-take}
+use Rattle.std.proofs.Common.{◌≡◌, true, false, ◌≤◌, ◌+◌, ◌++◌, [], ◌∷◌, ◌∙◌, ℕ, List, Result, Ok, Err, OnOk, arith, ap, subst, length, take, length-take}
 use Rattle.std.specs.Prelude.{IsErrAnd}
 use Rattle.std.specs.Result.{is_err}
 use Rattle.std.proofs.lemmas.Result.{err_from_is_err_and}
-use Rattle.lift_disk.specs.Disk.{DiskState, Image, GoesOn, HasCause, RunsOn, FailsAsToldOrShort}
-use Rattle.lift_disk.specs.Trace.{Access, Records}
-use Rattle.lift_disk.specs.lemmas.Moments.{runs_call, runs_none, runs_then}
+use Rattle.lift_disk.specs.Disk.{DiskState, Image, IsAccess, writes_in}
+use Rattle.lift_disk.specs.Trace.{Access}
+use Rattle.lift_disk.specs.lemmas.Moments.{cause_of, runs_call, runs_none, runs_then}
 use Rattle.lift_journal.specs.declared.fault.JournalFault.{JournalFault}
 use Rattle.lift_journal.specs.declared.fault.JournalFault.TheVariants.{Disk}
-use Rattle.lift_journal.specs.Calls.{Performs, Follows, append_calls}
+use Rattle.lift_journal.specs.Calls.{Performs, append_calls}
 use Rattle.lift_journal.specs.Layout.{bodies}
 use Rattle.lift_journal.specs.Calls.{CallsDevice}
 use Rattle.lift_journal.specs.Journal.{JournalView}
-use Rattle.lift_journal.specs.Steps.{Makes}
-use Rattle.lift_journal.specs.Told.{FailsBy, StopsAsTold}
-use Rattle.lift_journal.specs.lemmas.Telling.{call_stops, stops_then, err_stops}
+use Rattle.lift_journal.specs.Told.{FailsBy}
+use Rattle.lift_journal.specs.lemmas.Telling.{access_stops, stops_then, err_stops}
 use Rattle.lift_journal.proofs.Seeing.{bodies_few}
 use Rattle.lift_journal.proofs.Following.{one_follows, follows_then, front_more, err_follows}
 
--- a write or a sync
-pub performs_call : {T E : Type 0} (r : Result T E) (call : Access) (old new : DiskState) (writes : ℕ) → GoesOn old new → HasCause r old new
-    → FailsAsToldOrShort r old new → new.writes ≡ old.writes + writes → Records r call old.trace new.trace → Performs r (call ∷ []) 1 writes old new
-performs_call (Ok x) call old new writes goes_on cause told wrote recorded = record {
-  runs = runs_call old new goes_on;
-  cause = cause;
-  told = call_stops (Ok x) old new goes_on told;
-  made = record { calls = goes_on.calls; writes = wrote; most_calls = omega (arith, goes_on.calls); most_writes = omega (arith, wrote) };
-  follows = one_follows (Ok x) call old new recorded;
+-- one call
+pub performs_call : {T E : Type 0} (r : Result T E) (call : Access) (old new : DiskState) → IsAccess r call old new → Performs r (call ∷ []) 1 (writes_in call) old new
+performs_call r call old new access = record {
+  runs = runs_call old new access.goes_on;
+  cause = cause_of r old new access.fault;
+  told = access_stops r call old new access;
+  made = record {
+    calls = always r access.goes_on.calls;
+    writes = always r access.writes;
+    most_calls = omega (arith, access.goes_on.calls);
+    most_writes = omega (arith, access.writes);
+  };
+  follows = one_follows r call old new access.recorded;
 }
-performs_call (Err e) call old new writes goes_on cause told wrote recorded = record {
-  runs = runs_call old new goes_on;
-  cause = cause;
-  told = call_stops (Err e) old new goes_on told;
-  made = record { calls = tt; writes = tt; most_calls = omega (arith, goes_on.calls); most_writes = omega (arith, wrote) };
-  follows = one_follows (Err e) call old new recorded;
-}
+  where
+    always : {T E P : Type 0} (r : Result T E) → P → OnOk r P
+    always (Ok x) p = p
+    always (Err e) p = tt
 
 -- one step after another
 pub performs_then : {T E U F : Type 0} {x : T} (r : Result U F) (old mid new : DiskState) (first second : List Access) (n m w v : ℕ)

@@ -1,7 +1,8 @@
 -- How a run of device calls goes on.
 use Rattle.std.proofs.Common.{◌≡◌, ◌↔◌, ◌<◌, inl, inr, ⊎_elim, ℕ, length, slice_get, refl, sym, ◌∙◌}
-use Rattle.std.proofs.Common.{subst, ap, arith}
+use Rattle.std.proofs.Common.{subst, ap, arith, Result, Ok, Err, OnOk, OnErr}
 use Rattle.lift_disk.specs.Disk.{DiskState, Image, ChangesWithin, MayLeave, GoesOn, RunsOn}
+use Rattle.lift_disk.specs.Disk.{CountsFault, HasCause, LeavesAsBefore, SavesAll}
 use Rattle.lift_disk.specs.Disk.{IsFilled, IsUnchanged, Touches, TouchesNothing, LeavesOnly}
 use Rattle.lift_disk.specs.Disk.{LeavesNow, LooseWithin, TouchesOnly, LeavesNoOther}
 
@@ -54,6 +55,19 @@ runs_call old new goes_on = record {
   inert = goes_on.inert;
   told = goes_on.told;
 }
+
+-- a fault is answered exactly where one failure more is counted
+pub cause_of : {T E : Type 0} (r : Result T E) (old new : DiskState) → CountsFault r old new
+    → HasCause r old new
+cause_of (Ok x) old new fault = record { ok = fault.ok; err = tt }
+cause_of (Err e) old new fault = record { ok = tt; err = omega (arith, fault.err) }
+
+-- a sync touches nothing, also a failed one
+pub sync_touches : {T E : Type 0} (r : Result T E) (old new : DiskState)
+    → OnOk r (old.is_honest → SavesAll old new) → OnErr r (LeavesAsBefore old new) → old.is_honest
+    → TouchesNothing old new
+sync_touches (Ok x) old new saves leaves honest = (saves honest).touched
+sync_touches (Err e) old new saves leaves honest = leaves.touched honest
 
 -- one run after another
 pub runs_then : (old mid new : DiskState) → RunsOn old mid → RunsOn mid new → RunsOn old new

@@ -3,8 +3,8 @@ use Rattle.std.proofs.Common.{◌≡◌, inl, inr, ⊎_elim, refl, sym, ◌∙�
 use Rattle.std.proofs.Common.{OnErr}
 use Rattle.std.specs.Prelude.{IfErr, true, false}
 use Rattle.std.specs.Result.{is_err}
-use Rattle.lift_disk.specs.Disk.{DiskState, HasCause, IsSynced, KeepsImage, KeepsSynced, RunsOn}
-use Rattle.lift_disk.specs.Disk.{LeavesNoOther}
+use Rattle.lift_disk.specs.Disk.{DiskState, HasCause, IsSynced, KeepsImage, LeavesAsBefore, RunsOn}
+use Rattle.lift_disk.specs.Disk.{LeavesNoOther, SavesAll}
 use Rattle.lift_disk.specs.lemmas.Moments.{runs_none, runs_then, touches_none, touches_nothing_then}
 use Rattle.lift_journal.specs.declared.fault.JournalFault.{JournalFault}
 use Rattle.lift_journal.specs.declared.fault.JournalFault.TheVariants.{Disk, NotFormatted, Damaged}
@@ -30,10 +30,10 @@ saves_then old mid new runs image first second honest inert =
 
 -- a sync, also a failed one
 pub saves_sync : {T E : Type 0} (r : Result T E) (old new : DiskState)
-    → OnOk r (old.is_honest → new.synced ≡ new.image) → OnErr r (KeepsSynced old new)
+    → OnOk r (old.is_honest → SavesAll old new) → OnErr r (LeavesAsBefore old new)
     → SavesAsRead old new
-saves_sync (Ok x) old new saved kept honest inert = inr (saved honest)
-saves_sync (Err e) old new saved kept honest inert = inl (kept honest)
+saves_sync (Ok x) old new saves leaves honest inert = inr (saves honest).saved
+saves_sync (Err e) old new saves leaves honest inert = inl (leaves.kept honest)
 
 pub reads_none : (disk : DiskState) → LeavesNoOther disk → ReadsOnly disk disk
 reads_none disk only_now = record {

@@ -5,6 +5,9 @@ use Rattle.std.specs.Prelude.{IsErrAnd}
 use Rattle.std.proofs.lemmas.Result.{err_from_is_err_and}
 use Rattle.std.proofs.lemmas.Bool.{cases_lt}
 use Rattle.lift_disk.specs.Disk.{DiskState, GoesOn, RunsOn, FailsAsTold, FailsAsToldOrShort}
+use Rattle.lift_disk.specs.Disk.{IsAccess}
+use Rattle.lift_disk.specs.Trace.{Access}
+use Rattle.lift_disk.specs.Trace.Access.{Read, Write, Sync}
 use Rattle.lift_journal.specs.declared.fault.JournalFault.{JournalFault}
 use Rattle.lift_journal.specs.declared.fault.JournalFault.TheVariants.{Disk, NotFormatted, Damaged}
 use Rattle.lift_journal.specs.declared.fault.JournalFault.TheVariants.{Full, Broken}
@@ -79,7 +82,7 @@ module _ (old mid new : DiskState) (runs : RunsOn old mid) (first : NoneFails ol
   fault_then Broken second = passes_then second
 
 -- a write or a sync
-pub call_stops : {T E : Type 0} (r : Result T E) (old new : DiskState) → GoesOn old new
+call_stops : {T E : Type 0} (r : Result T E) (old new : DiskState) → GoesOn old new
     → FailsAsToldOrShort r old new → StopsAsTold r old new
 call_stops (Ok x) old new goes_on told =
     record { ok = one_passes old new goes_on told.ok told.same; err = tt }
@@ -87,7 +90,7 @@ call_stops (Err e) old new goes_on told =
     record { ok = tt; err = one_fails old new goes_on told.err told.short }
 
 -- a read
-pub read_stops : {T E : Type 0} (r : Result T E) (old new : DiskState) → GoesOn old new
+read_stops : {T E : Type 0} (r : Result T E) (old new : DiskState) → GoesOn old new
     → FailsAsTold r old new → StopsAsTold r old new
 read_stops (Ok x) old new goes_on told =
     record { ok = one_passes old new goes_on told.ok told.short; err = tt }
@@ -97,6 +100,14 @@ read_stops (Err e) old new goes_on told =
       err = one_fails old new goes_on (λ inert.
           inl (told.err inert, told.short)) (λ was. told.short ∙ was);
     }
+
+-- one call
+pub access_stops : {T E : Type 0} (r : Result T E) (call : Access) (old new : DiskState)
+    → IsAccess r call old new → StopsAsTold r old new
+access_stops r (Read sector) old new access = read_stops r old new access.goes_on access.told
+access_stops r (Write sector bytes) old new access =
+    call_stops r old new access.goes_on access.told
+access_stops r Sync old new access = call_stops r old new access.goes_on access.told
 
 -- a call that failed, whose fault is answered
 pub err_stops : {T E : Type 0} (Q : E → Type 0) (r : Result T E) (old new : DiskState)

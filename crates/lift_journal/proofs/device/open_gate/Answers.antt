@@ -1,8 +1,8 @@
-use Rattle.std.proofs.Common.{ℕ, List, ◌+◌, [], ◌∷◌, inl, inr, refl, ap, ◌∙◌, arith, slice_set, Result, OnOk, Ok, Err, subst}
+use Rattle.std.proofs.Common.{ℕ, List, ◌+◌, [], ◌∷◌, inl, inr, refl, ap, ◌∙◌, arith, slice_set, subst}
 use Rattle.std.proofs.lemmas.Result.{on_ok_weaker}
-use Rattle.lift_disk.specs.lemmas.Moments.{touches_none, touches_then_write, touches_then_rest}
-use Rattle.lift_journal.specs.Steps.{IsInRange, marked}
-use Rattle.lift_journal.specs.lemmas.Looking.{err_any, err_weaker, both_on_err}
+use Rattle.lift_disk.specs.lemmas.Moments.{sync_touches, touches_none, touches_then_write, touches_then_rest}
+use Rattle.lift_journal.specs.Steps.{IsInRange}
+use Rattle.lift_journal.specs.lemmas.Looking.{err_any, err_weaker}
 use Rattle.lift_disk.specs.Trace.Access.{Write, Sync}
 use Rattle.lift_journal.specs.Calls.{Performs, puts}
 use Rattle.lift_journal.proofs.Performing.{performs_call, performs_then, err_performs}
@@ -14,26 +14,22 @@ returns-clause-touched g c loose =
     let mid = g.D.Disk.state c.write.new.self in
     let changed = IsInRange c.args.gate (c.args.gate + 1) in
     let written = touches_then_write changed old old mid (touches_none changed old loose (g.met.D.Disk.only_now c.args.disk.now))
-    (g.met.D.Disk.only_now c.args.disk.now) c.write.ensures.goes_on c.args.gate c.write.ensures.touched (omega arith, omega arith) in
-    touches_then_rest changed old mid (g.D.Disk.state c.sync.new.self) written (g.met.D.Disk.only_now c.write.new.self) c.sync.ensures.goes_on c.sync.ensures.touched
+    (g.met.D.Disk.only_now c.args.disk.now) c.write.ensures.access.goes_on c.args.gate c.write.ensures.touched (omega arith, omega arith) in
+    touches_then_rest changed old mid (g.D.Disk.state c.sync.new.self) written (g.met.D.Disk.only_now c.write.new.self) c.sync.ensures.access.goes_on (sync_touches c.sync.result mid (g.D.Disk.state c.sync.new.self) c.sync.ensures.saves c.sync.ensures.leaves)
 
 pub returns-clause-opened : goal.returns-clause-opened
 returns-clause-opened g c =
     let old = g.D.Disk.state c.args.disk.now in
-    on_ok_weaker c.sync.result (λ sync honest steady.
-    let written = c.in_ok-write.ensures.steady honest steady in
-    let honest_then = c.write.ensures.goes_on.honest.1 honest in
-    let after = sync.0 honest_then written.steady in
-    record { synced = sync.1 honest_then; same = after.same ∙ written.same ∙ ap (λ s. slice_set old.image c.args.gate s) c.mark.ensures }) (both_on_ok c.sync.result _ _ c.sync.ensures.steady c.sync.ensures.synced)
-  where
-    both_on_ok : {T E : Type 0} (r : Result T E) (P Q : Type 0) → OnOk r P → OnOk r Q → OnOk r (P × Q)
-    both_on_ok (Ok x) P Q p q = (p, q)
-    both_on_ok (Err e) P Q p q = tt
+    on_ok_weaker c.sync.result (λ saves honest steady.
+    let written = c.in_ok-write.ensures.stores.steady honest steady in
+    let honest_then = c.write.ensures.access.goes_on.honest.1 honest in
+    let safe = saves honest_then in
+    record { synced = safe.synced; same = (safe.steady written.steady).same ∙ written.same ∙ ap (λ s. slice_set old.image c.args.gate s) c.mark.ensures }) c.sync.ensures.saves
 
 pub returns-in_err-write-clause-misses : goal.returns-in_err-write-clause-misses
 returns-in_err-write-clause-misses g c =
     err_any c.from_residual.result _ (λ honest inert. record {
-      made = inl (c.write.ensures.goes_on.calls, c.in_err-write.ensures.image_err honest inert);
+      made = inl (c.write.ensures.access.goes_on.calls, c.in_err-write.ensures.image_err honest inert);
       synced = c.write.ensures.kept honest;
       loose = ((c.write.ensures.touched honest).loose c.args.gate).1 (inr refl);
     })
@@ -41,26 +37,26 @@ returns-in_err-write-clause-misses g c =
 pub returns-clause-misses : goal.returns-clause-misses
 returns-clause-misses g c =
     let old = g.D.Disk.state c.args.disk.now in
-    err_weaker c.sync.result _ _ (λ sync honest inert.
-    let honest_then = c.write.ensures.goes_on.honest.1 honest in
-    let inert_then = c.write.ensures.goes_on.inert.1 inert in
+    err_weaker c.sync.result _ _ (λ leaves honest inert.
+    let honest_then = c.write.ensures.access.goes_on.honest.1 honest in
+    let inert_then = c.write.ensures.access.goes_on.inert.1 inert in
     record {
       made = inr (
-        omega (arith, c.write.ensures.goes_on.calls, c.sync.ensures.goes_on.calls),
-        c.sync.ensures.image honest_then inert_then ∙ c.in_ok-write.ensures.image honest inert ∙ ap (λ s. slice_set old.image c.args.gate s) c.mark.ensures,
+        omega (arith, c.write.ensures.access.goes_on.calls, c.sync.ensures.access.goes_on.calls),
+        c.sync.ensures.image honest_then inert_then ∙ c.in_ok-write.ensures.stores.image honest inert ∙ ap (λ s. slice_set old.image c.args.gate s) c.mark.ensures,
       );
-      synced = sync.0 honest_then ∙ c.write.ensures.kept honest;
-      loose = sync.1 honest_then c.args.gate (((c.write.ensures.touched honest).loose c.args.gate).1 (inr refl));
-    }) (both_on_err c.sync.result _ _ c.sync.ensures.kept c.sync.ensures.loose)
+      synced = leaves.kept honest_then ∙ c.write.ensures.kept honest;
+      loose = leaves.loose honest_then c.args.gate (((c.write.ensures.touched honest).loose c.args.gate).1 (inr refl));
+    }) c.sync.ensures.leaves
 
 pub returns-in_err-write-clause-performs : goal.returns-in_err-write-clause-performs
 returns-in_err-write-clause-performs g c =
     let old = g.D.Disk.state c.args.disk.now in
     let new = g.D.Disk.state c.write.new.self in
-    err_performs _ c.from_residual.result old new (Write c.args.gate marked ∷ []) (Sync ∷ []) 1 2 1 1 c.from_residual.ensures.1
-    (performs_call _ (Write c.args.gate marked) old new 1 c.write.ensures.goes_on c.in_err-write.ensures.cause c.in_err-write.ensures.told c.write.ensures.writes
-    (record { ok = tt; err = c.in_err-write.ensures.recorded.err }))
-    (omega arith) (omega arith)
+    subst (λ (s : List ℕ). Performs c.from_residual.result (puts c.args.gate s) 2 1 old new) c.mark.ensures
+    (err_performs _ c.from_residual.result old new (Write c.args.gate c.mark.result ∷ []) (Sync ∷ []) 1 2 1 1 c.from_residual.ensures.1
+    (performs_call _ (Write c.args.gate c.mark.result) old new c.in_err-write.ensures.access)
+    (omega arith) (omega arith))
 
 pub returns-clause-performs : goal.returns-clause-performs
 returns-clause-performs g c =
@@ -69,5 +65,5 @@ returns-clause-performs g c =
     let new = g.D.Disk.state c.sync.new.self in
     subst (λ (s : List ℕ). Performs c.sync.result (puts c.args.gate s) 2 1 old new) c.mark.ensures
     (performs_then c.sync.result old mid new (Write c.args.gate c.mark.result ∷ []) (Sync ∷ []) 1 1 1 0
-    (performs_call _ (Write c.args.gate c.mark.result) old mid 1 c.write.ensures.goes_on c.in_ok-write.ensures.cause c.in_ok-write.ensures.told c.write.ensures.writes c.in_ok-write.ensures.recorded)
-    (performs_call c.sync.result Sync mid new 0 c.sync.ensures.goes_on c.sync.ensures.cause c.sync.ensures.told (omega (arith, c.sync.ensures.writes)) c.sync.ensures.recorded))
+    (performs_call _ (Write c.args.gate c.mark.result) old mid c.in_ok-write.ensures.access)
+    (performs_call c.sync.result Sync mid new c.sync.ensures.access))

@@ -1,7 +1,7 @@
-use Rattle.std.proofs.Common.{◌+◌, ◌++◌, [], ◌∷◌, length, ap, ◌∙◌, arith, slice_set, Result, OnOk, Ok, Err, List, subst}
+use Rattle.std.proofs.Common.{◌+◌, ◌++◌, [], ◌∷◌, length, ap, ◌∙◌, arith, slice_set, List, subst}
 use Rattle.std.proofs.lemmas.List.{append_assoc}
 use Rattle.std.proofs.lemmas.Result.{on_ok_weaker}
-use Rattle.lift_disk.specs.lemmas.Moments.{touches_then_write, touches_then_rest}
+use Rattle.lift_disk.specs.lemmas.Moments.{sync_touches, touches_then_write, touches_then_rest}
 use Rattle.lift_journal.specs.Steps.{IsInRange, unmarked}
 use Rattle.lift_disk.specs.Trace.{Access}
 use Rattle.lift_disk.specs.Trace.Access.{Write, Sync}
@@ -18,7 +18,7 @@ returns-in_err-write-clause-touched g c loose =
     let changed = IsInRange (c.args.gate + 1) (c.args.gate + length c.args.body.now + 2) in
     touches_then_write changed (g.D.Disk.state c.args.disk.now) (g.D.Disk.state c.write_sectors.new.disk) (g.D.Disk.state c.write.new.self)
     (c.write_sectors.ensures.touched (c.args.gate + 1) (c.args.gate + length c.args.body.now + 2) (omega arith) (omega arith) loose)
-    (g.met.D.Disk.only_now c.write_sectors.new.disk) c.write.ensures.goes_on (c.args.gate + 1 + length c.args.body.now) c.write.ensures.touched (omega arith, omega arith)
+    (g.met.D.Disk.only_now c.write_sectors.new.disk) c.write.ensures.access.goes_on (c.args.gate + 1 + length c.args.body.now) c.write.ensures.touched (omega arith, omega arith)
 
 pub returns-clause-touched : goal.returns-clause-touched
 returns-clause-touched g c loose =
@@ -26,22 +26,18 @@ returns-clause-touched g c loose =
     let mid = g.D.Disk.state c.write.new.self in
     let written = touches_then_write changed (g.D.Disk.state c.args.disk.now) (g.D.Disk.state c.write_sectors.new.disk) mid
     (c.write_sectors.ensures.touched (c.args.gate + 1) (c.args.gate + length c.args.body.now + 2) (omega arith) (omega arith) loose)
-    (g.met.D.Disk.only_now c.write_sectors.new.disk) c.write.ensures.goes_on (c.args.gate + 1 + length c.args.body.now) c.write.ensures.touched (omega arith, omega arith) in
-    touches_then_rest changed (g.D.Disk.state c.args.disk.now) mid (g.D.Disk.state c.sync.new.self) written (g.met.D.Disk.only_now c.write.new.self) c.sync.ensures.goes_on c.sync.ensures.touched
+    (g.met.D.Disk.only_now c.write_sectors.new.disk) c.write.ensures.access.goes_on (c.args.gate + 1 + length c.args.body.now) c.write.ensures.touched (omega arith, omega arith) in
+    touches_then_rest changed (g.D.Disk.state c.args.disk.now) mid (g.D.Disk.state c.sync.new.self) written (g.met.D.Disk.only_now c.write.new.self) c.sync.ensures.access.goes_on (sync_touches c.sync.result mid (g.D.Disk.state c.sync.new.self) c.sync.ensures.saves c.sync.ensures.leaves)
 
 pub returns-clause-stored : goal.returns-clause-stored
 returns-clause-stored g c =
-    on_ok_weaker c.sync.result (λ sync honest steady.
+    on_ok_weaker c.sync.result (λ saves honest steady.
     let body = c.in_ok-write_sectors.ensures.written honest steady in
     let honest_body = c.write_sectors.ensures.performs.runs.honest.1 honest in
-    let next = c.in_ok-write.ensures.steady honest_body body.steady in
-    let honest_then = c.write.ensures.goes_on.honest.1 honest_body in
-    let after = sync.0 honest_then next.steady in
-    record { synced = sync.1 honest_then; same = after.same ∙ next.same ∙ ap (λ l. slice_set l (c.args.gate + 1 + length c.args.body.now) unmarked) body.same }) (both_on_ok c.sync.result _ _ c.sync.ensures.steady c.sync.ensures.synced)
-  where
-    both_on_ok : {T E : Type 0} (r : Result T E) (P Q : Type 0) → OnOk r P → OnOk r Q → OnOk r (P × Q)
-    both_on_ok (Ok x) P Q p q = (p, q)
-    both_on_ok (Err e) P Q p q = tt
+    let next = c.in_ok-write.ensures.stores.steady honest_body body.steady in
+    let honest_then = c.write.ensures.access.goes_on.honest.1 honest_body in
+    let safe = saves honest_then in
+    record { synced = safe.synced; same = (safe.steady next.steady).same ∙ next.same ∙ ap (λ l. slice_set l (c.args.gate + 1 + length c.args.body.now) unmarked) body.same }) c.sync.ensures.saves
 
 pub returns-in_err-write_sectors-clause-performs : goal.returns-in_err-write_sectors-clause-performs
 returns-in_err-write_sectors-clause-performs g c =
@@ -62,7 +58,7 @@ returns-in_err-write-clause-performs g c =
     subst (λ (calls : List Access). Performs c.from_residual-in_err-write.result calls (n + 2) (n + 1) old new) (append_assoc body (closed ∷ []) (Sync ∷ []))
     (err_performs _ c.from_residual-in_err-write.result old new (body ++ closed ∷ []) (Sync ∷ []) (n + 1) (n + 2) (n + 1) (n + 1) c.from_residual-in_err-write.ensures.1
     (performs_then _ old mid new body (closed ∷ []) n 1 n 1 c.in_ok-write_sectors.ensures.performs
-    (performs_call _ closed mid new 1 c.write.ensures.goes_on c.in_err-write.ensures.cause c.in_err-write.ensures.told c.write.ensures.writes c.in_err-write.ensures.recorded))
+    (performs_call _ closed mid new c.in_err-write.ensures.access))
     (omega arith) (omega arith))
 
 pub returns-clause-performs : goal.returns-clause-performs
@@ -76,5 +72,5 @@ returns-clause-performs g c =
     let closed = Write (c.args.gate + 1 + n) unmarked in
     performs_then c.sync.result old body_done new body (closed ∷ Sync ∷ []) n 2 n 1 c.in_ok-write_sectors.ensures.performs
     (performs_then c.sync.result body_done mid new (closed ∷ []) (Sync ∷ []) 1 1 1 0
-    (performs_call _ closed body_done mid 1 c.write.ensures.goes_on c.in_ok-write.ensures.cause c.in_ok-write.ensures.told c.write.ensures.writes c.in_ok-write.ensures.recorded)
-    (performs_call c.sync.result Sync mid new 0 c.sync.ensures.goes_on c.sync.ensures.cause c.sync.ensures.told (omega (arith, c.sync.ensures.writes)) c.sync.ensures.recorded))
+    (performs_call _ closed body_done mid c.in_ok-write.ensures.access)
+    (performs_call c.sync.result Sync mid new c.sync.ensures.access))

@@ -8,7 +8,7 @@ pub returns-clause-rests : goal.returns-clause-rests
 returns-clause-rests g c =
     let d = c.args.self.now in
     rests_of (g.R.Disk.state d.device) (g.R.Disk.state c.write_run-outcome.new.self) d.from d.from d.pending.items c.clear.new.self.items
-    c.write_run-outcome.ensures.goes_on c.write_run-outcome.ensures.touched c.write_run-outcome.ensures.loose c.write_run-outcome.ensures.kept
+    c.write_run-outcome.ensures.access.goes_on c.write_run-outcome.ensures.leaves
     d.announced (none_waits (g.R.Disk.state c.write_run-outcome.new.self) d.from c.clear.new.self.items c.clear.ensures)
 
 pub returns-clause-made : goal.returns-clause-made
@@ -16,4 +16,4 @@ returns-clause-made g c =
     let d = c.args.self.now in
     let w = c.write_run-outcome in
     run_call w.result d.from d.pending.items (g.R.Disk.state d.device) (g.R.Disk.state w.new.self) (λ none. let some = eqb-false (length d.pending.items) 0 (sym c.is_empty.ensures ∙ c.if-is_empty.false) in some (ap (λ (run : List (List ℕ)). length run) none))
-    w.ensures.goes_on.calls (rw (← c.as_slice.ensures.value) w.ensures.recorded)
+    w.ensures.access.goes_on.calls (rw (← c.as_slice.ensures.value) w.ensures.access.recorded)

@@ -9,15 +9,15 @@ pub returns-in_err-read_run-clause-rests : goal.returns-in_err-read_run-clause-r
 returns-in_err-read_run-clause-rests g c =
     let d = c.args.self.now in
     rests_of (g.R.Disk.state d.device) (g.R.Disk.state c.read_run.new.self) d.from d.from d.pending.items d.pending.items
-    c.read_run.ensures.goes_on c.read_run.ensures.touched c.read_run.ensures.loose c.read_run.ensures.kept d.announced
-    (λ honest i not. d.announced (c.read_run.ensures.goes_on.honest.0 honest) i (λ was. not (c.read_run.ensures.loose (c.read_run.ensures.goes_on.honest.0 honest) i was)))
+    c.read_run.ensures.access.goes_on c.read_run.ensures.leaves d.announced
+    (λ honest i not. d.announced (c.read_run.ensures.access.goes_on.honest.0 honest) i (λ was. not (c.read_run.ensures.leaves.loose (c.read_run.ensures.access.goes_on.honest.0 honest) i was)))
 
 pub returns-clause-rests : goal.returns-clause-rests
 returns-clause-rests g c =
     let d = c.args.self.now in
     rests_of (g.R.Disk.state d.device) (g.R.Disk.state c.read_run.new.self) d.from d.from d.pending.items d.pending.items
-    c.read_run.ensures.goes_on c.read_run.ensures.touched c.read_run.ensures.loose c.read_run.ensures.kept d.announced
-    (λ honest i not. d.announced (c.read_run.ensures.goes_on.honest.0 honest) i (λ was. not (c.read_run.ensures.loose (c.read_run.ensures.goes_on.honest.0 honest) i was)))
+    c.read_run.ensures.access.goes_on c.read_run.ensures.leaves d.announced
+    (λ honest i not. d.announced (c.read_run.ensures.access.goes_on.honest.0 honest) i (λ was. not (c.read_run.ensures.leaves.loose (c.read_run.ensures.access.goes_on.honest.0 honest) i was)))
 
 pub returns-in_err-read_run-clause-asked : goal.returns-in_err-read_run-clause-asked
 returns-in_err-read_run-clause-asked g c =
@@ -28,5 +28,5 @@ returns-in_err-read_run-clause-asked g c =
     rw fault.1 (record {
       run = r.new.buffer;
       asked = subst (λ (n : ℕ). g.R.RunDisk.read_run_gives d.device c.args.sector n r.new.buffer (Err fault.0) r.new.self) count c.in_err-read_run.ensures.own;
-      made = one_call (Err fault.0) (Read c.args.sector) (g.R.Disk.state d.device) (g.R.Disk.state r.new.self) r.ensures.goes_on.calls c.in_err-read_run.ensures.recorded;
+      made = one_call (Err fault.0) (Read c.args.sector) (g.R.Disk.state d.device) (g.R.Disk.state r.new.self) r.ensures.access.goes_on.calls c.in_err-read_run.ensures.access.recorded;
     })

@@ -1,4 +1,4 @@
-use Rattle.std.proofs.Common.{◌++◌, [], ◌∷◌, List, Bool, false, length, subst, refl, sym, ◌∙◌, ap}
+use Rattle.std.proofs.Common.{ℕ, ◌++◌, [], ◌∷◌, List, Bool, false, length, subst, refl, sym, ◌∙◌, ap, rules}
 use Rattle.std.proofs.lemmas.List.{length-replicate}
 use Rattle.lift_disk.specs.Disk.{Image, ChangesWithin}
 use Rattle.lift_disk.specs.Memory.{image_after, IsFlagged}
@@ -30,27 +30,29 @@ invariant_of-self-clause-kept c =
     let m = c.args.self.now in
     subst (λ (l : Image). ChangesWithin (IsFlagged c.clear.new.flags.items) m.image.items l) (sym (c.copy_flagged.ensures ∙ c.deref-2.ensures.value)) (changes_nothing (IsFlagged c.clear.new.flags.items) m.image.items)
 
-pub returns-clause-goes_on : goal.returns-clause-goes_on
-returns-clause-goes_on c =
-    let m = c.args.self.now in
-    sync_goes_on m.history.first m.history.calls m.image.items m.synced.items m.loose.items m.is_steady m.failures.count m.calls.count m.writes.count m.trace.calls
-    c.note_sync.new.self.first c.note_sync.new.self.calls c.copy_flagged.new.to.items c.clear.new.flags.items _ _ _
-    m.recorded c.note_sync.ensures.0
-    (c.note_sync.ensures.1 ∙ ap (λ (l : List Bool). m.history.calls ++ Sync l ∷ []) c.deref.ensures.value) c.next-self.ensures
-    (λ i. subst (λ (l : List Bool). ¬ IsFlagged l i) (sym c.clear.ensures) (none_flagged (length m.loose.items) i))
-
-pub returns-clause-touched : goal.returns-clause-touched
-returns-clause-touched c honest =
+pub returns-clause-access : goal.returns-clause-access
+returns-clause-access c =
     let m = c.args.self.now in
     record {
-      loose = λ i is. absurd (none_flagged (length m.loose.items) i (subst (λ (l : List Bool). IsFlagged l i) c.clear.ensures is));
-      within = changes_nothing (IsFlagged m.loose.items) m.image.items;
+      goes_on = sync_goes_on m.history.first m.history.calls m.image.items m.synced.items m.loose.items m.is_steady m.failures.count m.calls.count m.writes.count m.trace.calls
+          c.note_sync.new.self.first c.note_sync.new.self.calls c.copy_flagged.new.to.items c.clear.new.flags.items _ _ _
+          m.recorded c.note_sync.ensures.0
+          (c.note_sync.ensures.1 ∙ ap (λ (l : List Bool). m.history.calls ++ Sync l ∷ []) c.deref.ensures.value) c.next-self.ensures
+          (λ i. subst (λ (l : List Bool). ¬ IsFlagged l i) (sym c.clear.ensures) (none_flagged (length m.loose.items) i));
+      fault = search rules;
+      told = search rules;
+      writes = search rules;
+      recorded = search rules;
     }
 
-pub returns-clause-synced : goal.returns-clause-synced
-returns-clause-synced c honest =
+pub returns-clause-saves : goal.returns-clause-saves
+returns-clause-saves c honest =
     let m = c.args.self.now in
+    let none : (i : ℕ) → ¬ IsFlagged c.clear.new.flags.items i = λ i is. none_flagged (length m.loose.items) i (subst (λ (l : List Bool). IsFlagged l i) c.clear.ensures is) in
     record {
-      steady = refl;
-      none_loose = λ i is. none_flagged (length m.loose.items) i (subst (λ (l : List Bool). IsFlagged l i) c.clear.ensures is);
+      settled = λ i bytes was. was;
+      touched = record { loose = λ i is. absurd (none i is); within = changes_nothing (IsFlagged m.loose.items) m.image.items };
+      synced = record { steady = refl; none_loose = none };
+      steady = λ _. record { steady = refl; same = refl };
+      saved = c.copy_flagged.ensures ∙ c.deref-2.ensures.value;
     }

@@ -1,4 +1,4 @@
-use Rattle.std.proofs.Common.{◌++◌, [], ◌∷◌, List, length, slice_set, ◌∙◌, ap, inl, inr, ⊎_elim, arith}
+use Rattle.std.proofs.Common.{◌++◌, [], ◌∷◌, List, length, slice_set, ◌∙◌, ap, inl, inr, ⊎_elim, arith, rules}
 use Rattle.std.proofs.lemmas.List.{length-set}
 use Rattle.lift_disk.specs.Disk.{Image}
 use Rattle.lift_disk.specs.Memory.{image_after}
@@ -32,12 +32,18 @@ invariant_of-self-clause-kept c =
     let m = c.args.self.now in
     kept_write m.image.items m.synced.items m.loose.items c.args.sector c.args.bytes.now (omega (arith, m.sized)) m.kept
 
-pub returns-clause-goes_on : goal.returns-clause-goes_on
-returns-clause-goes_on c =
+pub returns-clause-access : goal.returns-clause-access
+returns-clause-access c =
     let m = c.args.self.now in
-    write_goes_on m.history.first m.history.calls m.image.items m.synced.items m.loose.items m.is_steady m.failures.count m.calls.count m.writes.count m.trace.calls
-    c.args.sector c.args.bytes.now c.note_write.new.self.first c.note_write.new.self.calls _ _ _
-    (omega (arith, m.sized)) c.note_write.ensures.0 c.note_write.ensures.1 c.next-self.ensures
+    record {
+      goes_on = write_goes_on m.history.first m.history.calls m.image.items m.synced.items m.loose.items m.is_steady m.failures.count m.calls.count m.writes.count m.trace.calls
+          c.args.sector c.args.bytes.now c.note_write.new.self.first c.note_write.new.self.calls _ _ _
+          (omega (arith, m.sized)) c.note_write.ensures.0 c.note_write.ensures.1 c.next-self.ensures;
+      fault = search rules;
+      told = search rules;
+      writes = search rules;
+      recorded = search rules;
+    }
 
 pub returns-clause-touched : goal.returns-clause-touched
 returns-clause-touched c honest =

@@ -1,4 +1,4 @@
-use Rattle.std.proofs.Common.{◌∙◌, length, slice_get, ap, sym, arith}
+use Rattle.std.proofs.Common.{◌∙◌, length, slice_get, ap, refl, sym, arith, rules}
 use Rattle.lift_disk.specs.Memory.{IsFlagged}
 use Rattle.lift_disk.specs.Runs.{run_length, run_outside, run_loose}
 use Rattle.lift_disk.proofs.MemoryRuns.{run_recorded, run_kept, run_goes_on, run_settles}
@@ -20,28 +20,38 @@ invariant_of-self c =
           c.args.sector c.args.run.now (c.requires.announced tt) m.kept);
     }
 
-pub returns-clause-goes_on : goal.returns-clause-goes_on
-returns-clause-goes_on c =
-    let m = c.args.self.now in
-    rw c.write_sectors.ensures (run_goes_on m.history.first m.history.calls m.image.items m.synced.items m.loose.items m.is_steady m.failures.count m.calls.count m.writes.count m.trace.calls
-    c.args.sector c.args.run.now (c.requires.announced tt) c.note_run.new.self.first c.note_run.new.self.calls c.next-self.result.count c.next-self-2.result.count c.then-self.result.calls
-    c.note_run.ensures.0 c.note_run.ensures.1 c.next-self.ensures)
-
-pub returns-clause-settles : goal.returns-clause-settles
-returns-clause-settles c honest =
+pub returns-clause-access : goal.returns-clause-access
+returns-clause-access c =
     let m = c.args.self.now in
     record {
-      here = λ i bytes late is. ap (λ l. slice_get l i) c.write_sectors.ensures ∙ run_settles m.image.items c.args.sector c.args.run.now i bytes c.requires.inside late is;
-      others = λ i other not was. ap (λ l. slice_get l i) c.write_sectors.ensures ∙ run_outside c.args.run.now c.args.sector m.image.items i not ∙ was;
+      goes_on = rw c.write_sectors.ensures (run_goes_on m.history.first m.history.calls m.image.items m.synced.items m.loose.items m.is_steady m.failures.count m.calls.count m.writes.count m.trace.calls
+          c.args.sector c.args.run.now (c.requires.announced tt) c.note_run.new.self.first c.note_run.new.self.calls c.next-self.result.count c.next-self-2.result.count c.then-self.result.calls
+          c.note_run.ensures.0 c.note_run.ensures.1 c.next-self.ensures);
+      fault = search rules;
+      told = search rules;
+      writes = search rules;
+      recorded = search rules;
     }
 
-pub returns-clause-touched : goal.returns-clause-touched
-returns-clause-touched c honest =
+pub returns-clause-leaves : goal.returns-clause-leaves
+returns-clause-leaves c =
     let m = c.args.self.now in
     record {
-      loose = λ i is. is;
-      within = rw c.write_sectors.ensures (run_loose (IsFlagged m.loose.items) c.args.run.now c.args.sector m.image.items (c.requires.announced tt));
+      touched = λ _. record {
+        loose = λ i is. is;
+        within = rw c.write_sectors.ensures (run_loose (IsFlagged m.loose.items) c.args.run.now c.args.sector m.image.items (c.requires.announced tt));
+      };
+      loose = λ _ i was. was;
+      kept = λ _. refl;
     }
 
-pub returns-clause-steady : goal.returns-clause-steady
-returns-clause-steady c honest steady = record { steady = steady; same = c.write_sectors.ensures }
+pub returns-clause-stores : goal.returns-clause-stores
+returns-clause-stores c =
+    let m = c.args.self.now in
+    record {
+      settles = λ _. record {
+        here = λ i bytes late is. ap (λ l. slice_get l i) c.write_sectors.ensures ∙ run_settles m.image.items c.args.sector c.args.run.now i bytes c.requires.inside late is;
+        others = λ i other not was. ap (λ l. slice_get l i) c.write_sectors.ensures ∙ run_outside c.args.run.now c.args.sector m.image.items i not ∙ was;
+      };
+      steady = λ _ steady. record { steady = steady; same = c.write_sectors.ensures };
+    }

@@ -15,5 +15,5 @@ invariant_of-self-2 g c =
           (synced_once d.is_steady);
       steady = λ _ honest sized.
           let honest2 = same.honest.0 honest in
-          ∣ ((ok_items c.sync.result c.is_err.ensures.value c.if-is_err.false c.sync.ensures.held.made) honest2 (λ is. d.steady is honest2 (sym same.size ∙ sized))).synced.steady ∣₁;
+          ∣ ((ok_items c.sync.result c.is_err.ensures.value c.if-is_err.false c.sync.ensures.held.made) honest2 (λ is. d.steady is honest2 (sym same.size ∙ sized))).saves.synced.steady ∣₁;
     }

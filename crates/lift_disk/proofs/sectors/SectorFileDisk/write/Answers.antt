@@ -1,4 +1,4 @@
-use Rattle.std.proofs.Common.{◌*◌, ◌++◌, [], ◌∷◌, sym, ◌∙◌, ap, arith, ◌≡◌, ◌<◌}
+use Rattle.std.proofs.Common.{◌*◌, ◌++◌, [], ◌∷◌, sym, ◌∙◌, ap, arith, ◌≡◌, ◌<◌, rules}
 use Rattle.lift_disk.specs.Trace.Access.{Write}
 use Rattle.lift_disk.specs.FileCalls.FileCall.{Write as WriteBytes}
 use Rattle.lift_disk.specs.lemmas.History.{ok_items}
@@ -26,8 +26,8 @@ invariant_of-self-2 g c = record {
       c.args.self.now.steady;
 }
 
-pub returns-then-is_err-clause-goes_on : goal.returns-then-is_err-clause-goes_on
-returns-then-is_err-clause-goes_on g c =
+pub returns-then-is_err-clause-access : goal.returns-then-is_err-clause-access
+returns-then-is_err-clause-access g c =
     let r = c.write in
     let d = c.args.self.now in
     let old = g.F.ToldFile.holds (file_of d.file) in
@@ -38,8 +38,14 @@ returns-then-is_err-clause-goes_on g c =
     let did : (honest : old.is_honest × (old.size ≡ d.sectors)) → Rests mid new =
     λ honest. (err_items r.result c.is_err.ensures.value c.if-is_err.true r.ensures.held.failed) (opens.same.honest.1 honest.0) c.args.sector c.offset_of.ensures (omega (arith, opens.same.size, inside honest))
     (announced_one old mid c.args.sector opens honest.0 (inside honest)) in
-    file_goes_on old new d.sectors d.file.failures.count r.new.self.failures.count d.calls.count c.next-self.result.count d.writes.count c.next-self-2.result.count d.trace.calls d.trace.calls
-    c.next-self.ensures (omega (arith, (err_items r.result c.is_err.ensures.value c.if-is_err.true r.ensures.traced.made.failed), c.announce.ensures.failures)) (record { size = r.ensures.held.same.size ∙ opens.same.size; honest = (λ h. opens.same.honest.0 (r.ensures.held.same.honest.0 h), λ h. r.ensures.held.same.honest.1 (opens.same.honest.1 h)) }) (λ honest sized. opened_time old new d.sectors d.file.failures.count r.new.self.failures.count d.calls.count c.next-self.result.count d.writes.count c.next-self-2.result.count d.trace.calls d.trace.calls mid c.args.sector opens honest (inside (honest, sized)) (did (honest, sized)))
+    record {
+      goes_on = file_goes_on old new d.sectors d.file.failures.count r.new.self.failures.count d.calls.count c.next-self.result.count d.writes.count c.next-self-2.result.count d.trace.calls d.trace.calls
+          c.next-self.ensures (omega (arith, (err_items r.result c.is_err.ensures.value c.if-is_err.true r.ensures.traced.made.failed), c.announce.ensures.failures)) (record { size = r.ensures.held.same.size ∙ opens.same.size; honest = (λ h. opens.same.honest.0 (r.ensures.held.same.honest.0 h), λ h. r.ensures.held.same.honest.1 (opens.same.honest.1 h)) }) (λ honest sized. opened_time old new d.sectors d.file.failures.count r.new.self.failures.count d.calls.count c.next-self.result.count d.writes.count c.next-self-2.result.count d.trace.calls d.trace.calls mid c.args.sector opens honest (inside (honest, sized)) (did (honest, sized)));
+      fault = search rules;
+      told = search rules;
+      writes = search rules;
+      recorded = search rules;
+    }
 
 pub returns-then-is_err-clause-touched : goal.returns-then-is_err-clause-touched
 returns-then-is_err-clause-touched g c honest =
@@ -69,8 +75,8 @@ returns-then-is_err-clause-kept g c honest =
     (announced_one old mid c.args.sector opens honest.0 (inside honest)) in
     (did honest).kept (opens.same.honest.1 honest.0) ∙ opens.synced
 
-pub returns-clause-goes_on : goal.returns-clause-goes_on
-returns-clause-goes_on g c =
+pub returns-clause-access : goal.returns-clause-access
+returns-clause-access g c =
     let r = c.write in
     let d = c.args.self.now in
     let old = g.F.ToldFile.holds (file_of d.file) in
@@ -81,8 +87,14 @@ returns-clause-goes_on g c =
     let did : (honest : old.is_honest × (old.size ≡ d.sectors)) → WritesRun c.args.sector (c.args.bytes.now ∷ []) mid new =
     λ honest. (ok_items r.result c.is_err.ensures.value c.if-is_err.false r.ensures.held.made) (opens.same.honest.1 honest.0) c.args.sector c.offset_of.ensures (omega (arith, opens.same.size, inside honest))
     (announced_one old mid c.args.sector opens honest.0 (inside honest)) in
-    file_goes_on old new d.sectors d.file.failures.count r.new.self.failures.count d.calls.count c.next-self.result.count d.writes.count c.next-self-2.result.count d.trace.calls c.then-self.result.calls
-    c.next-self.ensures (omega (arith, (ok_items r.result c.is_err.ensures.value c.if-is_err.false r.ensures.traced.made.unfailed), c.announce.ensures.failures)) (record { size = r.ensures.held.same.size ∙ opens.same.size; honest = (λ h. opens.same.honest.0 (r.ensures.held.same.honest.0 h), λ h. r.ensures.held.same.honest.1 (opens.same.honest.1 h)) }) (λ honest sized. opened_time old new d.sectors d.file.failures.count r.new.self.failures.count d.calls.count c.next-self.result.count d.writes.count c.next-self-2.result.count d.trace.calls c.then-self.result.calls mid c.args.sector opens honest (inside (honest, sized)) (did (honest, sized)).rests)
+    record {
+      goes_on = file_goes_on old new d.sectors d.file.failures.count r.new.self.failures.count d.calls.count c.next-self.result.count d.writes.count c.next-self-2.result.count d.trace.calls c.then-self.result.calls
+          c.next-self.ensures (omega (arith, (ok_items r.result c.is_err.ensures.value c.if-is_err.false r.ensures.traced.made.unfailed), c.announce.ensures.failures)) (record { size = r.ensures.held.same.size ∙ opens.same.size; honest = (λ h. opens.same.honest.0 (r.ensures.held.same.honest.0 h), λ h. r.ensures.held.same.honest.1 (opens.same.honest.1 h)) }) (λ honest sized. opened_time old new d.sectors d.file.failures.count r.new.self.failures.count d.calls.count c.next-self.result.count d.writes.count c.next-self-2.result.count d.trace.calls c.then-self.result.calls mid c.args.sector opens honest (inside (honest, sized)) (did (honest, sized)).rests);
+      fault = search rules;
+      told = search rules;
+      writes = search rules;
+      recorded = search rules;
+    }
 
 pub returns-clause-touched : goal.returns-clause-touched
 returns-clause-touched g c honest =
@@ -112,8 +124,8 @@ returns-clause-kept g c honest =
     (announced_one old mid c.args.sector opens honest.0 (inside honest)) in
     (did honest).rests.kept (opens.same.honest.1 honest.0) ∙ opens.synced
 
-pub returns-clause-settles : goal.returns-clause-settles
-returns-clause-settles g c honest =
+pub returns-clause-stores : goal.returns-clause-stores
+returns-clause-stores g c =
     let r = c.write in
     let d = c.args.self.now in
     let old = g.F.ToldFile.holds (file_of d.file) in
@@ -124,18 +136,8 @@ returns-clause-settles g c honest =
     let did : (honest : old.is_honest × (old.size ≡ d.sectors)) → WritesRun c.args.sector (c.args.bytes.now ∷ []) mid new =
     λ honest. (ok_items r.result c.is_err.ensures.value c.if-is_err.false r.ensures.held.made) (opens.same.honest.1 honest.0) c.args.sector c.offset_of.ensures (omega (arith, opens.same.size, inside honest))
     (announced_one old mid c.args.sector opens honest.0 (inside honest)) in
-    opened_settles old new d.sectors d.file.failures.count r.new.self.failures.count d.calls.count c.next-self.result.count d.writes.count c.next-self-2.result.count d.trace.calls c.then-self.result.calls mid c.args.sector c.args.bytes.now opens (did honest).settles
-
-pub returns-clause-steady : goal.returns-clause-steady
-returns-clause-steady g c honest steady =
-    let r = c.write in
-    let d = c.args.self.now in
-    let old = g.F.ToldFile.holds (file_of d.file) in
-    let new = g.F.ToldFile.holds (file_of r.new.self) in
-    let mid = g.F.ToldFile.holds (file_of c.announce.new.self) in
-    let opens = c.announce.ensures.opens in
-    let inside : (honest : old.is_honest × (old.size ≡ d.sectors)) → c.args.sector < old.size = λ honest. omega (arith, honest.1, c.requires) in
-    let did : (honest : old.is_honest × (old.size ≡ d.sectors)) → WritesRun c.args.sector (c.args.bytes.now ∷ []) mid new =
-    λ honest. (ok_items r.result c.is_err.ensures.value c.if-is_err.false r.ensures.held.made) (opens.same.honest.1 honest.0) c.args.sector c.offset_of.ensures (omega (arith, opens.same.size, inside honest))
-    (announced_one old mid c.args.sector opens honest.0 (inside honest)) in
-    opened_steady old new d.sectors d.file.failures.count r.new.self.failures.count d.calls.count c.next-self.result.count d.writes.count c.next-self-2.result.count d.trace.calls c.then-self.result.calls mid c.args.sector c.args.bytes.now opens (did honest).steady steady
+    record {
+      settles = λ honest. opened_settles old new d.sectors d.file.failures.count r.new.self.failures.count d.calls.count c.next-self.result.count d.writes.count c.next-self-2.result.count d.trace.calls c.then-self.result.calls mid c.args.sector c.args.bytes.now opens (did honest).settles;
+      steady = λ honest steady. opened_steady old new d.sectors d.file.failures.count r.new.self.failures.count d.calls.count c.next-self.result.count d.writes.count c.next-self-2.result.count d.trace.calls c.then-self.result.calls mid c.args.sector c.args.bytes.now opens (did honest).steady steady;
+      image = λ _ inert. absurd inert;
+    }

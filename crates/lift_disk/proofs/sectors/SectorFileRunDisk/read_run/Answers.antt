@@ -1,4 +1,4 @@
-use Rattle.std.proofs.Common.{arith, ◌*◌, [], ◌∷◌, sym, ◌∙◌, ap, ◌≡◌}
+use Rattle.std.proofs.Common.{arith, ◌*◌, [], ◌∷◌, sym, ◌∙◌, ap, ◌≡◌, rules}
 use Rattle.lift_disk.specs.Trace.Access.{Read}
 use Rattle.lift_disk.specs.FileCalls.FileCall.{Read as ReadBytes, ReadSectors}
 use Rattle.lift_disk.specs.lemmas.History.{ok_items}
@@ -26,46 +26,49 @@ returns-clause-given g c =
     (omega (arith, c.read_sectors.auto.buffer, c.requires.count, c.told-buffer)) c.offset_of.ensures
     (ok_items c.read_sectors.result c.is_err.ensures.value c.if-is_err.false c.read_sectors.ensures.traced.made.listed)
 
-pub returns-clause-goes_on : goal.returns-clause-goes_on
-returns-clause-goes_on g c =
+pub returns-clause-access : goal.returns-clause-access
+returns-clause-access g c =
     let r = c.read_sectors in
     let d = c.args.self.now in
     let old = g.F.ToldFile.holds (file_of d.file) in
     let new = g.F.ToldFile.holds (file_of r.new.self) in
     let did : (honest : old.is_honest × (old.size ≡ d.sectors)) → ReadsRun c.args.sector r.new.buffer old new =
     λ honest. (ok_items r.result c.is_err.ensures.value c.if-is_err.false r.ensures.held.made) honest.0 c.args.sector c.offset_of.ensures (omega (arith, honest.1, c.requires.inside, c.requires.count, r.auto.buffer, c.told-buffer)) in
-    file_goes_on old new d.sectors d.file.failures.count r.new.self.failures.count d.calls.count c.next-self.result.count d.writes.count d.writes.count d.trace.calls c.then-self.result.calls
-    c.next-self.ensures (omega (arith, (ok_items r.result c.is_err.ensures.value c.if-is_err.false r.ensures.traced.made.unfailed))) r.ensures.held.same (λ honest sized. (did (honest, sized)).rests.time honest)
+    record {
+      goes_on = file_goes_on old new d.sectors d.file.failures.count r.new.self.failures.count d.calls.count c.next-self.result.count d.writes.count d.writes.count d.trace.calls c.then-self.result.calls
+          c.next-self.ensures (omega (arith, (ok_items r.result c.is_err.ensures.value c.if-is_err.false r.ensures.traced.made.unfailed))) r.ensures.held.same (λ honest sized. (did (honest, sized)).rests.time honest);
+      fault = search rules;
+      told = search rules;
+      writes = search rules;
+      recorded = search rules;
+    }
 
-pub returns-clause-written : goal.returns-clause-written
-returns-clause-written g c honest =
+pub returns-clause-leaves : goal.returns-clause-leaves
+returns-clause-leaves g c =
     let r = c.read_sectors in
     let d = c.args.self.now in
     let old = g.F.ToldFile.holds (file_of d.file) in
     let new = g.F.ToldFile.holds (file_of r.new.self) in
     let did : (honest : old.is_honest × (old.size ≡ d.sectors)) → ReadsRun c.args.sector r.new.buffer old new =
     λ honest. (ok_items r.result c.is_err.ensures.value c.if-is_err.false r.ensures.held.made) honest.0 c.args.sector c.offset_of.ensures (omega (arith, honest.1, c.requires.inside, c.requires.count, r.auto.buffer, c.told-buffer)) in
-    (did honest).keeps.written honest.0
+    record {
+      touched = λ honest. file_rests old new d.sectors d.file.failures.count r.new.self.failures.count d.calls.count c.next-self.result.count d.writes.count d.writes.count d.trace.calls c.then-self.result.calls ((did honest).rests.touched honest.0);
+      loose = λ honest. (did honest).rests.loose honest.0;
+      kept = λ honest. (did honest).rests.kept honest.0;
+    }
 
-pub returns-clause-touched : goal.returns-clause-touched
-returns-clause-touched g c honest =
+pub returns-clause-keeps : goal.returns-clause-keeps
+returns-clause-keeps g c =
     let r = c.read_sectors in
     let d = c.args.self.now in
     let old = g.F.ToldFile.holds (file_of d.file) in
     let new = g.F.ToldFile.holds (file_of r.new.self) in
     let did : (honest : old.is_honest × (old.size ≡ d.sectors)) → ReadsRun c.args.sector r.new.buffer old new =
     λ honest. (ok_items r.result c.is_err.ensures.value c.if-is_err.false r.ensures.held.made) honest.0 c.args.sector c.offset_of.ensures (omega (arith, honest.1, c.requires.inside, c.requires.count, r.auto.buffer, c.told-buffer)) in
-    file_rests old new d.sectors d.file.failures.count r.new.self.failures.count d.calls.count c.next-self.result.count d.writes.count d.writes.count d.trace.calls c.then-self.result.calls ((did honest).rests.touched honest.0)
-
-pub returns-clause-loose : goal.returns-clause-loose
-returns-clause-loose g c honest =
-    let r = c.read_sectors in
-    let d = c.args.self.now in
-    let old = g.F.ToldFile.holds (file_of d.file) in
-    let new = g.F.ToldFile.holds (file_of r.new.self) in
-    let did : (honest : old.is_honest × (old.size ≡ d.sectors)) → ReadsRun c.args.sector r.new.buffer old new =
-    λ honest. (ok_items r.result c.is_err.ensures.value c.if-is_err.false r.ensures.held.made) honest.0 c.args.sector c.offset_of.ensures (omega (arith, honest.1, c.requires.inside, c.requires.count, r.auto.buffer, c.told-buffer)) in
-    (did honest).rests.loose honest.0
+    record {
+      written = λ honest. (did honest).keeps.written honest.0;
+      steady = λ honest steady. file_steady old new d.sectors d.file.failures.count r.new.self.failures.count d.calls.count c.next-self.result.count d.writes.count d.writes.count d.trace.calls c.then-self.result.calls old.image ((did honest).keeps.steady honest.0 steady);
+    }
 
 pub returns-clause-gives : goal.returns-clause-gives
 returns-clause-gives g c honest =
@@ -76,23 +79,3 @@ returns-clause-gives g c honest =
     let did : (honest : old.is_honest × (old.size ≡ d.sectors)) → ReadsRun c.args.sector r.new.buffer old new =
     λ honest. (ok_items r.result c.is_err.ensures.value c.if-is_err.false r.ensures.held.made) honest.0 c.args.sector c.offset_of.ensures (omega (arith, honest.1, c.requires.inside, c.requires.count, r.auto.buffer, c.told-buffer)) in
     held_run new.image c.args.sector c.args.count r.new.buffer _ (omega (arith, r.auto.buffer, c.requires.count, c.told-buffer)) (did honest).gives
-
-pub returns-clause-steady : goal.returns-clause-steady
-returns-clause-steady g c honest steady =
-    let r = c.read_sectors in
-    let d = c.args.self.now in
-    let old = g.F.ToldFile.holds (file_of d.file) in
-    let new = g.F.ToldFile.holds (file_of r.new.self) in
-    let did : (honest : old.is_honest × (old.size ≡ d.sectors)) → ReadsRun c.args.sector r.new.buffer old new =
-    λ honest. (ok_items r.result c.is_err.ensures.value c.if-is_err.false r.ensures.held.made) honest.0 c.args.sector c.offset_of.ensures (omega (arith, honest.1, c.requires.inside, c.requires.count, r.auto.buffer, c.told-buffer)) in
-    file_steady old new d.sectors d.file.failures.count r.new.self.failures.count d.calls.count c.next-self.result.count d.writes.count d.writes.count d.trace.calls c.then-self.result.calls old.image ((did honest).keeps.steady honest.0 steady)
-
-pub returns-clause-kept : goal.returns-clause-kept
-returns-clause-kept g c honest =
-    let r = c.read_sectors in
-    let d = c.args.self.now in
-    let old = g.F.ToldFile.holds (file_of d.file) in
-    let new = g.F.ToldFile.holds (file_of r.new.self) in
-    let did : (honest : old.is_honest × (old.size ≡ d.sectors)) → ReadsRun c.args.sector r.new.buffer old new =
-    λ honest. (ok_items r.result c.is_err.ensures.value c.if-is_err.false r.ensures.held.made) honest.0 c.args.sector c.offset_of.ensures (omega (arith, honest.1, c.requires.inside, c.requires.count, r.auto.buffer, c.told-buffer)) in
-    (did honest).rests.kept honest.0

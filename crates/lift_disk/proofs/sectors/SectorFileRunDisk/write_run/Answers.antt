@@ -1,4 +1,4 @@
-use Rattle.std.proofs.Common.{◌*◌, ◌++◌, [], ◌∷◌, sym, ◌∙◌, ap, arith, ◌≡◌}
+use Rattle.std.proofs.Common.{◌*◌, ◌++◌, [], ◌∷◌, sym, ◌∙◌, ap, arith, ◌≡◌, rules}
 use Rattle.lift_disk.specs.Trace.Access.{Write}
 use Rattle.lift_disk.specs.FileCalls.FileCall.{Write as WriteBytes}
 use Rattle.lift_disk.specs.lemmas.History.{ok_items}
@@ -21,104 +21,77 @@ invariant_of-self-2 g c = record {
       c.args.self.now.steady;
 }
 
-pub returns-then-is_err-clause-goes_on : goal.returns-then-is_err-clause-goes_on
-returns-then-is_err-clause-goes_on g c =
+pub returns-then-is_err-clause-access : goal.returns-then-is_err-clause-access
+returns-then-is_err-clause-access g c =
     let r = c.write_sectors in
     let d = c.args.self.now in
     let old = g.F.ToldFile.holds (file_of d.file) in
     let new = g.F.ToldFile.holds (file_of r.new.self) in
     let did : (honest : old.is_honest × (old.size ≡ d.sectors)) → Rests old new =
     λ honest. (err_items r.result c.is_err.ensures.value c.if-is_err.true r.ensures.held.failed) honest.0 c.args.sector c.offset_of.ensures (omega (arith, honest.1, c.requires.inside)) (c.requires.announced honest) in
-    file_goes_on old new d.sectors d.file.failures.count r.new.self.failures.count d.calls.count c.next-self.result.count d.writes.count c.next-self-2.result.count d.trace.calls d.trace.calls
-    c.next-self.ensures (omega (arith, (err_items r.result c.is_err.ensures.value c.if-is_err.true r.ensures.traced.made.failed))) r.ensures.held.same (λ honest sized. (did (honest, sized)).time honest)
+    record {
+      goes_on = file_goes_on old new d.sectors d.file.failures.count r.new.self.failures.count d.calls.count c.next-self.result.count d.writes.count c.next-self-2.result.count d.trace.calls d.trace.calls
+          c.next-self.ensures (omega (arith, (err_items r.result c.is_err.ensures.value c.if-is_err.true r.ensures.traced.made.failed))) r.ensures.held.same (λ honest sized. (did (honest, sized)).time honest);
+      fault = search rules;
+      told = search rules;
+      writes = search rules;
+      recorded = search rules;
+    }
 
-pub returns-then-is_err-clause-touched : goal.returns-then-is_err-clause-touched
-returns-then-is_err-clause-touched g c honest =
+pub returns-then-is_err-clause-leaves : goal.returns-then-is_err-clause-leaves
+returns-then-is_err-clause-leaves g c =
     let r = c.write_sectors in
     let d = c.args.self.now in
     let old = g.F.ToldFile.holds (file_of d.file) in
     let new = g.F.ToldFile.holds (file_of r.new.self) in
     let did : (honest : old.is_honest × (old.size ≡ d.sectors)) → Rests old new =
     λ honest. (err_items r.result c.is_err.ensures.value c.if-is_err.true r.ensures.held.failed) honest.0 c.args.sector c.offset_of.ensures (omega (arith, honest.1, c.requires.inside)) (c.requires.announced honest) in
-    file_rests old new d.sectors d.file.failures.count r.new.self.failures.count d.calls.count c.next-self.result.count d.writes.count c.next-self-2.result.count d.trace.calls d.trace.calls ((did honest).touched honest.0)
+    record {
+      touched = λ honest. file_rests old new d.sectors d.file.failures.count r.new.self.failures.count d.calls.count c.next-self.result.count d.writes.count c.next-self-2.result.count d.trace.calls d.trace.calls ((did honest).touched honest.0);
+      loose = λ honest. (did honest).loose honest.0;
+      kept = λ honest. (did honest).kept honest.0;
+    }
 
-pub returns-then-is_err-clause-loose : goal.returns-then-is_err-clause-loose
-returns-then-is_err-clause-loose g c honest =
-    let r = c.write_sectors in
-    let d = c.args.self.now in
-    let old = g.F.ToldFile.holds (file_of d.file) in
-    let new = g.F.ToldFile.holds (file_of r.new.self) in
-    let did : (honest : old.is_honest × (old.size ≡ d.sectors)) → Rests old new =
-    λ honest. (err_items r.result c.is_err.ensures.value c.if-is_err.true r.ensures.held.failed) honest.0 c.args.sector c.offset_of.ensures (omega (arith, honest.1, c.requires.inside)) (c.requires.announced honest) in
-    (did honest).loose honest.0
-
-pub returns-then-is_err-clause-kept : goal.returns-then-is_err-clause-kept
-returns-then-is_err-clause-kept g c honest =
-    let r = c.write_sectors in
-    let d = c.args.self.now in
-    let old = g.F.ToldFile.holds (file_of d.file) in
-    let new = g.F.ToldFile.holds (file_of r.new.self) in
-    let did : (honest : old.is_honest × (old.size ≡ d.sectors)) → Rests old new =
-    λ honest. (err_items r.result c.is_err.ensures.value c.if-is_err.true r.ensures.held.failed) honest.0 c.args.sector c.offset_of.ensures (omega (arith, honest.1, c.requires.inside)) (c.requires.announced honest) in
-    (did honest).kept honest.0
-
-pub returns-clause-goes_on : goal.returns-clause-goes_on
-returns-clause-goes_on g c =
+pub returns-clause-access : goal.returns-clause-access
+returns-clause-access g c =
     let r = c.write_sectors in
     let d = c.args.self.now in
     let old = g.F.ToldFile.holds (file_of d.file) in
     let new = g.F.ToldFile.holds (file_of r.new.self) in
     let did : (honest : old.is_honest × (old.size ≡ d.sectors)) → WritesRun c.args.sector c.args.run.now old new =
     λ honest. (ok_items r.result c.is_err.ensures.value c.if-is_err.false r.ensures.held.made) honest.0 c.args.sector c.offset_of.ensures (omega (arith, honest.1, c.requires.inside)) (c.requires.announced honest) in
-    file_goes_on old new d.sectors d.file.failures.count r.new.self.failures.count d.calls.count c.next-self.result.count d.writes.count c.next-self-2.result.count d.trace.calls c.then-self.result.calls
-    c.next-self.ensures (omega (arith, (ok_items r.result c.is_err.ensures.value c.if-is_err.false r.ensures.traced.made.unfailed))) r.ensures.held.same (λ honest sized. (did (honest, sized)).rests.time honest)
+    record {
+      goes_on = file_goes_on old new d.sectors d.file.failures.count r.new.self.failures.count d.calls.count c.next-self.result.count d.writes.count c.next-self-2.result.count d.trace.calls c.then-self.result.calls
+          c.next-self.ensures (omega (arith, (ok_items r.result c.is_err.ensures.value c.if-is_err.false r.ensures.traced.made.unfailed))) r.ensures.held.same (λ honest sized. (did (honest, sized)).rests.time honest);
+      fault = search rules;
+      told = search rules;
+      writes = search rules;
+      recorded = search rules;
+    }
 
-pub returns-clause-touched : goal.returns-clause-touched
-returns-clause-touched g c honest =
+pub returns-clause-leaves : goal.returns-clause-leaves
+returns-clause-leaves g c =
     let r = c.write_sectors in
     let d = c.args.self.now in
     let old = g.F.ToldFile.holds (file_of d.file) in
     let new = g.F.ToldFile.holds (file_of r.new.self) in
     let did : (honest : old.is_honest × (old.size ≡ d.sectors)) → WritesRun c.args.sector c.args.run.now old new =
     λ honest. (ok_items r.result c.is_err.ensures.value c.if-is_err.false r.ensures.held.made) honest.0 c.args.sector c.offset_of.ensures (omega (arith, honest.1, c.requires.inside)) (c.requires.announced honest) in
-    file_rests old new d.sectors d.file.failures.count r.new.self.failures.count d.calls.count c.next-self.result.count d.writes.count c.next-self-2.result.count d.trace.calls c.then-self.result.calls ((did honest).rests.touched honest.0)
+    record {
+      touched = λ honest. file_rests old new d.sectors d.file.failures.count r.new.self.failures.count d.calls.count c.next-self.result.count d.writes.count c.next-self-2.result.count d.trace.calls c.then-self.result.calls ((did honest).rests.touched honest.0);
+      loose = λ honest. (did honest).rests.loose honest.0;
+      kept = λ honest. (did honest).rests.kept honest.0;
+    }
 
-pub returns-clause-loose : goal.returns-clause-loose
-returns-clause-loose g c honest =
+pub returns-clause-stores : goal.returns-clause-stores
+returns-clause-stores g c =
     let r = c.write_sectors in
     let d = c.args.self.now in
     let old = g.F.ToldFile.holds (file_of d.file) in
     let new = g.F.ToldFile.holds (file_of r.new.self) in
     let did : (honest : old.is_honest × (old.size ≡ d.sectors)) → WritesRun c.args.sector c.args.run.now old new =
     λ honest. (ok_items r.result c.is_err.ensures.value c.if-is_err.false r.ensures.held.made) honest.0 c.args.sector c.offset_of.ensures (omega (arith, honest.1, c.requires.inside)) (c.requires.announced honest) in
-    (did honest).rests.loose honest.0
-
-pub returns-clause-kept : goal.returns-clause-kept
-returns-clause-kept g c honest =
-    let r = c.write_sectors in
-    let d = c.args.self.now in
-    let old = g.F.ToldFile.holds (file_of d.file) in
-    let new = g.F.ToldFile.holds (file_of r.new.self) in
-    let did : (honest : old.is_honest × (old.size ≡ d.sectors)) → WritesRun c.args.sector c.args.run.now old new =
-    λ honest. (ok_items r.result c.is_err.ensures.value c.if-is_err.false r.ensures.held.made) honest.0 c.args.sector c.offset_of.ensures (omega (arith, honest.1, c.requires.inside)) (c.requires.announced honest) in
-    (did honest).rests.kept honest.0
-
-pub returns-clause-settles : goal.returns-clause-settles
-returns-clause-settles g c honest =
-    let r = c.write_sectors in
-    let d = c.args.self.now in
-    let old = g.F.ToldFile.holds (file_of d.file) in
-    let new = g.F.ToldFile.holds (file_of r.new.self) in
-    let did : (honest : old.is_honest × (old.size ≡ d.sectors)) → WritesRun c.args.sector c.args.run.now old new =
-    λ honest. (ok_items r.result c.is_err.ensures.value c.if-is_err.false r.ensures.held.made) honest.0 c.args.sector c.offset_of.ensures (omega (arith, honest.1, c.requires.inside)) (c.requires.announced honest) in
-    file_settles old new d.sectors d.file.failures.count r.new.self.failures.count d.calls.count c.next-self.result.count d.writes.count c.next-self-2.result.count d.trace.calls c.then-self.result.calls c.args.sector c.args.run.now (did honest).settles
-
-pub returns-clause-steady : goal.returns-clause-steady
-returns-clause-steady g c honest steady =
-    let r = c.write_sectors in
-    let d = c.args.self.now in
-    let old = g.F.ToldFile.holds (file_of d.file) in
-    let new = g.F.ToldFile.holds (file_of r.new.self) in
-    let did : (honest : old.is_honest × (old.size ≡ d.sectors)) → WritesRun c.args.sector c.args.run.now old new =
-    λ honest. (ok_items r.result c.is_err.ensures.value c.if-is_err.false r.ensures.held.made) honest.0 c.args.sector c.offset_of.ensures (omega (arith, honest.1, c.requires.inside)) (c.requires.announced honest) in
-    file_steady old new d.sectors d.file.failures.count r.new.self.failures.count d.calls.count c.next-self.result.count d.writes.count c.next-self-2.result.count d.trace.calls c.then-self.result.calls (with_run c.args.sector c.args.run.now old.image) ((did honest).steady steady)
+    record {
+      settles = λ honest. file_settles old new d.sectors d.file.failures.count r.new.self.failures.count d.calls.count c.next-self.result.count d.writes.count c.next-self-2.result.count d.trace.calls c.then-self.result.calls c.args.sector c.args.run.now (did honest).settles;
+      steady = λ honest steady. file_steady old new d.sectors d.file.failures.count r.new.self.failures.count d.calls.count c.next-self.result.count d.writes.count c.next-self-2.result.count d.trace.calls c.then-self.result.calls (with_run c.args.sector c.args.run.now old.image) ((did honest).steady steady);
+    }
