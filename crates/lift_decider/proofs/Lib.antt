@@ -1,3 +1,2 @@
 pub mod Changes
 pub mod Inside
-pub mod Decided

@@ -1,27 +1,23 @@
 //! Decisions of the rules.
 
-ghost use Rattle.std.specs.Prelude.{◌≡◌, ◌<◌, ◌≤◌, ◌+◌, [], All, Contains, length, None};
+ghost use Rattle.std.specs.Prelude.{◌≡◌, ◌<◌, ◌≤◌, ◌+◌, [], All, Contains, length};
 ghost use Rattle.lift_base.specs.declared.history.Record.TheVariants.{Entry as EntryRecord};
 ghost use Rattle.lift_base.specs.Records.{IsRecord};
 ghost use Rattle.lift_base.specs.declared.history.Entry.{Entry as EntryValue};
-ghost use Rattle.lift_base.specs.declared.command.Body.{Body as BodyValue};
 ghost use Rattle.lift_base.specs.declared.command.Reply.{Reply as ReplyValue};
 ghost use Rattle.lift_register.specs.Prelude.{BelongsTo, IsBalanced, IsWellFormed};
 ghost use Rattle.lift_policy.specs.View.{positions_of, AreSchedulesOf, IsViewIn};
-ghost use Rattle.lift_policy.specs.Eligible.{eligible_cars};
-ghost use Rattle.lift_policy.specs.Step.{Step, Proceeds, first_cause, view_of, with_car_at};
-ghost use Rattle.lift_policy.specs.Step.{stopping, next_from};
+ghost use Rattle.lift_policy.specs.Step.{Step, view_of};
+ghost use Rattle.lift_policy.specs.Verdict.{IsVerdict};
+ghost use Rattle.lift_policy.specs.declared.verdict.Verdict.{Verdict as VerdictValue};
 ghost use Rattle.lift_decider.specs.Decider.{IsPossible, nothing, starting};
 
 use crate::group::Group;
 use arrayvec::ArrayVec;
-use lift_base::{
-    Body, Dir, Entry, Floor, Letter, MOST_CARS, MOST_ENTRIES, Number, Party, Position, Reason,
-    Reply, Stop, Terminal,
-};
+use lift_base::{Body, Entry, Letter, MOST_CARS, MOST_ENTRIES, Number, Reply, Terminal};
 use lift_building::Building;
 use lift_cost::NewCall;
-use lift_policy::{Command, Eligible, Policy, View, call_at, car_at, first_cause, is_next};
+use lift_policy::{Command, Eligible, Policy, Verdict, View};
 use lift_register::Register;
 use lift_stops::Schedule;
 use std::marker::Model;
@@ -136,64 +132,24 @@ impl<'b> Decider<'b> {
         self.group.seal()
     }
 
-    /// A call goes to the car that the policy names, and a repeated one to its kept car.
-    fn call<P: Policy>(&mut self, command: &Command, to: Floor, party: Party, policy: &P) -> Reply
-        requires clear { first_cause self.old.plan self.old.state command.now.terminal
-            command.now.number (BodyValue.Call to party) ≡ None }
+    /// A new call goes to the car that the policy names of those that may take it.
+    fn allot<P: Policy>(
+        &mut self,
+        command: &Command,
+        call: &NewCall,
+        eligible: Eligible,
+        policy: &P,
+    ) -> Letter
+        requires verdict { IsVerdict self.old.plan self.old.state command.now.terminal
+            command.now.number command.now.body (VerdictValue.Call call.now eligible) }
         requires room { length self.old.state.batch < 63 }
         ensures plan { self.new.plan ≡ self.old.plan }
-        ensures step { Proceeds self.old.plan
-            (P.chooses policy.now) self.old.state command.now.terminal command.now.number
-            (BodyValue.Call to party) result self.new.state }
+        ensures step { Step self.old.plan (P.chooses policy.now) self.old.state command.now.terminal
+            command.now.number command.now.body (ReplyValue.Car result) self.new.state }
     {
-        if is_next(&self.group.register, command.terminal, command.number) {
-            let call = &call_at(self.building, command.terminal, to, party);
-            let car = chosen(self.building, &self.group, call, policy);
-            self.group.allot(self.building, command, call, car);
-            Reply::Car(car)
-        } else {
-            match self.group.kept_car(command.terminal) {
-                Some(car) => Reply::Car(car),
-                None => unreachable!(),
-            }
-        }
-    }
-
-    /// A stop of a new number joins, a repeat doesn't; either way the car stands there.
-    fn stop(&mut self, command: &Command, floor: Floor, dir: Dir) -> Reply
-        requires clear { first_cause self.old.plan self.old.state command.now.terminal
-            command.now.number (BodyValue.Stop floor dir) ≡ None }
-        requires room { length self.old.state.batch < 63 }
-        ensures state { self.new ≡ record {
-          plan = self.old.plan;
-          state = stopping self.old.state command.now.terminal command.now.number floor dir;
-        } }
-        ensures reply { result ≡ ReplyValue.Stopped
-            (next_from self.new.state command.now.terminal floor dir) }
-    {
-        let car = car_at(self.building, command.terminal);
-        let next = if is_next(&self.group.register, command.terminal, command.number) {
-            self.group
-                .serve(self.building, command.number, car, Stop { floor, dir })
-        } else {
-            self.group.stand(car, Position { floor, dir })
-        };
-        Reply::Stopped(next)
-    }
-
-    /// The car stands there.
-    fn place(&mut self, command: &Command, floor: Floor, dir: Dir) -> Reply
-        requires clear { first_cause self.old.plan self.old.state command.now.terminal
-            command.now.number (BodyValue.Place floor dir) ≡ None }
-        ensures state { self.new ≡ record {
-          plan = self.old.plan;
-          state = with_car_at self.old.state command.now.terminal floor dir;
-        } }
-        ensures reply { result ≡ ReplyValue.Placed
-            (next_from self.new.state command.now.terminal floor dir) }
-    {
-        let car = car_at(self.building, command.terminal);
-        Reply::Placed(self.group.stand(car, Position { floor, dir }))
+        let car = chosen(self.building, &self.group, call, eligible, policy);
+        self.group.allot(self.building, command, call, car);
+        car
     }
 
     /// Decides a command: one decision of the rules, where this policy names the car of a new call.
@@ -216,39 +172,44 @@ impl<'b> Decider<'b> {
             number,
             body: *body,
         };
-        match cause_of(self.building, &self.group, command) {
-            Some(reason) => Reply::Refused(reason),
-            None => match *body {
-                Body::Call(to, party) => self.call(command, to, party, policy),
-                Body::Stop(floor, dir) => self.stop(command, floor, dir),
-                Body::Place(floor, dir) => self.place(command, floor, dir),
-            },
+        match verdict_of(self.building, &self.group, command) {
+            Verdict::Refused(reason) => Reply::Refused(reason),
+            Verdict::Call(call, eligible) => {
+                Reply::Car(self.allot(command, &call, eligible, policy))
+            }
+            Verdict::RepeatedCall(car) => Reply::Car(car),
+            Verdict::Stop(car, stop) => {
+                Reply::Stopped(self.group.serve(self.building, number, car, stop))
+            }
+            Verdict::RepeatedStop(car, position) => Reply::Stopped(self.group.stand(car, position)),
+            Verdict::Place(car, position) => Reply::Placed(self.group.stand(car, position)),
         }
     }
 }
 
-/// The first cause for which a command is refused now.
-fn cause_of(building: &Building, group: &Group, command: &Command) -> Option<Reason>
-    ensures { result ≡ first_cause building.now group.now command.now.terminal command.now.number
-        command.now.body }
+/// What the rules make of a command now.
+fn verdict_of(building: &Building, group: &Group, command: &Command) -> Verdict
+    ensures { IsVerdict building.now group.now command.now.terminal command.now.number
+        command.now.body result }
 {
     let view = group.view();
-    first_cause(building, &view, command)
+    Verdict::of(building, &view, command)
 }
 
-/// The car that the policy names for a call that some car may take.
-fn chosen<P: Policy>(building: &Building, group: &Group, call: &NewCall, policy: &P) -> Letter
+/// The car that the policy names for a call.
+fn chosen<P: Policy>(
+    building: &Building,
+    group: &Group,
+    call: &NewCall,
+    eligible: Eligible,
+    policy: &P,
+) -> Letter
     requires possible { IsViewIn building.now (view_of group.now) }
     requires from { call.now.from < building.now.floors }
     requires to { call.now.to < building.now.floors }
-    requires some { 0 < length (eligible_cars building.now (view_of group.now) call.now) }
-    ensures member { Contains (eligible_cars building.now (view_of group.now) call.now) result }
-    ensures chosen { P.chooses policy.now building.now (view_of group.now) call.now
-        (eligible_cars building.now (view_of group.now) call.now) result }
+    ensures member { Contains eligible result }
+    ensures chosen { P.chooses policy.now building.now (view_of group.now) call.now eligible result }
 {
     let view = group.view();
-    match Eligible::among(building, &view, *call) {
-        Some(eligible) => policy.choose(building, &view, *call, eligible),
-        None => unreachable!(),
-    }
+    policy.choose(building, &view, *call, eligible)
 }

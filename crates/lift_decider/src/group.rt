@@ -1,11 +1,10 @@
 //! The calls and the cars of a lift group, as decisions change them.
 
-ghost use Rattle.std.specs.Prelude.{ℕ, ◌≡◌, ◌<◌, ◌∷◌, ◌++◌, [], length, Some};
+ghost use Rattle.std.specs.Prelude.{◌≡◌, ◌<◌, ◌∷◌, ◌++◌, [], length};
 ghost use Rattle.lift_base.specs.declared.history.Record.TheVariants.{Entry as EntryRecord};
 ghost use Rattle.lift_base.specs.Records.{IsRecord};
 ghost use Rattle.lift_base.specs.declared.history.Entry.{Entry as EntryValue};
-ghost use Rattle.lift_base.specs.declared.history.Content.{Content as ContentValue};
-ghost use Rattle.lift_register.specs.Prelude.{last_of, waiting_row, register_of, Fits};
+ghost use Rattle.lift_register.specs.Prelude.{waiting_row, register_of, Fits};
 ghost use Rattle.lift_register.specs.Prelude.{IsWellFormed};
 ghost use Rattle.lift_policy.specs.Step.{view_of, accepting, with_car_at, next_from};
 ghost use Rattle.lift_policy.specs.Laws.{IsStateIn};
@@ -13,9 +12,7 @@ ghost use Rattle.lift_decider.specs.Decider.{IsBatch, IsRegisterIn, starting};
 
 use crate::schedules::{insert, serve, stand};
 use arrayvec::ArrayVec;
-use lift_base::{
-    Content, Entry, Letter, MOST_CARS, MOST_ENTRIES, Number, Position, Row, Stop, Terminal,
-};
+use lift_base::{Entry, Letter, MOST_CARS, MOST_ENTRIES, Number, Position, Row, Stop};
 use lift_building::Building;
 use lift_cost::NewCall;
 use lift_policy::{Command, View};
@@ -83,16 +80,6 @@ impl Group {
         ensures { result ≡ view_of self.now }
     {
         View::new(&self.register, &self.schedules)
-    }
-
-    /// The car that a kiosk's last call was allotted to.
-    pub fn kept_car(&self, kiosk: Terminal) -> Option<Letter>
-        ensures { (number from to car party : ℕ)
-            → last_of self.now.register kiosk
-            ≡ Some (record { number = number; content = ContentValue.Letter from to car party })
-            → result ≡ Some car }
-    {
-        kept_car(&self.register, kiosk)
     }
 
     /// Gives the batch out.
@@ -187,19 +174,5 @@ fn row_of(command: &Command, call: &NewCall, car: Letter) -> Row
         car,
         party: call.party,
         aboard: false,
-    }
-}
-
-/// The car that a kiosk's last call was allotted to.
-fn kept_car(register: &Register, kiosk: Terminal) -> Option<Letter>
-    ensures { (number from to car party : ℕ)
-        → last_of register.now kiosk
-        ≡ Some (record { number = number; content = ContentValue.Letter from to car party })
-        → result ≡ Some car }
-{
-    let last = register.last(kiosk)?;
-    match &last.content {
-        Content::Letter { car, .. } => Some(*car),
-        Content::Stopped { .. } => None,
     }
 }

@@ -1,9 +1,8 @@
 -- The eligible cars as a list that grows letter by letter.
-use Rattle.std.proofs.Common.{◌≡◌, ℕ, zero, suc, ◌+◌, ◌-◌, ◌==◌, ◌<◌, ◌≤◌, ◌&&◌, nat_le, Bool, true, false, cond, List, [], ◌∷◌, ◌++◌, length, filter, get_or, append-nil, refl, sym, ap, ◌∙◌, arith}
+use Rattle.std.proofs.Common.{◌≡◌, ℕ, zero, suc, ◌+◌, ◌-◌, ◌<◌, ◌≤◌, ◌&&◌, nat_le, Bool, true, false, cond, List, [], ◌∷◌, ◌++◌, length, filter, get_or, append-nil, refl, sym, ap, ◌∙◌, arith}
 use Rattle.std.specs.List.{range_with_len}
-use Rattle.std.specs.Prelude.{Option, Some, None}
+use Rattle.std.specs.Prelude.{Option}
 use Rattle.std.specs.Option.{option_to_list, is_some}
-use Rattle.std.proofs.Math.Dec.{eqb-suc-zero}
 use Rattle.std.proofs.lemmas.List.Elements.{filter-append}
 use Rattle.std.proofs.lemmas.List.{get_or_past}
 use Rattle.lift_building.specs.Plan.{Plan, serves_floor, places_of}
@@ -86,10 +85,6 @@ none_behind plan view call car behind =
     let none : serves_floor plan car call.from ≡ false = ap (λ c. get_or c.served call.from false) (get_or_past plan.cars car (record { places = 0; served = [] }) behind) in
     rw none (lacking (is_some (position_of view.positions car)) (serves_floor plan car call.to && nat_le (persons_of (rows_of view.register car) + call.party) (places_of plan car)))
 
-none_among : (p : ℕ → Bool) (low count : ℕ) → NoneFrom p low → filter p (range_with_len low count) ≡ []
-none_among p low zero none = refl
-none_among p low (suc count) none = rw (none low (omega arith)) (none_among p (low + 1) count (λ number h. none number (omega arith)))
-
 none_above : (p : ℕ → Bool) (n more : ℕ) → NoneFrom p n → filter p (range_with_len 0 n) ≡ filter p (range_with_len 0 (n + more))
 none_above p n zero none = let e : n ≡ n + 0 = omega arith in ap (λ (m : ℕ). filter p (range_with_len 0 m)) e
 none_above p n (suc more) none =
@@ -111,40 +106,3 @@ eligible_so_far plan view call letters n all few so_far =
     ∙ none_above p n (16 - n) (λ number h. none_behind plan view call number (omega arith))
     ∙ ap (λ (m : ℕ). filter p (range_with_len 0 m)) e
     ∙ sym (eligible_cars-is plan view call)
-
--- ---- where none of the first cars may take a call, the eligible ones are those after
-
--- those of the letters from this one on that pass
-unfoldable pub passing_from : (ℕ → Bool) → ℕ → List ℕ
-passing_from p i = filter p (range_with_len i (16 - i))
-
-pub all_cars-are : (plan : Plan) (view : ViewState) (call : NewCall) → eligible_cars plan view call ≡ passing_from (is_eligible plan view call) 0
-unfolding passing_from
-all_cars-are plan view call = eligible_cars-is plan view call
-
-step : (p : ℕ → Bool) (i : ℕ) → i < 16 → passing_from p i ≡ cond (p i) (i ∷ passing_from p (i + 1)) (passing_from p (i + 1))
-unfolding passing_from
-step p i inside = let e : 16 - i ≡ suc (16 - (i + 1)) = omega arith in ap (λ (n : ℕ). filter p (range_with_len i n)) e
-
-pub none_so_far : (p : ℕ → Bool) (letters : List ℕ) (i : ℕ) (found : Option ℕ) → i < 16 → letters ≡ passing_from p i → option_to_list found ≡ cond (p i) (i ∷ []) []
-    → false ≡ is_some found → letters ≡ passing_from p (i + 1)
-none_so_far p letters i found inside behind is none = behind ∙ step p i inside ∙ off (p i) found is none
-  where
-    off : (b : Bool) (f : Option ℕ) → option_to_list f ≡ cond b (i ∷ []) [] → false ≡ is_some f → cond b (i ∷ passing_from p (i + 1)) (passing_from p (i + 1)) ≡ passing_from p (i + 1)
-    off true None h n = cc
-    off true (Some x) h n = cc
-    off false f h n = refl
-
-pub some_here : (p : ℕ → Bool) (letters : List ℕ) (i : ℕ) (found : Option ℕ) → i < 16 → letters ≡ passing_from p i → option_to_list found ≡ cond (p i) (i ∷ []) []
-    → true ≡ is_some found → false ≡ (length letters == 0)
-some_here p letters i found inside behind is some =
-    on (p i) found is some ∙ ap (λ (xs : List ℕ). length xs == 0) (sym (behind ∙ step p i inside))
-  where
-    on : (b : Bool) (f : Option ℕ) → option_to_list f ≡ cond b (i ∷ []) [] → true ≡ is_some f → false ≡ (length (cond b (i ∷ passing_from p (i + 1)) (passing_from p (i + 1))) == 0)
-    on true f h n = sym (eqb-suc-zero (length (passing_from p (i + 1))))
-    on false None h n = cc
-    on false (Some x) h n = cc
-
-pub none_at_all : (p : ℕ → Bool) (letters : List ℕ) (i : ℕ) → NoneFrom p i → letters ≡ passing_from p i → true ≡ (length letters == 0)
-unfolding passing_from
-none_at_all p letters i none behind = ap (λ (xs : List ℕ). length xs == 0) (sym (behind ∙ none_among p i (16 - i) none))

@@ -4,3 +4,4 @@ pub mod States
 pub mod Refusals
 pub mod Picks
 pub mod Decisions
+pub mod Verdicts

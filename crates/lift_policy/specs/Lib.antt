@@ -4,6 +4,7 @@ pub mod Eligible
 pub mod Least
 pub mod Choices
 pub mod Step
+pub mod Verdict
 pub mod Run
 pub mod Decision
 pub mod Laws

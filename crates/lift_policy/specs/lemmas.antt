@@ -2,3 +2,4 @@ pub mod Views
 pub mod Least
 pub mod Steps
 pub mod Joins
+pub mod Verdicts

@@ -6,10 +6,10 @@ ghost use Rattle.lift_base.specs.declared.history.Entry.{Entry};
 ghost use Rattle.lift_register.specs.Register.{last_number};
 ghost use Rattle.lift_policy.specs.Terminals.{has_car, has_kiosk, kiosk_floor};
 ghost use Rattle.lift_policy.specs.Step.{state_seen, floor_of, is_call, is_numbered, is_same};
-ghost use Rattle.lift_policy.specs.Step.{is_kept, call_at, lacks_car, first_cause};
+ghost use Rattle.lift_policy.specs.Step.{is_kept, call_at};
+ghost use Rattle.lift_policy.specs.Verdict.{cause_before_cars};
 
 use crate::command::Command;
-use crate::eligible::is_none_eligible;
 use crate::view::View;
 use lift_base::{Body, Content, Floor, Letter, Number, Party, Reason, Terminal};
 use lift_building::Building;
@@ -60,7 +60,7 @@ fn kiosk_floor(building: &Building, terminal: Terminal) -> Floor
 }
 
 /// The car of this terminal.
-pub fn car_at(building: &Building, terminal: Terminal) -> Letter
+pub(crate) fn car_at(building: &Building, terminal: Terminal) -> Letter
     requires { has_car building.now terminal ≡ true }
     ensures { result ≡ terminal }
 {
@@ -72,7 +72,7 @@ pub fn car_at(building: &Building, terminal: Terminal) -> Letter
 }
 
 /// Whether a number is the terminal's next.
-pub fn is_next(register: &Register, terminal: Terminal, number: Number) -> bool
+pub(crate) fn is_next(register: &Register, terminal: Terminal, number: Number) -> bool
     ensures { result ≡ (number == last_number register.now terminal + 1) }
 {
     number.get() == register.last_number(terminal) + 1
@@ -103,7 +103,7 @@ fn is_kept(register: &Register, terminal: Terminal, body: &Body) -> bool
 }
 
 /// What a party that calls at a kiosk asks for.
-pub fn call_at(building: &Building, terminal: Terminal, to: Floor, party: Party) -> NewCall
+pub(crate) fn call_at(building: &Building, terminal: Terminal, to: Floor, party: Party) -> NewCall
     requires { has_kiosk building.now terminal ≡ true }
     ensures value { result ≡ call_at building.now terminal to party }
     ensures from { result.from < building.now.floors }
@@ -112,21 +112,6 @@ pub fn call_at(building: &Building, terminal: Terminal, to: Floor, party: Party)
         from: kiosk_floor(building, terminal),
         to,
         party,
-    }
-}
-
-/// Whether no car may take what is asked, of a known terminal.
-fn lacks_car(building: &Building, view: &View, terminal: Terminal, body: &Body) -> bool
-    requires known { is_call body.now ≡ true → has_kiosk building.now terminal ≡ true }
-    ensures { (batch : List Entry)
-        → result ≡ lacks_car building.now (state_seen view.now batch) terminal body.now }
-{
-    match *body {
-        Body::Call(to, party) => {
-            let call = call_at(building, terminal, to, party);
-            is_none_eligible(building, view, &call)
-        }
-        _ => false,
     }
 }
 
@@ -167,10 +152,14 @@ fn is_beyond(register: &Register, command: &Command) -> bool
     }
 }
 
-/// The first cause for which a command is refused, none where nothing stands against it.
-pub fn first_cause(building: &Building, view: &View, command: &Command) -> Option<Reason>
+/// The first cause for which a command is refused, of those that are looked for before the cars are.
+pub(crate) fn cause_before_cars(
+    building: &Building,
+    view: &View,
+    command: &Command,
+) -> Option<Reason>
     ensures { (batch : List Entry)
-        → result ≡ first_cause building.now
+        → result ≡ cause_before_cars building.now
         (state_seen view.now batch) command.now.terminal command.now.number command.now.body }
 {
     let terminal = command.terminal;
@@ -198,9 +187,6 @@ pub fn first_cause(building: &Building, view: &View, command: &Command) -> Optio
     }
     if is_beyond(register, command) {
         return Some(Reason::GapNumber);
-    }
-    if is_next(register, terminal, command.number) && lacks_car(building, view, terminal, body) {
-        return Some(Reason::NoCar);
     }
     None
 }

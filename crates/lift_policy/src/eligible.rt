@@ -14,7 +14,7 @@ use std::marker::Model;
 
 /// Whether the car serves both floors, and has places for the party beside the persons of its open
 /// calls.
-pub fn can_take(building: &Building, register: &Register, call: NewCall, car: Letter) -> bool
+pub(crate) fn can_take(building: &Building, register: &Register, call: NewCall, car: Letter) -> bool
     ensures { result ≡ can_take building.now register.now call car }
 {
     building.serves(car, call.from)
@@ -77,18 +77,6 @@ fn eligible_at(building: &Building, view: &View, call: &NewCall, index: u8) -> O
     } else {
         None
     }
-}
-
-/// Whether no car may take a call now.
-pub(crate) fn is_none_eligible(building: &Building, view: &View, call: &NewCall) -> bool
-    ensures { result ≡ (length (eligible_cars building.now view.now call.now) == 0) }
-{
-    for letter in 0..building.cars() {
-        if eligible_at(building, view, call, letter).is_some() {
-            return false;
-        }
-    }
-    true
 }
 
 /// The cars that may take a call, by rising letter.

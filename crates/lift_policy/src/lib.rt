@@ -9,15 +9,16 @@ mod policies;
 mod policy;
 mod schedules;
 mod shipped;
+mod verdict;
 mod view;
 mod waits;
 
-pub use causes::{call_at, car_at, first_cause, is_next};
 pub use command::Command;
-pub use eligible::{Eligible, can_take};
+pub use eligible::Eligible;
 pub use laws::{decisions_are_computed, decisions_keep};
 pub use policies::{Etd, FewestOpen, ShortestWait};
 pub use policy::Policy;
 pub use schedules::{schedule_of, schedules_at};
 pub use shipped::Shipped;
+pub use verdict::Verdict;
 pub use view::View;

@@ -1,71 +1,77 @@
--- What a command without a cause is decided, and what that leaves of the world.
-use Rattle.std.proofs.Common.{ℕ, ◌≡◌, Bool, true, false, cond, List, [], ◌∷◌, ◌++◌, drop, Option, Some, None, refl, sym, ap, subst, ◌∙◌}
+-- What a command is decided, and what that leaves of the world.
+use Rattle.std.proofs.Common.{ℕ, ◌≡◌, Bool, true, false, cond, List, [], ◌∷◌, ◌++◌, drop, set, Option, Some, None, refl, sym, ap, subst, ◌∙◌}
 use Rattle.std.specs.Prelude.{option_map, IsSome, IsTrue}
 use Rattle.std.specs.Option.{option_to_list}
-use Rattle.std.proofs.lemmas.Bool.{not-false, false≢true}
+use Rattle.std.proofs.lemmas.Bool.{false≢true}
 use Rattle.std.proofs.lemmas.List.{append-nil}
-use Rattle.lift_base.specs.declared.travel.Dir.{Dir}
 use Rattle.lift_base.specs.declared.travel.Position.{Position}
+use Rattle.lift_base.specs.declared.travel.Stop.{Stop as StopAt}
 use Rattle.lift_base.specs.declared.history.Entry.{Entry}
 use Rattle.lift_base.specs.declared.history.Entry.TheVariants.{Stop as Stopping}
 use Rattle.lift_base.specs.declared.command.Body.{Body}
-use Rattle.lift_base.specs.declared.command.Body.TheVariants.{Call, Stop, Place}
+use Rattle.lift_base.specs.declared.command.Body.TheVariants.{Stop, Place}
 use Rattle.lift_base.specs.declared.command.Reason.{Reason}
 use Rattle.lift_base.specs.declared.command.Reply.{Reply}
-use Rattle.lift_base.specs.declared.command.Reply.TheVariants.{Stopped}
+use Rattle.lift_base.specs.declared.command.Reply.TheVariants.{Stopped, Placed}
 use Rattle.lift_building.specs.Plan.{Plan, IsBuilding}
-use Rattle.lift_register.specs.Register.{RegisterState, register_of}
-use Rattle.lift_policy.specs.Terminals.{has_kiosk, has_car}
-use Rattle.lift_policy.specs.Step.{State, first_cause, is_new, stopping, next_from, accepting}
+use Rattle.lift_register.specs.Register.{RegisterState, rows_of, register_of}
+use Rattle.lift_stops.specs.StopList.{next_stop}
+use Rattle.lift_policy.specs.Step.{State, first_cause, accepting, with_car_at, next_from}
+use Rattle.lift_policy.specs.declared.verdict.Verdict.TheVariants.{RepeatedStop, Place as Places}
 use Rattle.lift_policy.specs.declared.command.Command.{Command}
 use Rattle.lift_world.specs.declared.decide.Decided.{Decided}
-use Rattle.lift_world.specs.Decided.{Decision, decided, decided_after}
-use Rattle.lift_world.specs.Carries.{CarriesDecision, state_with, with_new_stop}
+use Rattle.lift_world.specs.Decided.{Decision, proceeding, decided, decided_after}
+use Rattle.lift_world.specs.Carries.{CarriesDecision, CarriesOut, IsVerdictOf, state_with}
 use Rattle.lift_world.specs.World.{World, state_of}
 use Rattle.lift_world.specs.Next.{taking, deciding}
 use Rattle.lift_world.specs.Replays.{FitAfter, IsTight, MovesTo}
-use Rattle.lift_world.specs.lemmas.Decisions.{NoCause, no_cause, decides_well, DecidesWell}
+use Rattle.lift_world.specs.lemmas.Decisions.{decides_well, DecidesWell}
 use Rattle.lift_world.proofs.Consistent.{fit_more, accepted_after}
 
-module _ (building : Plan) (state : State) (terminal number : ℕ) where
-  clear_at : (body other : Body) → first_cause building state terminal number body ≡ None → body ≡ other → NoCause building state terminal number other
-  clear_at body other clear is = no_cause building state terminal number other (subst (λ (b : Body). first_cause building state terminal number b ≡ None) is clear)
+-- a command without a cause is decided by what it says
+decided_as : (building : Plan) (state : State) (terminal number : ℕ) (body said : Body) (letter : Option ℕ) → None ≡ first_cause building state terminal number body → body ≡ said
+    → decided building state terminal number body letter ≡ proceeding building state terminal number said letter
+decided_as building state terminal number body said letter clear is =
+    ap (λ (o : Option Reason). decided_after o building state terminal number body letter) (sym clear)
+    ∙ ap (λ (b : Body). proceeding building state terminal number b letter) is
 
-  pub call_clear : (body : Body) (to party : ℕ) → first_cause building state terminal number body ≡ None → body ≡ Call to party → NoCause building state terminal number (Call to party)
-  call_clear body to party clear is = clear_at body (Call to party) clear is
+-- how a command is carried out whose car only stands somewhere
+module _ (building : Plan) (register : RegisterState) (positions : List (Option Position)) (command : Command) where
+  -- a decision that adds no entry
+  adds_none : (letter : Option ℕ) (reply : Reply) (after : List (Option Position))
+      → ((batch : List Entry) → decided building (state_with register positions batch) command.terminal command.number command.body letter
+      ≡ Some (record { reply = reply; next = state_with register after batch }))
+      → CarriesOut building register positions command letter (Some (record { reply = reply; entry = None })) register after
+  adds_none letter reply after is batch =
+      subst (λ (o : Option Decision). CarriesDecision o register positions batch (Some (record { reply = reply; entry = None })) register after) (sym (is batch))
+      (None, refl, ap (λ (xs : List Entry). state_with register after xs) (sym (append-nil batch)))
 
-  pub stop_clear : (body : Body) (floor : ℕ) (dir : Dir) → first_cause building state terminal number body ≡ None → body ≡ Stop floor dir → NoCause building state terminal number (Stop floor dir)
-  stop_clear body floor dir clear is = clear_at body (Stop floor dir) clear is
+  -- a repeated stop
+  pub carries_stand : (car : ℕ) (at : Position) (found : Option StopAt) (after : List (Option Position)) → IsVerdictOf building register positions command (RepeatedStop car at)
+      → after ≡ set positions car (Some at) → found ≡ next_stop (rows_of register car) at
+      → CarriesOut building register positions command None (Some (record { reply = Stopped found; entry = None })) register after
+  carries_stand car at found after h stands is =
+      let told : ℕ → State → Option Decision = λ t s. Some (record { reply = Stopped (next_from (with_car_at s t at.floor at.dir) t at.floor at.dir); next = with_car_at s t at.floor at.dir }) in
+      let made : Option StopAt → State → Option Decision = λ o s. Some (record { reply = Stopped o; next = s }) in
+      adds_none None (Stopped found) after (λ batch.
+      decided_as building (state_with register positions batch) command.terminal command.number command.body (Stop at.floor at.dir) None (h batch).cause (h batch).case.0
+      ∙ ap (λ (b : Bool). told command.terminal (cond b (accepting (state_with register positions batch) (Stopping command.terminal command.number at.floor at.dir)) (state_with register positions batch))) (h batch).case.1
+      ∙ ap (λ (t : ℕ). told t (state_with register positions batch)) (sym (h batch).case.2)
+      ∙ ap (λ (o : Option StopAt). made o (state_with register (set positions car (Some at)) batch)) (sym is)
+      ∙ ap (λ (ps : List (Option Position)). made found (state_with register ps batch)) (sym stands))
 
-  pub call_known : (body : Body) (to party : ℕ) → first_cause building state terminal number body ≡ None → body ≡ Call to party → has_kiosk building terminal ≡ true
-  call_known body to party clear is = not-false (has_kiosk building terminal) (clear_at body (Call to party) clear is).kind
-
-  pub stop_known : (body : Body) (floor : ℕ) (dir : Dir) → first_cause building state terminal number body ≡ None → body ≡ Stop floor dir → has_car building terminal ≡ true
-  stop_known body floor dir clear is = not-false (has_car building terminal) (clear_at body (Stop floor dir) clear is).kind
-
-  pub place_known : (body : Body) (floor : ℕ) (dir : Dir) → first_cause building state terminal number body ≡ None → body ≡ Place floor dir → has_car building terminal ≡ true
-  place_known body floor dir clear is = not-false (has_car building terminal) (clear_at body (Place floor dir) clear is).kind
-
-  pub stop_decided : (body : Body) (floor : ℕ) (dir : Dir) → first_cause building state terminal number body ≡ None → body ≡ Stop floor dir
-      → decided building state terminal number body None ≡ Some (record { reply = Stopped (next_from (stopping state terminal number floor dir) terminal floor dir); next = stopping state terminal number floor dir })
-  stop_decided body floor dir clear is =
-      ap (λ (o : Option Reason). decided_after o building state terminal number body None) clear
-      ∙ ap (λ (b : Body). decided_after None building state terminal number b None) is
-
--- a repeated stop joins nothing, a new one joins
-pub joins_none : (register : RegisterState) (positions : List (Option Position)) (batch : List Entry) (terminal number floor : ℕ) (dir : Dir) → is_new (state_with register positions batch) terminal number ≡ false
-    → state_with register positions (batch ++ []) ≡ with_new_stop (state_with register positions batch) terminal number floor dir
-joins_none register positions batch terminal number floor dir old =
-    ap (λ (xs : List Entry). state_with register positions xs) (append-nil batch)
-    ∙ ap (λ (b : Bool). cond b (accepting (state_with register positions batch) (Stopping terminal number floor dir)) (state_with register positions batch)) (sym old)
-
-pub joins_one : (register after : RegisterState) (positions : List (Option Position)) (batch : List Entry) (terminal number floor car : ℕ) (dir : Dir) → is_new (state_with register positions batch) terminal number ≡ true → car ≡ terminal
-    → after ≡ register_of register (Stopping car number floor dir ∷ [])
-    → state_with after positions (batch ++ Stopping car number floor dir ∷ []) ≡ with_new_stop (state_with register positions batch) terminal number floor dir
-joins_one register after positions batch terminal number floor car dir new own is =
-    ap (λ (r : RegisterState). state_with r positions (batch ++ Stopping car number floor dir ∷ [])) is
-    ∙ ap (λ (t : ℕ). accepting (state_with register positions batch) (Stopping t number floor dir)) own
-    ∙ ap (λ (b : Bool). cond b (accepting (state_with register positions batch) (Stopping terminal number floor dir)) (state_with register positions batch)) (sym new)
+  -- a place
+  pub carries_place : (car : ℕ) (at : Position) (found : Option StopAt) (after : List (Option Position)) → IsVerdictOf building register positions command (Places car at)
+      → after ≡ set positions car (Some at) → found ≡ next_stop (rows_of register car) at
+      → CarriesOut building register positions command None (Some (record { reply = Placed found; entry = None })) register after
+  carries_place car at found after h stands is =
+      let told : ℕ → State → Option Decision = λ t s. Some (record { reply = Placed (next_from (with_car_at s t at.floor at.dir) t at.floor at.dir); next = with_car_at s t at.floor at.dir }) in
+      let made : Option StopAt → State → Option Decision = λ o s. Some (record { reply = Placed o; next = s }) in
+      adds_none None (Placed found) after (λ batch.
+      decided_as building (state_with register positions batch) command.terminal command.number command.body (Place at.floor at.dir) None (h batch).cause (h batch).case.0
+      ∙ ap (λ (t : ℕ). told t (state_with register positions batch)) (sym (h batch).case.1)
+      ∙ ap (λ (o : Option StopAt). made o (state_with register (set positions car (Some at)) batch)) (sym is)
+      ∙ ap (λ (ps : List (Option Position)). made found (state_with register ps batch)) (sym stands))
 
 same_tail : (xs ys zs : List Entry) → xs ++ ys ≡ xs ++ zs → ys ≡ zs
 same_tail [] ys zs e = e

@@ -1,18 +1,16 @@
 -- Each letter that was shown still names its car.
-use Rattle.std.proofs.Common.{ℕ, ◌≡◌, ◌<◌, ◌⊎◌, Bool, true, false, ◌&&◌, eqb, List, [], ◌∷◌, All, refl, sym, ap, subst, inl, inr, ◌∙◌, arith}
-use Rattle.std.specs.Prelude.{Contains, IsTrue, Some}
+use Rattle.std.proofs.Common.{ℕ, ◌≡◌, ◌<◌, ◌⊎◌, Bool, true, false, ◌&&◌, eqb, List, [], ◌∷◌, refl, sym, ap, subst, inl, inr, ◌∙◌, arith}
+use Rattle.std.specs.Prelude.{Contains}
 use Rattle.std.proofs.lemmas.Bool.{false≢true, and_parts, eqb-true, eq-eqb}
 use Rattle.std.proofs.lemmas.List.Elements.{All-weaker, Contains-append_right, Contains-append_cases}
 use Rattle.lift_base.specs.declared.history.Entry.{Entry}
 use Rattle.lift_base.specs.declared.history.Entry.TheVariants.{Allot, Stop as Stopping}
 use Rattle.lift_base.specs.declared.history.Row.{Row}
 use Rattle.lift_building.specs.Plan.{Plan}
-use Rattle.lift_register.specs.Register.{RegisterState, Call, rows_of, waiting_row, register_of, status}
-use Rattle.lift_register.specs.Status.{Done}
+use Rattle.lift_register.specs.Register.{RegisterState, rows_of, waiting_row, register_of}
 use Rattle.lift_stops.specs.StopList.{StopsInOrder}
 use Rattle.lift_stops.specs.lemmas.Listed.{stops_in_order}
-use Rattle.lift_world.specs.declared.event.Kept.{Kept}
-use Rattle.lift_world.specs.World.{World, outcome, may_keep, acknowledged}
+use Rattle.lift_world.specs.World.{World, outcome, acknowledged}
 use Rattle.lift_world.specs.Headline.{IsHeld, WasLast, IsRowOf, StillNames, RecoversLetters}
 use Rattle.lift_world.specs.lemmas.Entries.{open_or_done, call_of_entry, call_of_row, head_of, only_one, IsRow, IsDoneCall}
 use Rattle.lift_world.specs.lemmas.Decisions.{IsAllotted, held_allotted}

@@ -13,7 +13,6 @@ pub mod Due
 pub mod Failed
 pub mod Calls
 pub mod Turns
-pub mod Cars
 pub mod Replayed
 pub mod Carried
 pub mod Beside

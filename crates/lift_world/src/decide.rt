@@ -1,19 +1,15 @@
 //! One decision.
-ghost use Rattle.std.specs.Prelude.{◌≡◌, Some, None, option_map, slice_set};
-ghost use Rattle.lift_base.specs.declared.command.Body.{Body as BodyValue};
+ghost use Rattle.std.specs.Prelude.{◌≡◌, ◌∷◌, [], Some, None, slice_set};
+ghost use Rattle.lift_base.specs.declared.history.Entry.{Entry as EntryValue};
 ghost use Rattle.lift_base.specs.declared.command.Reply.{Reply as ReplyValue};
-ghost use Rattle.lift_register.specs.Prelude.{rows_of, last_of, IsBalanced};
+ghost use Rattle.lift_register.specs.Prelude.{rows_of, register_of, Fits, IsBalanced};
 ghost use Rattle.lift_stops.specs.StopList.{next_stop};
-ghost use Rattle.lift_policy.specs.Eligible.{eligible_cars};
-ghost use Rattle.lift_world.specs.Carries.{IsCauseOf, StopJoins, CarriesOut, policy_sees};
-ghost use Rattle.lift_world.specs.Decided.{kept_letter, is_among};
+ghost use Rattle.lift_stops.specs.Schedule.{position_after};
+ghost use Rattle.lift_world.specs.Carries.{IsVerdictOf, CarriesOut};
 
-use lift_base::{Body, Content, Entry, Letter, MOST_CARS, Position, Reason, Reply};
+use lift_base::{Entry, Letter, MOST_CARS, Number, Position, Reply, Stop};
 use lift_building::Building;
-use lift_cost::NewCall;
-use lift_policy::{
-    Command, View, call_at, can_take, car_at, first_cause, is_next, schedule_of, schedules_at,
-};
+use lift_policy::{Command, Verdict, View, schedule_of, schedules_at};
 use lift_register::Register;
 
 /// What a decision gives: the reply, and the entry that was accepted with it.
@@ -23,33 +19,18 @@ pub struct Decided {
     pub entry: Option<Entry>,
 }
 
-/// The first cause for which the command is refused.
-fn cause_of(
+/// What the rules make of the command.
+fn verdict_of(
     building: &Building,
     register: &Register,
     positions: &[Option<Position>; MOST_CARS],
     command: &Command,
-) -> Option<Reason>
-    ensures { IsCauseOf building.now register.now positions.now command.now result }
+) -> Verdict
+    ensures { IsVerdictOf building.now register.now positions.now command.now result }
 {
     let schedules = schedules_at(register, positions);
     let view = View::new(register, &schedules);
-    first_cause(building, &view, command)
-}
-
-/// The car is one of those that may take the call now.
-#[tactic(auto, using(crate::proofs::Cars::among_is))]
-fn is_eligible(
-    building: &Building,
-    register: &Register,
-    positions: &[Option<Position>; MOST_CARS],
-    call: &NewCall,
-    car: Letter,
-) -> bool
-    ensures { result ≡ is_among car
-        (eligible_cars building.now (policy_sees register.now positions.now) call.now) }
-{
-    positions[usize::from(car.get())].is_some() && can_take(building, register, *call, car)
+    Verdict::of(building, &view, command)
 }
 
 /// The reply to a command that changes no register.
@@ -59,35 +40,34 @@ fn told(reply: Reply) -> Option<Decided>
     Some(Decided { reply, entry: None })
 }
 
-/// A new call goes to this car, where it is eligible; no other command has one.
+/// A new call goes to this car, where it may take it; no other command has a car.
 fn allot(
     building: &Building,
     register: &mut Register,
     positions: &[Option<Position>; MOST_CARS],
     command: &Command,
+    verdict: &Verdict,
     car: Letter,
 ) -> Option<Decided>
-    requires clear { IsCauseOf building.now register.old positions.now command.now None }
+    requires verdict { IsVerdictOf building.now register.old positions.now command.now verdict.now }
     requires balanced { IsBalanced register.old }
     ensures carries { CarriesOut building.now register.old positions.now command.now (Some car)
         result register.new positions.now }
     ensures balanced { IsBalanced register.new }
 {
-    let (to, party) = match command.body {
-        Body::Call(to, party) if is_next(register, command.terminal, command.number) => (to, party),
-        _ => return None,
+    let Verdict::Call(call, eligible) = verdict else {
+        return None;
     };
-    let call = call_at(building, command.terminal, to, party);
-    if !is_eligible(building, register, positions, &call, car) {
+    if !eligible.letters().contains(&car) {
         return None;
     }
     let entry = Entry::Allot {
         kiosk: command.terminal,
         number: command.number,
         from: call.from,
-        to,
+        to: call.to,
         car,
-        party,
+        party: call.party,
     };
     register.apply(building, &entry);
     Some(Decided {
@@ -96,109 +76,84 @@ fn allot(
     })
 }
 
-/// A repeated call gets its kept letter.
-fn repeat(register: &Register, command: &Command) -> Option<Decided>
-    ensures { result ≡ option_map (λ car. record { reply = ReplyValue.Car car; entry = None })
-        (kept_letter (last_of register.now command.now.terminal)) }
-{
-    let last = register.last(command.terminal)?;
-    match &last.content {
-        Content::Letter { car, .. } => told(Reply::Car(*car)),
-        Content::Stopped { .. } => None,
-    }
-}
-
-/// A stop of a new number joins, a repeated one doesn't.
-fn join(
-    building: &Building,
-    register: &mut Register,
-    positions: &[Option<Position>; MOST_CARS],
-    command: &Command,
-    car: Letter,
-    at: &Position,
-) -> Option<Entry>
-    requires clear { IsCauseOf building.now register.old positions.now command.now None }
-    requires stop { command.now.body ≡ BodyValue.Stop at.now.floor at.now.dir }
-    requires own { car ≡ command.now.terminal }
-    requires balanced { IsBalanced register.old }
-    ensures joined { StopJoins register.old positions.now command.now at.now result register.new }
-    ensures balanced { IsBalanced register.new }
-{
-    if !is_next(register, command.terminal, command.number) {
-        return None;
-    }
-    let entry = Entry::Stop {
-        car,
-        number: command.number,
-        floor: at.floor,
-        dir: at.dir,
-    };
-    register.apply(building, &entry);
-    Some(entry)
-}
-
-/// A stop, and its car stands there.
-fn stop(
-    building: &Building,
-    register: &mut Register,
-    positions: &mut [Option<Position>; MOST_CARS],
-    command: &Command,
-    at: &Position,
-) -> Option<Decided>
-    requires clear { IsCauseOf building.now register.old positions.old command.now None }
-    requires stop { command.now.body ≡ BodyValue.Stop at.now.floor at.now.dir }
-    requires balanced { IsBalanced register.old }
-    ensures carries { CarriesOut building.now register.old positions.old command.now None result
-        register.new positions.new }
-    ensures balanced { IsBalanced register.new }
-{
-    let car = car_at(building, command.terminal);
-    let entry = join(building, register, positions, command, car, at);
-    positions[usize::from(car.get())] = Some(*at);
-    let schedule = schedule_of(register, car, *at);
-    let reply = Reply::Stopped(schedule.next_stop());
-    Some(Decided { reply, entry })
-}
-
-/// The car stands there.
-fn place(
+/// The car stands there. The answer is the stop that it makes next.
+fn stand(
     register: &Register,
     positions: &mut [Option<Position>; MOST_CARS],
     car: Letter,
     at: &Position,
-) -> Reply
+) -> Option<Stop>
     ensures positions { positions.new ≡ slice_set positions.old car (Some at.now) }
-    ensures reply { result ≡ ReplyValue.Placed (next_stop (rows_of register.now car) at.now) }
+    ensures next { result ≡ next_stop (rows_of register.now car) at.now }
 {
     positions[usize::from(car.get())] = Some(*at);
     let schedule = schedule_of(register, car, *at);
-    Reply::Placed(schedule.next_stop())
+    schedule.next_stop()
 }
 
-/// A command without a cause of refusal that is given no car: so a new call isn't decided.
+/// A new stop joins, and its car stands there.
+fn serve(
+    building: &Building,
+    register: &mut Register,
+    positions: &mut [Option<Position>; MOST_CARS],
+    number: Number,
+    car: Letter,
+    stop: &Stop,
+) -> Decided
+    requires fits { Fits building.now register.old
+        (EntryValue.Stop car number stop.now.floor stop.now.dir) }
+    requires balanced { IsBalanced register.old }
+    ensures register { register.new
+        ≡ register_of register.old (EntryValue.Stop car number stop.now.floor stop.now.dir ∷ []) }
+    ensures balanced { IsBalanced register.new }
+    ensures positions { positions.new
+        ≡ slice_set positions.old car (Some (position_after stop.now)) }
+    ensures decided { result ≡ record {
+      reply = ReplyValue.Stopped
+          (next_stop (rows_of register.new car) (position_after stop.now));
+      entry = Some (EntryValue.Stop car number stop.now.floor stop.now.dir);
+    } }
+{
+    let Stop { floor, dir } = *stop;
+    let entry = Entry::Stop {
+        car,
+        number,
+        floor,
+        dir,
+    };
+    register.apply(building, &entry);
+    Decided {
+        reply: Reply::Stopped(stand(register, positions, car, &Position { floor, dir })),
+        entry: Some(entry),
+    }
+}
+
+/// A command that is given no car: so a new call isn't decided.
 fn proceed(
     building: &Building,
     register: &mut Register,
     positions: &mut [Option<Position>; MOST_CARS],
     command: &Command,
+    verdict: &Verdict,
 ) -> Option<Decided>
-    requires clear { IsCauseOf building.now register.old positions.old command.now None }
+    requires verdict { IsVerdictOf building.now register.old positions.old command.now verdict.now }
     requires balanced { IsBalanced register.old }
     ensures carries { CarriesOut building.now register.old positions.old command.now None result
         register.new positions.new }
     ensures balanced { IsBalanced register.new }
 {
-    match command.body {
-        Body::Call(..) if is_next(register, command.terminal, command.number) => None,
-        Body::Call(..) => repeat(register, command),
-        Body::Stop(floor, dir) => {
-            let at = Position { floor, dir };
-            stop(building, register, positions, command, &at)
+    match verdict {
+        Verdict::Refused(reason) => told(Reply::Refused(*reason)),
+        Verdict::Call(..) => None,
+        Verdict::RepeatedCall(car) => told(Reply::Car(*car)),
+        Verdict::Stop(car, stop) => {
+            let number = command.number;
+            Some(serve(building, register, positions, number, *car, stop))
         }
-        Body::Place(floor, dir) => {
-            let car = car_at(building, command.terminal);
-            told(place(register, positions, car, &Position { floor, dir }))
+        Verdict::RepeatedStop(car, at) => {
+            told(Reply::Stopped(stand(register, positions, *car, at)))
         }
+        Verdict::Place(car, at) => told(Reply::Placed(stand(register, positions, *car, at))),
     }
 }
 
@@ -216,10 +171,9 @@ pub fn decide(
         register.new positions.new }
     ensures balanced { IsBalanced register.new }
 {
-    match (cause_of(building, register, positions, command), letter) {
-        (Some(_), Some(_)) => None,
-        (Some(reason), None) => told(Reply::Refused(reason)),
-        (None, Some(car)) => allot(building, register, positions, command, car),
-        (None, None) => proceed(building, register, positions, command),
+    let verdict = &verdict_of(building, register, positions, command);
+    match letter {
+        Some(car) => allot(building, register, positions, command, verdict, car),
+        None => proceed(building, register, positions, command, verdict),
     }
 }

@@ -61,7 +61,8 @@ not_both : (b : Bool) → not b ≡ false → b ≡ true
 not_both true h = refl
 not_both false h = cc
 
-call_fits : (plan : Plan) (state : State) (terminal number to party car : ℕ)
+-- a new call without a cause fits with each eligible car
+pub call_fits : (plan : Plan) (state : State) (terminal number to party car : ℕ)
     → NoCause plan state terminal number (Call to party)
     → is_new state terminal number ≡ true → Contains (cars_for plan state terminal to party) car
     → Fits plan state.register (Allot terminal number (kiosk_floor plan terminal) to car party)
@@ -82,7 +83,8 @@ call_fits plan state terminal number to party car none new held =
       leb-true _ _ room.1,
     )
 
-stop_fits : (plan : Plan) (state : State) (car number floor : ℕ) (dir : Dir)
+-- a new stop without a cause fits
+pub stop_fits : (plan : Plan) (state : State) (car number floor : ℕ) (dir : Dir)
     → NoCause plan state car number (Stop floor dir)
     → is_new state car number ≡ true → Fits plan state.register (Stopping car number floor dir)
 stop_fits plan state car number floor dir none new = (

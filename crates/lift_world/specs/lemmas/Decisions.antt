@@ -1,19 +1,17 @@
 -- What a decision leaves: the register as it was or with one entry more, which has what the reply
 -- tells of.
-use Rattle.std.proofs.Common.{get_or, ℕ, ◌≡◌, ◌≢◌, ◌+◌, ◌-◌, ◌<◌, ◌≤◌, Bool, true, false, not, ◌&&◌}
+use Rattle.std.proofs.Common.{ℕ, ◌≡◌, ◌≢◌, ◌-◌, ◌<◌, ◌≤◌, Bool, true, false}
 use Rattle.std.proofs.Common.{◌||◌, cond, eqb, ltb, leb, List, [], ◌∷◌, ◌++◌, length, drop, Option}
 use Rattle.std.proofs.Common.{Some, None, All, refl, sym, ap, subst, ◌∙◌, inl, inr, arith}
-use Rattle.std.specs.Prelude.{Contains, is_none, is_some, option_and_then, option_map, IsTrue}
-use Rattle.std.specs.List.{list_any}
+use Rattle.std.specs.Prelude.{Contains, is_none, option_and_then, option_map, IsTrue}
 use Rattle.std.specs.Option.{option_map_or}
-use Rattle.std.proofs.lemmas.Bool.{false≢true, both_ways, not-false, or_parts, and_parts, and_from}
-use Rattle.std.proofs.lemmas.Bool.{ltb-true, ltb-false, leb-true, eqb-true, eqb-false, le-leb}
+use Rattle.std.proofs.lemmas.Bool.{false≢true, not-false, and_parts}
+use Rattle.std.proofs.lemmas.Bool.{ltb-true, eqb-true}
 use Rattle.std.proofs.lemmas.Bool.{eq-eqb, cases_lt}
 use Rattle.std.proofs.lemmas.List.Folds.{list_any_at}
 use Rattle.std.proofs.lemmas.List.{append-nil, get_or_past}
 use Rattle.std.proofs.lemmas.List.Elements.{Contains-push, Contains-append_left}
 use Rattle.std.proofs.lemmas.List.Elements.{Contains-append_right, All-nil, All-cons, All-contains}
-use Rattle.std.proofs.lemmas.List.Elements.{filter_passes}
 use Rattle.lift_base.specs.History.{terminal_of}
 use Rattle.lift_base.specs.declared.travel.Dir.{Dir}
 use Rattle.lift_base.specs.declared.travel.Dir.TheVariants.{Up, Down}
@@ -24,23 +22,19 @@ use Rattle.lift_base.specs.declared.history.Last.{Last}
 use Rattle.lift_base.specs.declared.command.Body.{Body}
 use Rattle.lift_base.specs.declared.command.Body.TheVariants.{Call, Stop, Place}
 use Rattle.lift_base.specs.declared.command.Reason.{Reason}
-use Rattle.lift_base.specs.declared.command.Reason.TheVariants.{NoSuchFloor, SameFloor, NoCar}
-use Rattle.lift_base.specs.declared.command.Reason.TheVariants.{OldNumber, GapNumber, OtherBody}
-use Rattle.lift_base.specs.declared.command.Reason.TheVariants.{WrongKind, NotServed}
 use Rattle.lift_base.specs.declared.command.Reply.TheVariants.{Car, Stopped, Placed, Refused}
 use Rattle.lift_base.specs.declared.command.Reply.TheVariants.{Unknown}
 use Rattle.lift_base.specs.Travel.{same_dir}
-use Rattle.lift_building.specs.Plan.{Plan, IsBuilding, CarPlan, car_at, places_of, serves_floor}
-use Rattle.lift_register.specs.Prelude.{RegisterState, cars, rows_of, last_of, last_number, kept_of}
-use Rattle.lift_register.specs.Prelude.{register_of, Fits, persons_of}
+use Rattle.lift_building.specs.Plan.{Plan, IsBuilding, car_at, serves_floor}
+use Rattle.lift_register.specs.Prelude.{RegisterState, last_of, last_number, kept_of}
+use Rattle.lift_register.specs.Prelude.{register_of, Fits}
 use Rattle.lift_register.specs.Fits.{IsPossibleCall}
 use Rattle.lift_register.specs.lemmas.HistoryLemmas.{register_of-append}
-use Rattle.lift_cost.specs.declared.call.NewCall.{NewCall}
 use Rattle.lift_policy.specs.Terminals.{kiosk_floor, has_kiosk, has_car}
-use Rattle.lift_policy.specs.View.{ViewState, position_of}
-use Rattle.lift_policy.specs.Eligible.{is_eligible, can_take, eligible_cars}
-use Rattle.lift_policy.specs.Step.{State, has_cause, first_cause, is_new, is_same, is_kept}
-use Rattle.lift_policy.specs.Step.{accepting, with_car_at, next_from, cars_for, call_at, view_of}
+use Rattle.lift_policy.specs.Step.{State, first_cause, is_new, is_same, is_kept}
+use Rattle.lift_policy.specs.Step.{accepting, with_car_at, next_from, cars_for}
+use Rattle.lift_policy.specs.lemmas.Steps.{NoCause, no_cause, is_last, kept_at, kept_some}
+use Rattle.lift_policy.specs.lemmas.Joins.{serves_car, call_fits, stop_fits}
 use Rattle.lift_world.specs.Decided.{Decision, when, letter_in, kept_letter, is_among, allotted}
 use Rattle.lift_world.specs.Decided.{repeated, proceeding, decided, decided_after}
 use Rattle.lift_world.specs.World.{told_by, state_at}
@@ -66,76 +60,11 @@ IsAllotted building (Allot kiosk number from to car party) =
     IsPossible building kiosk number from to car
 IsAllotted building (Stopping car number floor dir) = Unit {0}
 
-none_both : {X : Type 0} (b : Bool) (x : X) (rest : Option X) → cond b (Some x) rest ≡ None
-    → (b ≡ false) × (rest ≡ None)
-none_both true x rest h = cc
-none_both false x rest h = (refl, h)
-
--- what is known where there is no cause of refusal
-pub record NoCause (building : Plan) (state : State) (terminal number : ℕ)
-    (body : Body) : Type 0 where
-  pub kind : has_cause building state terminal number body WrongKind ≡ false
-  pub floor : has_cause building state terminal number body NoSuchFloor ≡ false
-  pub served : has_cause building state terminal number body NotServed ≡ false
-  pub same : has_cause building state terminal number body SameFloor ≡ false
-  pub other : has_cause building state terminal number body OtherBody ≡ false
-  pub old : has_cause building state terminal number body OldNumber ≡ false
-  pub gap : has_cause building state terminal number body GapNumber ≡ false
-  pub car : has_cause building state terminal number body NoCar ≡ false
-
-pub no_cause : (building : Plan) (state : State) (terminal number : ℕ) (body : Body)
-    → first_cause building state terminal number body ≡ None
-    → NoCause building state terminal number body
-no_cause building state terminal number body h =
-    let a = none_both (has_cause building state terminal number body WrongKind) _ _ h in
-    let b = none_both (has_cause building state terminal number body NoSuchFloor) _ _ a.1 in
-    let c = none_both (has_cause building state terminal number body NotServed) _ _ b.1 in
-    let d = none_both (has_cause building state terminal number body SameFloor) _ _ c.1 in
-    let e = none_both (has_cause building state terminal number body OtherBody) _ _ d.1 in
-    let f = none_both (has_cause building state terminal number body OldNumber) _ _ e.1 in
-    let g = none_both (has_cause building state terminal number body GapNumber) _ _ f.1 in
-    let i = none_both (has_cause building state terminal number body NoCar) _ _ g.1 in
-    record {
-      kind = a.0;
-      floor = b.0;
-      served = c.0;
-      same = d.0;
-      other = e.0;
-      old = f.0;
-      gap = g.0;
-      car = i.0;
-    }
-
--- a number that is neither old nor beyond the next, nor the next, is the last one
-pub is_last : (n last : ℕ) → (eqb n 0 || ltb n last) ≡ false → ltb (last + 1) n ≡ false
-    → eqb n (last + 1) ≡ false → (n ≡ last) × (1 ≤ n)
-is_last n last old gap new =
-    let o = or_parts (eqb n 0) (ltb n last) old in
-    let a : n ≡ 0 → ⊥ = eqb-false n 0 o.0 in
-    let b : last ≤ n = ltb-false n last o.1 in
-    let c : n ≤ last + 1 = ltb-false (last + 1) n gap in
-    let d : n ≡ last + 1 → ⊥ = eqb-false n (last + 1) new in
-    (omega arith, omega arith)
-
-pub kept_at : (n last : ℕ) (k : Bool) → (leb 1 n && eqb n last && not k) ≡ false → n ≡ last → 1 ≤ n
-    → k ≡ true
-kept_at n last true h e p = refl
-kept_at n last false h e p =
-    absurd (both_ways (leb 1 n && eqb n last && true) h
-    (and_from (leb 1 n && eqb n last) true
-    (and_from (leb 1 n) (eqb n last) (le-leb 1 n p) (eq-eqb n last e)) refl))
-
 same_dir-true : (d e : Dir) → same_dir d e ≡ true → d ≡ e
 same_dir-true Up Up h = refl
 same_dir-true Up Down h = cc
 same_dir-true Down Up h = cc
 same_dir-true Down Down h = refl
-
-pub kept_some : (o : Option Last) (body : Body)
-    → option_map_or (λ (l : Last). is_same body l.content) o false ≡ true
-    → (l : Last) × (o ≡ Some l) × (is_same body l.content ≡ true)
-kept_some None body h = cc
-kept_some (Some l) body h = (l, refl, h)
 
 -- the kept letter is that of an entry
 call_held : (building : Plan) (P : Entry → Type 0) (terminal number to party car : ℕ) (l : Last)
@@ -212,34 +141,12 @@ pub held_among : (car : ℕ) (xs : List ℕ) → Contains xs car → is_among ca
 held_among car xs h = list_any_at (λ (c : ℕ).
     eqb c car) xs h.0 car h.1 (ap (λ (c : ℕ). eqb c car) h.2 ∙ eq-eqb car car refl)
 
-eligible_held : (building : Plan) (view : ViewState) (call : NewCall) (car : ℕ)
-    → Contains (eligible_cars building view call) car → is_eligible building view call car ≡ true
-unfolding eligible_cars
-eligible_held building view call car h =
-    All-contains (λ c. is_eligible building view call c ≡ true)
-    (Rattle.std.specs.Prelude.filter (is_eligible building view call) cars) car
-    (filter_passes (is_eligible building view call) cars) h
-
--- a served floor is one of the building's, and its car too
-none_served : (floor : ℕ) → get_or [] floor false ≡ false
-none_served floor = get_or_past [] floor false (omega arith)
-
-served_car : (building : Plan) (car floor : ℕ) → serves_floor building car floor ≡ true
-    → car < length building.cars
-served_car building car floor h = elim (cases_lt car (length building.cars)) [
-  | inl below ↦ below
-  | inr above ↦ absurd (false≢true
-      (sym (ap (λ (c : CarPlan).
-      get_or c.served floor false)
-      (get_or_past building.cars car (record { places = 0; served = [] }) above) ∙ none_served
-      floor) ∙ h))
-]
-
+-- a served floor is one of the building's
 pub served_floor : (building : Plan) (car floor : ℕ) → IsBuilding building
     → serves_floor building car floor ≡ true → floor < building.floors
 served_floor building car floor sound h =
     let is_car = sound.limits.cars car (record { places = 0; served = [] })
-    (served_car building car floor h) in
+    (serves_car building car floor h) in
     elim (cases_lt floor (length (car_at building car).served)) [
       | inl below ↦ (let e = is_car.length in omega arith)
       | inr above ↦ absurd (false≢true
@@ -316,52 +223,6 @@ car_below building terminal sound h =
     let few = sound.limits.few_cars in
     omega arith
 
--- the new entry fits
-pub call_fits : (building : Plan) (here : State) (terminal number : ℕ) (to party car : ℕ)
-    → NoCause building here terminal number (Call to party) → is_new here terminal number ≡ true
-    → is_among car (cars_for building here terminal to party) ≡ true
-    → Fits building here.register
-    (Allot terminal number (kiosk_floor building terminal) to car party)
-call_fits building here terminal number to party car clear new among =
-    let call : NewCall = call_at building terminal to party in
-    let view : ViewState = view_of here in
-    let eligible = eligible_held building view call car
-    (among_held car (eligible_cars building view call) among) in
-    let able = and_parts (is_some (position_of here.positions car))
-    (can_take building here.register call car) eligible in
-    let a = and_parts (serves_floor building car call.from && serves_floor building car to)
-    (leb (persons_of (rows_of here.register car) + party) (places_of building car)) able.1 in
-    let c = and_parts (serves_floor building car call.from) (serves_floor building car to) a.0 in
-    let kind = and_parts (leb 16 terminal) (ltb (terminal - 16) (length building.kiosks))
-    (not-false (has_kiosk building terminal) clear.kind) in (
-      record {
-        of_kiosk = (
-          leb-true 16 terminal kind.0,
-          ltb-true (terminal - 16)
-              (length building.kiosks) kind.1,
-        );
-        from_kiosk = refl;
-        apart = eqb-false (kiosk_floor building terminal) to clear.same;
-        by_car = served_car building car to c.1;
-        served_from = c.0;
-        served_to = c.1;
-      },
-      eqb-true number (last_number here.register terminal + 1) new,
-      leb-true _ _ a.1,
-    )
-
-pub stop_fits : (building : Plan) (here : State) (terminal number : ℕ) (floor : ℕ) (dir : Dir)
-    → NoCause building here terminal number (Stop floor dir) → is_new here terminal number ≡ true
-    → Fits building here.register (Stopping terminal number floor dir)
-stop_fits building here terminal number floor dir clear new =
-    let served = not-false (serves_floor building terminal floor) clear.served in (
-      record {
-        by_car = served_car building terminal floor served;
-        served = served;
-      },
-      eqb-true number (last_number here.register terminal + 1) new,
-    )
-
 module _ (building : Plan) (sound : IsBuilding building) (base : RegisterState) (accepted : List Entry) (sealed : ℕ)
     (positions : List (Option Position)) (terminal number : ℕ) where
   abbrev here : State
@@ -412,7 +273,8 @@ module _ (building : Plan) (sound : IsBuilding building) (base : RegisterState) 
       (record {
         reply = Car car;
         next = accepting here (Allot terminal number (kiosk_floor building terminal) to car party);
-      }) (call_fits building here terminal number to party car clear new el) refl refl refl)
+      }) (call_fits building here terminal number to party car clear new
+      (among_held car (cars_for building here terminal to party) el)) refl refl refl)
   new_call to party car d false clear new el h = cc
 
   letter_known : (to party : ℕ) (letter : Option ℕ) (d : Decision)

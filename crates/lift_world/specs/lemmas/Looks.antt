@@ -34,7 +34,7 @@ use Rattle.lift_world.specs.Possible.{CanBeLookedAt, TakesNeedLooks}
 use Rattle.lift_world.specs.Tie.{TakeFinds, LooksAreTakes}
 use Rattle.lift_world.specs.Turns.{HasRun}
 use Rattle.lift_world.specs.lemmas.Entries.{head_of}
-use Rattle.lift_world.specs.lemmas.Decisions.{NoCause, no_cause, is_last, kept_at, kept_some}
+use Rattle.lift_policy.specs.lemmas.Steps.{NoCause, no_cause, is_last, kept_at, kept_some}
 use Rattle.lift_world.specs.lemmas.Steps.{if_from, match_true, match_false, last_is_made}
 use Rattle.lift_world.specs.lemmas.Steps.{steps_are_takes}
 

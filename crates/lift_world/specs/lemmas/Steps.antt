@@ -32,8 +32,8 @@ use Rattle.lift_world.specs.Decided.{repeated, proceeding, decided, decided_afte
 use Rattle.lift_world.specs.World.{World, state_of, asks}
 use Rattle.lift_world.specs.Next.{next, taking, deciding, may_take}
 use Rattle.lift_world.specs.Tie.{naming, TakesAreSteps, StepsAreTakes}
-use Rattle.lift_world.specs.lemmas.Decisions.{NoCause, no_cause, is_last, kept_at, some_is}
-use Rattle.lift_world.specs.lemmas.Decisions.{among_held, held_among}
+use Rattle.lift_policy.specs.lemmas.Steps.{NoCause, no_cause, is_last, kept_at}
+use Rattle.lift_world.specs.lemmas.Decisions.{some_is, among_held, held_among}
 
 pub mapped : {A B : Type 0} (f : A → B) (o : Option A) (y : B) → option_map f o ≡ Some y
     → (x : A) × (o ≡ Some x) × (f x ≡ y)

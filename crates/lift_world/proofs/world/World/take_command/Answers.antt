@@ -1,4 +1,4 @@
-use Rattle.std.proofs.Common.{rules, ◌≡◌, sym, subst}
+use Rattle.std.proofs.Common.{◌≡◌, sym, subst}
 use Rattle.std.specs.Prelude.{IsSome}
 use Rattle.lift_register.specs.Register.{RegisterState, empty}
 use Rattle.lift_world.specs.World.{World}
