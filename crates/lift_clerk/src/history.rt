@@ -96,6 +96,16 @@ pub fn crash_shows_letters<D: Disk, P: Policy + Drop>(clerk: &Clerk<'_, '_, D, P
 pub fn turn_shows_letters<D: Disk, P: Policy + Drop>(
     clerk: &mut Clerk<'_, '_, D, P>,
 ) -> Result<Counts, KeeperFault>
+    ensures advances { TurnAdvances D.state clerk.old clerk.new result }
+{
+    turn_is_of_the_history(clerk)
+}
+
+/// The same turn, for whoever tests it: also which looks it made, by which calls of the device it
+/// made its batch safe, and which fault it answers.
+pub fn turn_is_of_the_history<D: Disk, P: Policy + Drop>(
+    clerk: &mut Clerk<'_, '_, D, P>,
+) -> Result<Counts, KeeperFault>
     ensures turn { TurnsOnce
         D.state (P.chooses clerk.old.policy) clerk.old clerk.new result }
     ensures advances { TurnAdvances D.state clerk.old clerk.new result }

@@ -15,6 +15,6 @@ pub use counts::Counts;
 pub use group::{ask_once, calls_are_steps, hear_once, pasts_go_on, turn_goes_on};
 pub use history::{
     begin_over, crash_shows_letters, histories_are_runs, reopening_shows_letters,
-    turn_shows_letters,
+    turn_is_of_the_history, turn_shows_letters,
 };
 pub use machine::turns_are_the_machines;

@@ -27,7 +27,7 @@ use crate::line::new_line;
 use crate::witness::{HeardBy, Witness, tell_of};
 use arrayvec::ArrayVec;
 use lift_base::Memory;
-use lift_clerk::{Clerk, Counts, turn_shows_letters};
+use lift_clerk::{Clerk, Counts, turn_is_of_the_history};
 use lift_desk::{ClerkSeat, Desk};
 use lift_disk::Disk;
 use lift_keeper::{Keeper, KeeperFault};
@@ -155,7 +155,7 @@ impl<'d, 'b, D: Disk, P: Policy + Drop, K> HeldClerk<'d, 'b, D, P, K> {
     {
         let mut clerk = self.clerk;
         let was_broken = clerk.keeper().is_broken();
-        let outcome = turn_shows_letters(&mut clerk);
+        let outcome = turn_is_of_the_history(&mut clerk);
         tell_of(witness, was_broken, clerk.keeper().is_broken());
         (HeldClerk::new(clerk), outcome)
     }

@@ -13,6 +13,7 @@ ghost use Rattle.lift_parts.specs.Turns.{first_of};
 ghost use Rattle.lift_relay.specs.Pair.{ComesFrom};
 ghost use Rattle.lift_relay.specs.Pair.{HaveTurned, IfDone, IfRan, IsRun, HaveRun};
 ghost use Rattle.lift_relay.specs.Heard.{FailureHeard};
+ghost use Rattle.lift_parts.specs.Turns.{IsSameAllocator, IsSameFlusher};
 ghost use Rattle.lift_clerk.specs.History.{History};
 ghost use Rattle.lift_parts.specs.History.{GoesOnTo, group_behind};
 
@@ -357,6 +358,8 @@ where
     ensures closed { result.1 ≢ Some (RunFault.Spawn tt) → G.closed gate.now }
     ensures broken { (fault : KeeperFault) → result.1 ≡ Some (RunFault.Keeper fault)
         → flusher.new.writer.is_broken ≡ true }
+    ensures same_allocator { IsSameAllocator allocator.old allocator.new }
+    ensures same_flusher { IsSameFlusher flusher.old flusher.new }
     ensures of_one { AreOfOne allocator.new flusher.new }
     // What was received, and then what the line holds, is what was sent; after a run it holds
     // nothing.

@@ -2,6 +2,7 @@ use Rattle.std.proofs.Common.{sym, ap, ◌∙◌, subst}
 use Rattle.lift_parts.specs.Allocator.{AllocatorState}
 use Rattle.lift_parts.specs.Flusher.{FlusherState}
 use Rattle.lift_relay.specs.Pair.{HaveRun}
+use Rattle.lift_parts.specs.Turns.{IsSameAllocator, IsSameFlusher}
 use Rattle.lift_parts.specs.Parts.{AreOfOne}
 use Rattle.lift_relay.proofs.Queues.{all_received}
 use Rattle.lift_parts.specs.lemmas.Paired.{still_of_one}
@@ -40,6 +41,16 @@ pub returns-clause-broken : goal.returns-clause-broken
 returns-clause-broken g c = λ of is.
     ap (λ (f : FlusherState g.row.D.Denot). f.writer.is_broken) c.compare.ensures.flusher
     ∙ broken_of (g.P.Policy.chooses c.args.allocator.now.policy) g.D.Disk.state c.args.allocator.now c.with_both-told.new.a c.args.flusher.now c.with_both-told.new.b c.with_both-told.result.1 c.with_both-told.ensures.0 of is
+
+pub returns-clause-same_allocator : goal.returns-clause-same_allocator
+returns-clause-same_allocator g c =
+    subst (λ (a : AllocatorState g.row.P.Denot). IsSameAllocator c.args.allocator.now a) (sym c.compare.ensures.allocator)
+    (allocator_of (g.P.Policy.chooses c.args.allocator.now.policy) g.D.Disk.state c.args.allocator.now c.with_both-told.new.a c.args.flusher.now c.with_both-told.new.b c.with_both-told.result.1 c.with_both-told.ensures.0)
+
+pub returns-clause-same_flusher : goal.returns-clause-same_flusher
+returns-clause-same_flusher g c =
+    subst (λ (f : FlusherState g.row.D.Denot). IsSameFlusher c.args.flusher.now f) (sym c.compare.ensures.flusher)
+    (flusher_of (g.P.Policy.chooses c.args.allocator.now.policy) g.D.Disk.state c.args.allocator.now c.with_both-told.new.a c.args.flusher.now c.with_both-told.new.b c.with_both-told.result.1 c.with_both-told.ensures.0)
 
 pub returns-clause-of_one : goal.returns-clause-of_one
 returns-clause-of_one g c =

@@ -7,5 +7,5 @@ pub returns-clause-advances : goal.returns-clause-advances
 returns-clause-advances g c =
     let begun : c.self.inside.clerk ≡ c.args.self = search rules in
     subst (λ (p : ClerkState g.row.D.Denot g.row.P.Denot × ClerkState g.row.D.Denot g.row.P.Denot).
-    TurnAdvances g.D.Disk.state p.0 p.1 c.turn_shows_letters-outcome.result)
-    (λ i. (begun i, sym c.new.ensures i)) c.turn_shows_letters-outcome.ensures.advances
+    TurnAdvances g.D.Disk.state p.0 p.1 c.turn_is_of_the_history-outcome.result)
+    (λ i. (begun i, sym c.new.ensures i)) c.turn_is_of_the_history-outcome.ensures.advances

@@ -1,7 +1,7 @@
--- proofs/history/turn_shows_letters/Answers.antt
+-- proofs/history/turn_is_of_the_history/Answers.antt
 use Rattle.std.proofs.Common.{refl}
 use Rattle.lift_clerk.proofs.Moments.{safe_of, in_doubt_of, doubt_now, turn_advances}
-use Rattle.lift_clerk.proofs.history.turn_shows_letters.Goals as goal
+use Rattle.lift_clerk.proofs.history.turn_is_of_the_history.Goals as goal
 
 pub returns-clause-advances : goal.returns-clause-advances
 returns-clause-advances g c =
