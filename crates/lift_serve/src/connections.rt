@@ -307,10 +307,10 @@ impl Connections {
         ensures lack { IfErr result (λ lacking. lacking ≡ ServeFault.Memory) }
     {
         let number = self.next;
-        let (socket, closer) = arrival.open(alloc)?;
+        let ticket = Ticket { number };
+        let (socket, closer) = arrival.open(alloc, &ticket)?;
         push(&mut self.open, Open { number, closer })?;
         self.next = number.wrapping_add(1);
-        let ticket = Ticket { number };
         Ok((Connection { ticket, socket }, Awaited { number }))
     }
 
@@ -365,7 +365,8 @@ impl Connections {
         }
         self.ended += 1;
         if self.ended == bound.sessions() {
-            self.turn_away(bound);
+            let over = Ok(self.all_ended(bound));
+            self.turn_away(bound, &over);
         }
     }
 
@@ -374,15 +375,15 @@ impl Connections {
         ensures { self.new ≡ record self.old { given_up = Some given_up } }
     {
         self.given_up = Some(given_up);
-        self.turn_away(bound);
+        self.turn_away(bound, &Err(given_up));
     }
 
     /// No more are accepted, and nothing more is read from those that are open: who waits for a line
     /// finds the end, and the others look at this before each read.
-    fn turn_away(&self, bound: &Bound) {
+    fn turn_away(&self, bound: &Bound, over: &Over) {
         bound.reading().is_over.store(true, Ordering::SeqCst);
         self.shut(Shutdown::Read);
-        self.listening.shut();
+        self.listening.shut(over);
     }
 
     /// Shuts down all that are open, that way.

@@ -154,8 +154,8 @@ impl GivenUp {
 }
 
 /// How a serving ended: what it was refused, if anything was, and that so many connections have ended,
-/// unless they haven't. Only `Lacks` make one, of which each serving has one, which end by it: so
-/// nobody hides what was refused it, or tells more.
+/// unless they haven't. Only `Lacks` make one, of which each serving has one, which end by it; or
+/// `unserved`, where there are none: so nobody hides what was refused it, or tells more.
 #[derive(Drop)]
 pub struct ServingEnd {
     fault: Option<Refusal>,
@@ -244,32 +244,32 @@ impl Lacks {
             witness,
         }
     }
+}
 
-    /// Nobody was served, for this, which is told whatever else there was: the keeper and the witness
-    /// as they are.
-    #[tactic(auto, using(lift_relay::specs::lemmas::Heard::heard_none))]
-    pub(crate) fn unserved<'b, D: Disk + Drop, K: Drop, V: Witness + Drop>(
-        self,
-        hindrance: Hindrance,
-        keeper: HeldKeeper<'b, D, K>,
-        witness: V,
-    ) -> Served<'b, D, K, V>
-        ensures keeper { result.keeper ≡ keeper.entry }
-        ensures heard { FailureHeard V.hears keeper.entry.writer.is_broken
-            result.keeper.writer.is_broken witness result.witness }
-        ensures fault { result.end.fault ≡ Some hindrance }
-        ensures ended { result.end.ended ≡ None }
-    {
-        let Lacks { first: _ } = self;
-        let Hindrance { refusal } = hindrance;
-        Served {
-            keeper,
-            end: ServingEnd {
-                fault: Some(refusal),
-                ended: None,
-            },
-            witness,
-        }
+/// Nobody was served, for this: the keeper and the witness as they are. Only a serving that has no
+/// `Connections` yet, and so let nobody in, has its `Untold` still.
+#[tactic(auto, using(lift_relay::specs::lemmas::Heard::heard_none))]
+pub(crate) fn unserved<'b, D: Disk + Drop, K: Drop, V: Witness + Drop>(
+    untold: Untold,
+    hindrance: Hindrance,
+    keeper: HeldKeeper<'b, D, K>,
+    witness: V,
+) -> Served<'b, D, K, V>
+    ensures keeper { result.keeper ≡ keeper.entry }
+    ensures heard { FailureHeard V.hears keeper.entry.writer.is_broken
+        result.keeper.writer.is_broken witness result.witness }
+    ensures fault { result.end.fault ≡ Some hindrance }
+    ensures ended { result.end.ended ≡ None }
+{
+    let _used = untold;
+    let Hindrance { refusal } = hindrance;
+    Served {
+        keeper,
+        end: ServingEnd {
+            fault: Some(refusal),
+            ended: None,
+        },
+        witness,
     }
 }
 

@@ -1,15 +1,25 @@
 //! A clerk's work in two parts, until the parts are one clerk again.
 
-ghost use Rattle.std.specs.Prelude.{◌≡◌, [], Some};
-ghost use Rattle.lift_parts.specs.Parts.{AreOfOne};
+ghost use Rattle.std.specs.Prelude.{◌≡◌, [], Some, List, IfOk, IfErr};
+ghost use Rattle.lift_base.specs.declared.history.Entry.{Entry};
+ghost use Rattle.lift_desk.specs.Seats.{clerk_of};
+ghost use Rattle.lift_register.specs.Register.{RegisterState};
+ghost use Rattle.lift_world.specs.declared.event.Taken.{Taken};
+ghost use Rattle.lift_clerk.specs.History.{History};
+ghost use Rattle.lift_clerk.specs.Steps.{group_of};
+ghost use Rattle.lift_parts.specs.History.{group_behind};
+ghost use Rattle.lift_parts.specs.Parts.{AreOfOne, AreParts};
 ghost use Rattle.lift_relay.specs.Heard.{FailureHeard};
 ghost use Rattle.lift_serve.specs.Relaying.{ComeOf, HaveRunOn, IsLastTurn};
 
+use crate::lacks::{Lacking, part};
+use crate::serving::ServeFault;
 use lift_disk::Disk;
 use lift_policy::Policy;
 use lift_relay::{
     Allocator, Flusher, Gate, HeardBy, HeldClerk, RunFault, Witness, rejoin_held, run,
 };
+use std::alloc::Global;
 use std::snapshot::Snapshot;
 use std::sync::Wait;
 use std::thread::Threads;
@@ -30,6 +40,47 @@ pub struct Parts<'d, 'b, D: Disk + Drop, P: Policy + Drop, K: Drop, V: Witness +
     pub witness: V,
     ghost of_one: { AreOfOne allocator flusher },
     ghost come_of: { ∥ ComeOf P.chooses D.state clerk.value allocator flusher ∥₁ },
+}
+
+impl<'d, 'b, D: Disk + Drop, P: Policy + Drop, K: Drop, V: Witness + Drop> Parts<
+    'd,
+    'b,
+    D,
+    P,
+    K,
+    V,
+> {
+    /// Those of a clerk that has taken and answered nothing at its desk. It comes back as it was where
+    /// memory was wanting for them.
+    #[tactic(auto, using(crate::proofs::Relayings::of_one, crate::proofs::Relayings::come_first))]
+    pub(crate) fn of(
+        alloc: Global,
+        clerk: HeldClerk<'d, 'b, D, P, K>,
+        witness: V,
+    ) -> Result<Self, (HeldClerk<'d, 'b, D, P, K>, Lacking, V)>
+        requires unused { clerk.seat ≡ clerk_of clerk.desk }
+        ensures clerk { IfOk result (λ parts. parts.clerk.value ≡ clerk.entry) }
+        ensures parts { IfOk result (λ parts. AreParts clerk.entry parts.allocator parts.flusher) }
+        // What has happened to the clerk's group goes on behind the flusher.
+        ensures history { IfOk result (λ parts. (base : RegisterState) (entries : List Entry)
+            (given : List Taken) → History base (group_of clerk.entry) entries given
+            → History base (group_behind parts.flusher) entries given) }
+        ensures witness { IfOk result (λ parts. parts.witness ≡ witness) }
+        ensures refused { IfErr result (λ back. (back.0 ≡ clerk.entry) × (back.2 ≡ witness)) }
+        ensures lack { IfErr result (λ back. back.1 ≡ ServeFault.Memory) }
+    {
+        let begun = Snapshot::of(&clerk);
+        match part(alloc, clerk) {
+            Ok((allocator, flusher)) => Ok(Parts {
+                allocator,
+                flusher,
+                clerk: begun,
+                fault: None,
+                witness,
+            }),
+            Err((clerk, lacking)) => Err((clerk, lacking, witness)),
+        }
+    }
 }
 
 /// Both parts, which have not run.

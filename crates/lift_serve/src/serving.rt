@@ -1,9 +1,15 @@
 //! The serving of a building on a socket.
 
-ghost use Rattle.std.specs.Prelude.{◌≡◌, [], Option, None, Some, IfOk, IfErr, IfSome, IsErr};
+ghost use Rattle.std.specs.Prelude.{◌≡◌, [], List, Option, None, Some, IfSome, IsErr};
 ghost use Rattle.std.specs.Prelude.{IsSome, ℕ};
 ghost use Rattle.std.specs.Thread.{IsSend, IsSync};
-ghost use Rattle.lift_desk.specs.Seats.{clerk_of};
+ghost use Rattle.lift_base.specs.declared.history.Entry.{Entry};
+ghost use Rattle.lift_register.specs.Register.{RegisterState};
+ghost use Rattle.lift_world.specs.declared.event.Taken.{Taken};
+ghost use Rattle.lift_clerk.specs.History.{History};
+ghost use Rattle.lift_clerk.specs.Steps.{group_of};
+ghost use Rattle.lift_parts.specs.History.{group_behind};
+ghost use Rattle.lift_parts.specs.Parts.{AreParts};
 ghost use Rattle.lift_serve.specs.Lobby.{AreInOrder, found_seats};
 ghost use Rattle.lift_relay.specs.Heard.{FailureHeard};
 ghost use Rattle.lift_relay.specs.declared.pair.RunFault.{RunFault as Fault};
@@ -11,9 +17,7 @@ ghost use Rattle.lift_serve.specs.Open.{AreEndedAt, EndedState, IsEndAt};
 ghost use Rattle.lift_serve.specs.Relaying.{ComesTo, HaveRunOn, Relayed};
 
 use crate::connections::{Connection, Connections, Left, Over};
-use crate::lacks::{
-    EndAt, GivenUp, Lacking, Lacks, ServingEnd, part, start_accepting, start_session,
-};
+use crate::lacks::{EndAt, GivenUp, ServingEnd, start_accepting, start_session, unserved};
 use crate::lobby::Lobby;
 use crate::opened::{Opened, open};
 use crate::pace::{Bells, Closing, Pace};
@@ -28,7 +32,6 @@ use lift_parts::{parts_are_clerks, turns_keep_what_was_given};
 use lift_policy::Policy;
 use lift_relay::{Gate, HeardBy, HeldClerk, HeldKeeper, Witness};
 use std::alloc::Global;
-use std::snapshot::Snapshot;
 use std::sync::{Mutex, Wait};
 use std::thread;
 use std::thread::{Scope, Threads};
@@ -198,16 +201,15 @@ where
     )
 }
 
-/// The clerk's work is done in two parts while connections are accepted. It turns once more behind
-/// them. Where memory was wanting for the parts the clerk comes back as it was.
-#[tactic(auto, using(crate::proofs::Relayings::of_one, crate::proofs::Relayings::come_first, crate::proofs::Relayings::relayed_on, crate::proofs::Relayings::none_in_hand, crate::proofs::Relayings::all_received))]
+/// The clerk's work is done in its two parts while connections are accepted. It turns once more behind
+/// them.
+#[tactic(auto, using(crate::proofs::Relayings::relayed_on, crate::proofs::Relayings::none_in_hand, crate::proofs::Relayings::all_received))]
 fn run<'d, 'b, R, D, P, K, V>(
     rt: &R,
     alloc: Global,
     shared: Shared<'_, '_>,
-    clerk: HeldClerk<'d, 'b, D, P, K>,
-    witness: V,
-) -> Result<(HeldClerk<'d, 'b, D, P, K>, Over, V), (HeldClerk<'d, 'b, D, P, K>, Lacking, V)>
+    parts: Parts<'d, 'b, D, P, K, V>,
+) -> (HeldClerk<'d, 'b, D, P, K>, Over, V)
 where
     R: Threads + Wait + Clock + Sync,
     D: Disk + Drop,
@@ -215,38 +217,26 @@ where
     K: HeardBy<V> + Drop,
     V: Witness + Drop,
     // Those are let in that speak for a terminal of the keeper's building.
-    requires own { shared.building.now ≡ clerk.keeper.writer.plan }
-    // It has taken and answered nothing at its desk.
-    requires unused { clerk.seat ≡ clerk_of clerk.desk }
-    ensures ran { IfOk result (λ ran.
-        (fault : Option Fault) × Relayed P.chooses D.state clerk.entry ran.0 fault
-        × (fault ≡ Some (Fault.Spawn tt) → IsErr ran.1)) }
-    ensures heard { IfOk result (λ ran. FailureHeard V.hears clerk.entry.keeper.writer.is_broken
-        ran.0.keeper.writer.is_broken witness ran.2) }
-    ensures over { IfOk result (λ ran. IsEndAt shared.entry.bound.now ran.1) }
-    ensures refused { IfErr result (λ back. (back.0 ≡ clerk.entry) × (back.2 ≡ witness)) }
-    ensures lack { IfErr result (λ back. back.1 ≡ ServeFault.Memory) }
+    requires own { shared.building.now ≡ parts.clerk.value.keeper.writer.plan }
+    // They have not run.
+    requires parts { AreParts parts.clerk.value parts.allocator parts.flusher }
+    requires history { (base : RegisterState) (entries : List Entry) (given : List Taken)
+        → History base (group_of parts.clerk.value) entries given
+        → History base (group_behind parts.flusher) entries given }
+    ensures ran { (fault : Option Fault)
+        × Relayed P.chooses D.state parts.entry.clerk.value result.0 fault
+        × (fault ≡ Some (Fault.Spawn tt) → IsErr result.1) }
+    ensures heard { FailureHeard V.hears parts.entry.clerk.value.keeper.writer.is_broken
+        result.0.keeper.writer.is_broken parts.entry.witness result.2 }
+    ensures over { IsEndAt shared.entry.bound.now result.1 }
 {
     turns_keep_what_was_given::<D>();
     parts_are_clerks::<D, P>();
-    let begun = Snapshot::of(&clerk);
-    match part(alloc, clerk) {
-        Ok((allocator, flusher)) => {
-            let parts = Parts {
-                allocator,
-                flusher,
-                clerk: begun,
-                fault: None,
-                witness,
-            };
-            let pace = Pace::new(shared.bells, shared.closing);
-            let (ran, over) = run_beside(rt, alloc, shared, &pace, parts);
-            let mut witness = ran.witness;
-            let clerk = turn_rejoined(ran.allocator, ran.flusher, &mut witness);
-            Ok((clerk, over, witness))
-        }
-        Err((clerk, lacking)) => Err((clerk, lacking, witness)),
-    }
+    let pace = Pace::new(shared.bells, shared.closing);
+    let (ran, over) = run_beside(rt, alloc, shared, &pace, parts);
+    let mut witness = ran.witness;
+    let clerk = turn_rejoined(ran.allocator, ran.flusher, &mut witness);
+    (clerk, over, witness)
 }
 
 /// Serves the keeper's building on a listening socket until so many connections have ended, those
@@ -299,29 +289,29 @@ where
         closer,
     } = match open(alloc, &bound, terminals) {
         Ok(opened) => opened,
-        Err(hindrance) => return Lacks::new(untold).unserved(hindrance, keeper, witness),
+        Err(hindrance) => return unserved(untold, hindrance, keeper, witness),
     };
     let clerk = keeper.at(&desk, clerk, policy);
+    let building = clerk.keeper().building();
     let lobby = Mutex::new(lobby_of(&clerk, &pagers, seats));
+    let parts = match Parts::of(alloc, clerk, witness) {
+        Ok(parts) => parts,
+        Err((clerk, lacking, witness)) => {
+            return unserved(untold, lacking.hinders(), clerk.leave(), witness);
+        }
+    };
     let connections = Mutex::new(Connections::new(alloc, closer, untold));
     let bells = Bells::new(&pagers);
     let closing = Closing::new();
     let shared = Shared {
-        building: clerk.keeper().building(),
+        building,
         bound: &bound,
         lobby: &lobby,
         bells: &bells,
         closing: &closing,
         connections: &connections,
     };
-    match run(rt, alloc, shared, clerk, witness) {
-        Ok((clerk, over, witness)) => {
-            let lacks = connections.into_inner().into_lacks();
-            lacks.behind(over, clerk.leave(), witness)
-        }
-        Err((clerk, lacking, witness)) => {
-            let lacks = connections.into_inner().into_lacks();
-            lacks.unserved(lacking.hinders(), clerk.leave(), witness)
-        }
-    }
+    let (clerk, over, witness) = run(rt, alloc, shared, parts);
+    let lacks = connections.into_inner().into_lacks();
+    lacks.behind(over, clerk.leave(), witness)
 }

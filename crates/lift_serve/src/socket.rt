@@ -59,8 +59,8 @@ pub struct ListeningCloser {
 }
 
 impl ListeningCloser {
-    /// No more are accepted.
-    pub(crate) fn shut(&self) {
+    /// No more are accepted: all have ended that were to end, or all were given up.
+    pub(crate) fn shut(&self, _over: &Over) {
         let _closed = self.view.shutdown(Shutdown::Both);
     }
 }
@@ -78,8 +78,8 @@ impl Arrival {
         Ok(Arrival { stream })
     }
 
-    /// Its socket, and what shuts that down.
-    pub(crate) fn open(self, alloc: Global) -> Result<(Socket, Closer), Lacking>
+    /// Its socket, and what shuts that down: it is let in with this ticket.
+    pub(crate) fn open(self, alloc: Global, _ticket: &Ticket) -> Result<(Socket, Closer), Lacking>
         ensures lack { IfErr result (λ lacking. lacking ≡ ServeFault.Memory) }
     {
         let Arrival { stream } = self;
