@@ -1,18 +1,20 @@
 //! What holds of the machine.
 ghost use Rattle.std.specs.Prelude.{ℕ, ◌≡◌, ◌≢◌, ◌<◌, ◌≤◌, ◌⊎◌, ◌↔◌, false, List, filter, Contains};
-ghost use Rattle.std.specs.Prelude.{IsTrue, ◌||◌, [], ◌∷◌, map, Some};
+ghost use Rattle.std.specs.Prelude.{IsTrue, ◌||◌, [], ◌∷◌, length, map, Some};
 ghost use Rattle.std.specs.List.{AllByRecursion};
 ghost use Rattle.lift_base.specs.History.{terminal_of};
 ghost use Rattle.lift_base.specs.declared.travel.Dir.{Dir};
 ghost use Rattle.lift_base.specs.declared.travel.Position.{Position};
 ghost use Rattle.lift_base.specs.declared.history.Entry.{Entry};
 ghost use Rattle.lift_base.specs.declared.history.Entry.TheVariants.{Allot};
+ghost use Rattle.lift_base.specs.declared.history.Last.{Last};
 ghost use Rattle.lift_base.specs.declared.history.Row.{Row};
 ghost use Rattle.lift_base.specs.declared.command.Body.TheVariants.{Call as Calling};
 ghost use Rattle.lift_base.specs.declared.command.Body.TheVariants.{Stop as Stopping, Place};
 ghost use Rattle.lift_building.specs.Plan.{Plan, IsBuilding};
 ghost use Rattle.lift_register.specs.Register.{RegisterState, Call, rows_of, last_of, calls_of};
 ghost use Rattle.lift_register.specs.Register.{register_of, kept_of, waiting_row, status};
+ghost use Rattle.lift_register.specs.Fits.{IsPossibleLast};
 ghost use Rattle.lift_register.specs.Status.{Done};
 ghost use Rattle.lift_stops.specs.StopList.{stop_list, is_halt_of, halts_of};
 ghost use Rattle.lift_policy.specs.Step.{State};
@@ -174,12 +176,18 @@ pub fn policies_are_covered<P: Policy>()
     ensures runs { (policy : P) → RunsAreAny (P.chooses policy) }
 {}
 
-/// What definitions of these laws say, spelled out. An entry is held where it is among the
+/// What definitions of these laws say, spelled out. A register is of a building where it has places
+/// for 16 cars and 63 terminals, and the building allows what each terminal said last. An entry is held where it is among the
 /// recovered ones, or the journal began with it as its terminal's last command. A letter still names
 /// its car where the call is open there, with its remaining stops in order in the car's list
 /// wherever the car is, or is done, or was done before. Asks alone are bound to ranges: those of
 /// their types, and the 63 terminals. All events go on but a cut and a reopening.
 pub fn definitions_are_exact()
+    ensures of_building { (building : Plan) (register : RegisterState)
+        → IsOfBuilding building register
+        ↔ ((length register.rows ≡ 16) × (length register.lasts ≡ 63)
+        × ((terminal : ℕ) (last : Last) → last_of register terminal ≡ Some last
+        → IsPossibleLast building terminal last.content)) }
     ensures held { (base : RegisterState) (entries : List Entry) (entry : Entry)
         → IsHeld base entries entry ↔ (Contains entries entry
         ⊎ (last_of base (terminal_of entry) ≡ Some (kept_of entry))) }

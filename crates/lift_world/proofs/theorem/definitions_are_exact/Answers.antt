@@ -10,6 +10,10 @@ use Rattle.lift_world.specs.Lawful.{IsTypedEvent}
 use Rattle.lift_world.specs.Faults.{goes_on}
 use Rattle.lift_world.proofs.theorem.definitions_are_exact.Goals as goal
 
+pub returns-clause-of_building : goal.returns-clause-of_building
+returns-clause-of_building c building register =
+    (λ k. (k.row_count, k.last_count, k.lasts), λ k. record { row_count = k.0; last_count = k.1; lasts = k.2 })
+
 pub returns-clause-open_call : goal.returns-clause-open_call
 returns-clause-open_call c base entries kiosk number from to car party =
     (λ k. (k.row, k.is, k.is_open, k.in_order), λ k. record { row = k.0; is = k.1; is_open = k.2; in_order = k.3 })
