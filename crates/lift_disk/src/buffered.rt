@@ -1,12 +1,11 @@
 //! A device that reads ahead, and holds neighbouring writes back until it makes them as one.
-ghost use Rattle.std.specs.Prelude.{◌≡◌, ◌≤◌, ◌<◌, ◌+◌, ◌++◌, [], ◌∷◌, ℕ, List, length, Some};
-ghost use Rattle.std.specs.Prelude.{slice_get, IsTrue, OnOk, IfSome, IfNone, ◌↔◌};
+ghost use Rattle.std.specs.Prelude.{◌≡◌, ◌≤◌, ◌<◌, ◌+◌, [], ℕ, List, length, Some};
+ghost use Rattle.std.specs.Prelude.{slice_get, IsTrue, OnOk, OnErr, IfSome, IfNone, ◌↔◌};
 ghost use Rattle.lift_disk.specs.Disk.{CountsFault, KeepsWrites, MayLeave};
 ghost use Rattle.lift_disk.specs.Runs.{Announces, GivesRun, HoldsRun, IsInRun};
 ghost use Rattle.lift_disk.specs.Runs.{MakesCalls, Loosens, Rests};
 ghost use Rattle.lift_disk.specs.Runs.{left_with, left_without, run_calls, run_loose, run_whole};
 ghost use Rattle.lift_disk.specs.Runs.{with_run};
-ghost use Rattle.lift_disk.specs.Trace.Access.{Sync};
 
 use crate::runs::{Ahead, MOST_AHEAD, RunDisk};
 use crate::trace::{Made, ProofTrace};
@@ -165,6 +164,7 @@ impl<R: RunDisk + Drop> Buffered<R> {
             → MakesCalls result (run_calls self.old.from self.old.pending.items)
             (R.state self.old.device) (R.state self.new.device) }
         ensures alone { OnOk result (¬ CanWait self.old sector → self.new.pending.items ≡ []) }
+        ensures failed { OnErr result (self.new.pending.items ≡ []) }
         ensures next { OnOk result (self.new.from + length self.new.pending.items ≡ sector) }
         ensures room { OnOk result (length self.new.pending.items < 16) }
         ensures faults { CountsFault result (R.state self.old.device) (R.state self.new.device) }
@@ -235,7 +235,7 @@ impl<R: RunDisk + Drop> Buffered<R> {
 }
 
 impl<R: RunDisk + Drop> Disk for Buffered<R> {
-    ghost use Rattle.lift_disk.specs.Below.{GivesBelow, HoldsBack};
+    ghost use Rattle.lift_disk.specs.Below.{GivesBelow, HoldsBack, SyncsBelow};
     ghost use Rattle.lift_disk.specs.Runs.{buffered};
 
     ghost state = { λ d. buffered (R.state d.device) d.from d.pending.items d.calls.count
@@ -250,9 +250,7 @@ impl<R: RunDisk + Drop> Disk for Buffered<R> {
         HoldsBack R.state old sector bytes result new };
 
     // it has that write, if any was held back, and then a sync
-    ghost sync_gives = { λ old result new. MakesCalls result
-        (run_calls old.from old.pending.items ++ Sync ∷ []) (R.state old.device)
-        (R.state new.device) };
+    ghost sync_gives = { λ old result new. SyncsBelow R.state old result new };
 
     ghost whole = { λ d honest.
         run_whole d.pending.items d.from (R.state d.device).image (R.state d.device).size

@@ -1,18 +1,20 @@
 //! What holds of the machine.
 ghost use Rattle.std.specs.Prelude.{ℕ, ◌≡◌, ◌≢◌, ◌<◌, ◌≤◌, ◌⊎◌, ◌↔◌, false, List, filter, Contains};
-ghost use Rattle.std.specs.Prelude.{IsTrue, ◌||◌, [], ◌∷◌, map, Some};
+ghost use Rattle.std.specs.Prelude.{IsTrue, ◌||◌, [], ◌∷◌, length, map, Some};
 ghost use Rattle.std.specs.List.{AllByRecursion};
 ghost use Rattle.lift_base.specs.History.{terminal_of};
 ghost use Rattle.lift_base.specs.declared.travel.Dir.{Dir};
 ghost use Rattle.lift_base.specs.declared.travel.Position.{Position};
 ghost use Rattle.lift_base.specs.declared.history.Entry.{Entry};
 ghost use Rattle.lift_base.specs.declared.history.Entry.TheVariants.{Allot};
+ghost use Rattle.lift_base.specs.declared.history.Last.{Last};
 ghost use Rattle.lift_base.specs.declared.history.Row.{Row};
 ghost use Rattle.lift_base.specs.declared.command.Body.TheVariants.{Call as Calling};
 ghost use Rattle.lift_base.specs.declared.command.Body.TheVariants.{Stop as Stopping, Place};
 ghost use Rattle.lift_building.specs.Plan.{Plan, IsBuilding};
 ghost use Rattle.lift_register.specs.Register.{RegisterState, Call, rows_of, last_of, calls_of};
 ghost use Rattle.lift_register.specs.Register.{register_of, kept_of, waiting_row, status};
+ghost use Rattle.lift_register.specs.Fits.{IsPossibleLast};
 ghost use Rattle.lift_register.specs.Status.{Done};
 ghost use Rattle.lift_stops.specs.StopList.{stop_list, is_halt_of, halts_of};
 ghost use Rattle.lift_policy.specs.Step.{State};
@@ -231,10 +233,16 @@ pub fn definitions_are_exact()
         ↔ (((kept : Kept) → event ≢ Cut kept) × ((kept : Kept) → event ≢ Reopen kept)) }
 {}
 
-/// What the premises of these laws hold of: in which phases a device call of a batch may fail; which
-/// events are device calls, which are a flusher's, and which leave the outcomes; and which looks
-/// stand.
+/// What the premises of these laws hold of. A register is of a building where it has places for 16
+/// cars and 63 terminals, and the building allows what each terminal said last. The others say in
+/// which phases a device call of a batch may fail; which events are device calls, which are a
+/// flusher's, and which leave the outcomes; and which looks stand.
 pub fn premises_are_exact()
+    ensures of_building { (building : Plan) (register : RegisterState)
+        → IsOfBuilding building register
+        ↔ ((length register.rows ≡ 16) × (length register.lasts ≡ 63)
+        × ((terminal : ℕ) (last : Last) → last_of register terminal ≡ Some last
+        → IsPossibleLast building terminal last.content)) }
     ensures fails_writing { (writes n : ℕ) → MayFailIn writes (Writing n) ↔ (n ≤ writes) }
     ensures fails_gate { (writes : ℕ) → MayFailIn writes GateWritten }
     ensures device_calls { AllByRecursion (λ (e : Event). IsTrue (is_device_call e))

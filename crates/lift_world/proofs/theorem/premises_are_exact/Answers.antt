@@ -5,6 +5,10 @@ use Rattle.lift_world.specs.declared.event.Event.TheVariants.{Gate, SecondSync, 
 use Rattle.lift_world.specs.Outcomes.{moves_outcomes}
 use Rattle.lift_world.proofs.theorem.premises_are_exact.Goals as goal
 
+pub returns-clause-of_building : goal.returns-clause-of_building
+returns-clause-of_building c building register =
+    (λ k. (k.row_count, k.last_count, k.lasts), λ k. record { row_count = k.0; last_count = k.1; lasts = k.2 })
+
 pub returns-clause-fails_writing : goal.returns-clause-fails_writing
 returns-clause-fails_writing c writes n = (λ k. k, λ k. k)
 

@@ -23,7 +23,10 @@ pub returns-in_err-flush-clause-own : goal.returns-in_err-flush-clause-own
 returns-in_err-flush-clause-own g c =
     let d = c.args.self.now in
     let fault = err_from_is_err_and c.from_residual.result c.from_residual.ensures.1 in
-    rw fault.1 (record {
-      ok = tt;
-      err = ends_there (run_calls d.from d.pending.items) (Sync ∷ []) (g.R.Disk.state d.device) (g.R.Disk.state c.flush.new.self.device) c.in_err-flush.ensures.made.err;
-    })
+    record {
+      made = rw fault.1 (record {
+        ok = tt;
+        err = ends_there (run_calls d.from d.pending.items) (Sync ∷ []) (g.R.Disk.state d.device) (g.R.Disk.state c.flush.new.self.device) c.in_err-flush.ensures.made.err;
+      });
+      none_held = c.flush.ensures.none;
+    }
