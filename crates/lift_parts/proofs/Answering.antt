@@ -17,7 +17,7 @@ use Rattle.lift_desk.specs.declared.view.ClerkView.{ClerkView}
 use Rattle.lift_desk.specs.declared.words.Ask.{Ask}
 use Rattle.lift_desk.specs.Words.{reply_word}
 use Rattle.lift_desk.specs.Spelled.{ask_words, IsAsk}
-use Rattle.lift_desk.specs.Steps.{with_taking}
+use Rattle.lift_desk.specs.Steps.{with_taking, with_answer}
 use Rattle.lift_desk.specs.Seats.{ClerkPlace, no_place, view_at, placed_at, TakesOf}
 use Rattle.lift_desk.specs.lemmas.Places.{view_at-here, view_at-else}
 use Rattle.lift_policy.specs.declared.command.Command.{Command}
@@ -26,7 +26,7 @@ use Rattle.lift_world.specs.declared.event.Taken.{Taken as Held}
 use Rattle.lift_world.specs.World.{asks, is_answer_to}
 use Rattle.lift_world.specs.Next.{answer_of, unknown_to}
 use Rattle.lift_clerk.specs.Scanning.{reply_told}
-use Rattle.lift_clerk.specs.Visits.{Visit, with_reply}
+use Rattle.lift_clerk.specs.Visits.{Visit}
 use Rattle.lift_clerk.specs.lemmas.Visiting.{taken-new}
 use Rattle.lift_clerk.specs.lemmas.Words.{asks_both, asks_count, answers_both, answers_long}
 use Rattle.lift_parts.specs.declared.taken.Taken.{Taken}
@@ -80,30 +80,28 @@ module _ (is_safe : Bool) (places next : List ClerkPlace) (taken : Taken) where
   old = view_at places t
 
   -- the terminal's words, once its look was answered
-  abbrev told : ℕ → Option Ask → ClerkView
-  told word found = with_reply (with_taking old word) found (reply_told is_safe taken.reply ∷ [])
+  abbrev told : ℕ → ClerkView
+  told word = with_answer (with_taking old word) (reply_word (suc (length old.taken)) taken.command.number (reply_told is_safe taken.reply))
 
   own : (word : ℕ) (found : Option Ask) → AnswersOne is_safe places taken (record { word = word; found = found }) next → t < length places
       → Grown old (view_at next t) (taken.command ∷ []) (answer_told is_safe taken ∷ [])
   own word found k inside =
       let ask : Ask = ask_of taken.command in
-      let now : view_at next t ≡ told word (Some ask) =
-      ap (λ (s : List ClerkPlace). view_at s t) k.answered ∙ view_at-here places t (told word found) inside ∙ ap (told word) k.gives in
+      let now : view_at next t ≡ told word = ap (λ (s : List ClerkPlace). view_at s t) k.answered ∙ view_at-here places t (told word) inside in
       let reads : TakesOf old word (Some ask) = subst (TakesOf old word) k.gives k.finds.reads in
       let even : length old.answered ≡ length old.taken =
       subst (λ (o : Option Ask). IsSome o → length old.answered ≡ length old.taken) k.gives k.finds.even refl in
       let more : (with_taking old word).taken ≡ old.taken ++ word ∷ [] = taken-new old word reads.0 in
-      let count : length (with_taking old word).taken ≡ suc (length old.answered) = omega (arith, ap length more, length-append old.taken (word ∷ [])) in
       record {
         taken = ap (λ (v : ClerkView). v.taken) now ∙ more ∙ ap (λ (n : ℕ). old.taken ++ n ∷ []) reads.1;
-        answered = ap (λ (v : ClerkView). v.answered) now ∙ ap (λ (n : ℕ). old.answered ++ reply_word n taken.command.number (reply_told is_safe taken.reply) ∷ []) count;
+        answered = ap (λ (v : ClerkView). v.answered) now ∙ ap (λ (n : ℕ). old.answered ++ reply_word (suc n) taken.command.number (reply_told is_safe taken.reply) ∷ []) (sym even);
       }
 
   pub other : (visit : Visit) (j : ℕ) → j ≢ t → AnswersOne is_safe places taken visit next → view_at next j ≡ view_at places j
-  other visit j apart k = ap (λ (s : List ClerkPlace). view_at s j) k.answered ∙ view_at-else places t j (told visit.word visit.found) apart
+  other visit j apart k = ap (λ (s : List ClerkPlace). view_at s j) k.answered ∙ view_at-else places t j (told visit.word) apart
 
   pub same_long : (visit : Visit) → AnswersOne is_safe places taken visit next → length next ≡ length places
-  same_long visit k = ap length k.answered ∙ length-set places t (placed_at (get_or places t no_place).table (told visit.word visit.found))
+  same_long visit k = ap length k.answered ∙ length-set places t (placed_at (get_or places t no_place).table (told visit.word))
 
 -- all of them
 abbrev pub here : ℕ → List Taken → List Command

@@ -37,10 +37,11 @@ use Rattle.lift_clerk.specs.lemmas.Adding.{failed, turned_while_broken}
 use Rattle.lift_clerk.specs.lemmas.Keeps.{kept_now}
 use Rattle.lift_parts.specs.declared.counts.FlushCounts.{FlushCounts}
 use Rattle.lift_parts.specs.Batch.{BatchState, state_with_entries, AreBelow, commands_in, replies_in, entries_of_batches}
-use Rattle.lift_parts.specs.Flusher.{FlusherState, IsFlusher, IsEmptyTurn, IsBatchTurn, Answered, entries_between}
+use Rattle.lift_parts.specs.Flusher.{FlusherState, IsFlusher, IsEmptyTurn, IsBatchTurn, Answered}
 use Rattle.lift_parts.specs.Turns.{NoFlush, OneFlush}
 use Rattle.lift_parts.specs.History.{group_behind, held_in, Adds, GoesOnTo, FlushStands, FlushesStand, TurnsGoOn, SplitsGoOn, JoinedGoOn}
 use Rattle.lift_parts.specs.Past.{flush_events, FlushLeadsOn, FlushesLeadOn, SplitsKeepPasts, JoinedKeepPasts}
+use Rattle.lift_parts.specs.lemmas.Received.{entries_between, commits_to}
 use Rattle.lift_parts.proofs.Answering.{replies_of, held_is, answers_them}
 
 is_whole : (b : Bool) → (b ≡ true → ⊥) → b ≡ false
@@ -425,13 +426,13 @@ module _ {D : Type 0} (state : D → DiskState) (crashes : CrashesKeep D) (law :
 
 pub flushes_stand : {D : Type 0} (state : D → DiskState) → CrashesKeep D → MomentsKeep D state → FlushesStand D state
 flushes_stand state crashes law f g answer k base safe given h =
-    ⊎_elim (λ e. empty_stands state crashes law f g base safe given h answer e k.commits)
-    (λ t. batch_stands state crashes law f g base safe given h k.before k.same.0 t.0 answer t.1 k.commits) k.turns
+    ⊎_elim (λ e. empty_stands state crashes law f g base safe given h answer e (commits_to state f g answer k))
+    (λ t. batch_stands state crashes law f g base safe given h k.before k.same.0 t.0 answer t.1 (commits_to state f g answer k)) k.turns
 
 pub flushes_lead_on : {D : Type 0} (state : D → DiskState) → CrashesKeep D → MomentsKeep D state → PastsGoOn D → FlushesLeadOn D state
 flushes_lead_on state crashes law past f g answer k w terminals safe given p takes =
-    ⊎_elim (λ e. empty_leads state crashes law f g w.base safe given p.history answer e k.commits w terminals p)
-    (λ t. batch_leads state crashes law f g w.base safe given p.history k.before k.same.0 t.0 past w terminals p takes answer t.1 k.commits) k.turns
+    ⊎_elim (λ e. empty_leads state crashes law f g w.base safe given p.history answer e (commits_to state f g answer k) w terminals p)
+    (λ t. batch_leads state crashes law f g w.base safe given p.history k.before k.same.0 t.0 past w terminals p takes answer t.1 (commits_to state f g answer k)) k.turns
 
 -- ---- any number of turns
 entries_both : (xs ys : List BatchState) → entries_of_batches (xs ++ ys) ≡ entries_of_batches xs ++ entries_of_batches ys

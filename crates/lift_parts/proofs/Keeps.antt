@@ -8,13 +8,14 @@ use Rattle.lift_parts.specs.Flusher.{FlusherState}
 use Rattle.lift_parts.specs.Turns.{FlusherTurns, NoFlush, OneFlush}
 use Rattle.lift_parts.specs.History.{FlushesStand, group_behind}
 use Rattle.lift_parts.specs.Keeping.{HaveKept, NoneYet, OneKept, TurnsKeep}
+use Rattle.lift_parts.specs.lemmas.Received.{commits_to}
 use Rattle.lift_parts.proofs.Behind.{leaves_behind}
 
 module _ {D : Type 0} (state : D → DiskState) where
   -- each turn leaves what is safe or in doubt
   leaves_on : (f g : FlusherState D) (first last : Option KeeperFault) → LeavesSafe f.writer (state f.writer.device) → FlusherTurns state f first g last → LeavesSafe g.writer (state g.writer.device)
   leaves_on f g first last leaves NoFlush = leaves
-  leaves_on f g first last leaves (OneFlush {g = m} {first = before} {answer = answer} more flush is) = leaves_behind state m g answer flush.commits (leaves_on f m first before leaves more)
+  leaves_on f g first last leaves (OneFlush {g = m} {first = before} {answer = answer} more flush is) = leaves_behind state m g answer (commits_to state m g answer flush) (leaves_on f m first before leaves more)
 
   pub turns_keep : CrashesKeep D → FlushesStand D state → TurnsKeep D state
   turns_keep law stand f g first last base safe given h NoFlush =

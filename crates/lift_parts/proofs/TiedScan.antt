@@ -30,7 +30,7 @@ use Rattle.lift_world.specs.Among.{StandsAsk}
 use Rattle.lift_world.specs.Headline.{AsksOneByOne}
 use Rattle.lift_world.specs.Turns.{AreFound}
 use Rattle.lift_clerk.specs.Turn.{settled}
-use Rattle.lift_clerk.specs.Visits.{Visit, command_at, commands_of, served}
+use Rattle.lift_clerk.specs.Visits.{Visit, command_at, commands_of}
 use Rattle.lift_clerk.specs.Machine.{IsReached}
 use Rattle.lift_clerk.specs.lemmas.Lists.{no_asks}
 use Rattle.lift_clerk.specs.lemmas.Served.{behind}
@@ -39,7 +39,8 @@ use Rattle.lift_clerk.specs.lemmas.Words.{asks_both, asks_count}
 use Rattle.lift_clerk.specs.lemmas.Visiting.{taken-new, taken-old}
 use Rattle.lift_clerk.specs.declared.counts.Counts.{Counts}
 use Rattle.lift_parts.specs.Batch.{BatchState, AreBelow, replies_in}
-use Rattle.lift_parts.specs.Scan.{TakesAt, TakesEach}
+use Rattle.lift_parts.specs.Scan.{TakesAt, TakesEach, looked_at}
+use Rattle.lift_parts.specs.lemmas.Looking.{length-looked}
 use Rattle.lift_parts.specs.Allocator.{AllocatorState, IsScanTurn}
 use Rattle.lift_parts.specs.Flusher.{FlusherState}
 use Rattle.lift_parts.specs.Laws.{RelayLaws}
@@ -262,15 +263,13 @@ same_behind [] (y ∷ ys) us vs l e = absurd (omega arith)
 same_behind (x ∷ xs) [] us vs l e = absurd (omega arith)
 same_behind (x ∷ xs) (y ∷ ys) us vs l e = same_behind xs ys us vs (omega arith) (cc)
 
-pub served_first : (place : ClerkPlace) (places : List ClerkPlace) (word : ℕ) (found : Option Ask) (visits : List Visit)
-    → (view_at (served (place ∷ places) (record { word = word; found = found } ∷ visits) []) 0).taken ≡ (with_taking place.view word).taken
-served_first place places word None visits = refl
-served_first place places word (Some ask) visits = refl
+pub looked_first : (place : ClerkPlace) (places : List ClerkPlace) (word : ℕ) (found : Option Ask) (visits : List Visit)
+    → (view_at (looked_at (place ∷ places) (record { word = word; found = found } ∷ visits)) 0).taken ≡ (with_taking place.view word).taken
+looked_first place places word found visits = refl
 
-pub served_behind : (place : ClerkPlace) (places : List ClerkPlace) (word : ℕ) (found : Option Ask) (visits : List Visit) (k : ℕ)
-    → view_at (served (place ∷ places) (record { word = word; found = found } ∷ visits) []) (suc k) ≡ view_at (served places visits []) k
-served_behind place places word None visits k = refl
-served_behind place places word (Some ask) visits k = refl
+pub looked_behind : (place : ClerkPlace) (places : List ClerkPlace) (word : ℕ) (found : Option Ask) (visits : List Visit) (k : ℕ)
+    → view_at (looked_at (place ∷ places) (record { word = word; found = found } ∷ visits)) (suc k) ≡ view_at (looked_at places visits) k
+looked_behind place places word found visits k = refl
 
 pub asked_same : (w : World) (t : ℕ) (u v : ClerkView) → u.taken ≡ v.taken → TakesAsked w.asked t u → TakesAsked w.asked t v
 asked_same w t u v e k = record { ahead = subst (λ (xs : List ℕ). IsAhead (ask_words 1 (map ask_of (filter (asks t) w.asked))) xs) e k.ahead; in_range = k.in_range }
@@ -303,14 +302,14 @@ module _ (laws : RelayLaws) (w : World) (reached : IsReached w) (only : OnlyQueu
       ((at.reads.0, k.1), (k.0, tt))
 
   pub looks_from : (first : ℕ) (places : List ClerkPlace) (visits : List Visit) → ((k t : ℕ) → t ≡ first + k → view_at places k ≡ ahead t) → TakesEach places visits
-      → ((k t : ℕ) → t ≡ first + k → TakesAsked w.asked t (view_at (served places visits []) k)) → Reads places visits × AllStand (commands_of first visits)
+      → ((k t : ℕ) → t ≡ first + k → TakesAsked w.asked t (view_at (looked_at places visits) k)) → Reads places visits × AllStand (commands_of first visits)
   looks_from first places [] same takes asked = (tt, tt)
   looks_from first [] (u ∷ visits) same takes asked = absurd takes
   looks_from first (p ∷ places) (u ∷ visits) same takes asked =
       let here = look_at first p (same 0 first (omega arith)) u.word u.found takes.0
-      (asked_same w first (view_at (served (p ∷ places) (u ∷ visits) []) 0) (with_taking p.view u.word) (served_first p places u.word u.found visits) (asked 0 first (omega arith))) in
+      (asked_same w first (view_at (looked_at (p ∷ places) (u ∷ visits)) 0) (with_taking p.view u.word) (looked_first p places u.word u.found visits) (asked 0 first (omega arith))) in
       let rest = looks_from (suc first) places visits (λ k t e. same (suc k) t (omega arith)) takes.1
-      (λ k t e. subst (TakesAsked w.asked t) (served_behind p places u.word u.found visits k) (asked (suc k) t (omega arith))) in
+      (λ k t e. subst (TakesAsked w.asked t) (looked_behind p places u.word u.found visits k) (asked (suc k) t (omega arith))) in
       ((here.0, rest.0), all_both (command_at first u.found) (commands_of (suc first) visits) here.1 rest.1)
 
   -- so they are found
@@ -333,7 +332,7 @@ module _ (laws : RelayLaws) (w : World) (reached : IsReached w) (only : OnlyQueu
 -- ---- what the looks leave
 abbrev Later : List ClerkPlace → List Visit → ℕ → Type 0
 Later places visits first = (k t : ℕ) → t ≡ first + k
-    → (view_at (served places visits []) k).taken ≡ (view_at places k).taken ++ ask_words (suc (length (view_at places k).taken)) (map ask_of (filter (asks t) (commands_of first visits)))
+    → (view_at (looked_at places visits) k).taken ≡ (view_at places k).taken ++ ask_words (suc (length (view_at places k).taken)) (map ask_of (filter (asks t) (commands_of first visits)))
 
 none_more : (xs : List ℕ) (t n : ℕ) (cs : List Command) → AreOthers t cs → xs ≡ xs ++ ask_words n (map ask_of (filter (asks t) cs))
 none_more xs t n cs others = sym (append-nil xs) ∙ ap (λ (ds : List Command). xs ++ ask_words n (map ask_of ds)) (sym (no_asks t cs others))
@@ -393,9 +392,6 @@ have_room a f q = (
   (q.items ++ a.hand, ap (λ (xs : List BatchState). xs ++ a.hand) q.in_order ∙ append_assoc f.end.received q.items a.hand),
 )
 
-length-served : (places : List ClerkPlace) (visits : List Visit) → length (served places visits []) ≡ length places
-length-served places visits = Rattle.lift_clerk.specs.lemmas.Visiting.length-served places visits []
-
 empty_run : (plan : Plan) (choice : Choice) (state next : State) (cs : List Command) (rs : List Reply) → cs ≡ [] → Run plan choice state cs rs next → next ≡ state
 empty_run plan choice state next [] [] e r = r
 empty_run plan choice state next [] (reply ∷ rs) e r = absurd r
@@ -414,7 +410,7 @@ nothing_taken {D} {P} choice w a b f counts t none m =
     let same : t.decided ≡ a.state = empty_run a.plan choice a.state t.decided (commands_of 0 t.visits) (replies_in t.batch.commands) none t.run in
     let empty : a.state.batch ≡ [] = ap (λ (x : State). x.batch) (sym q) ∙ nothing_gathered w m.between in
     t.after ∙ ap settled same ∙ ap (λ (xs : List Entry). record a.state { batch = xs }) (sym empty))
-    (ap (λ (x : List ClerkPlace). length x) t.looked ∙ length-served a.seat t.visits)
+    (ap (λ (x : List ClerkPlace). length x) t.looked ∙ length-looked a.seat t.visits)
     (t.nothing none).0
     (λ k. nothing_seen choice a b counts t none k)
     m

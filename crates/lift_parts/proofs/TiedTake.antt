@@ -27,12 +27,14 @@ use Rattle.lift_world.specs.Relay.{IsBetweenScans, flown, allocated, allocator_e
 use Rattle.lift_world.specs.Turns.{AreFound, with_replies}
 use Rattle.lift_world.specs.lemmas.Ordered.{end_above}
 use Rattle.lift_world.specs.lemmas.Steps.{GoesOn, state_goes_on, steps_go_on}
-use Rattle.lift_clerk.specs.Visits.{commands_of, served}
+use Rattle.lift_clerk.specs.Visits.{commands_of}
 use Rattle.lift_clerk.specs.Machine.{IsReached}
 use Rattle.lift_clerk.specs.declared.counts.Counts.{Counts}
 use Rattle.lift_clerk.specs.lemmas.Served.{all_apart}
 use Rattle.lift_clerk.specs.lemmas.Words.{asks_both, asks_count}
 use Rattle.lift_clerk.specs.lemmas.Asked.{not_both, run_in}
+use Rattle.lift_parts.specs.Scan.{looked_at}
+use Rattle.lift_parts.specs.lemmas.Looking.{length-looked}
 use Rattle.lift_parts.specs.declared.taken.Taken.{Taken}
 use Rattle.lift_parts.specs.Batch.{BatchState, AreBelow, commands_in, replies_in, entries_of_batches}
 use Rattle.lift_parts.specs.Allocator.{AllocatorState, IsScanTurn}
@@ -188,7 +190,7 @@ module _ {D P : Type 0} (laws : RelayLaws) (choice : Choice) (any : RunsAreAny c
       between = record { nothing_taken = m.between.nothing_taken; all_sealed = refl };
       nothing_due = m.nothing_due;
       safe = ap (register_of w.base) (safe_stays laws w m.reached state.batch) ∙ m.safe;
-      seats = ap (λ (s : List ClerkPlace). length s) t.looked ∙ Rattle.lift_clerk.specs.lemmas.Visiting.length-served a.seat t.visits [] ∙ m.seats;
+      seats = ap (λ (s : List ClerkPlace). length s) t.looked ∙ length-looked a.seat t.visits ∙ m.seats;
       waiting = waiting;
       line = t.some some ∙ ap (λ (xs : List BatchState). xs ++ t.batch ∷ []) m.line ∙ append_assoc f.end.received m.waiting (t.batch ∷ []);
       queue = queued_more (length f.seat) m.waiting w.queue t.batch (record { commands = with_replies cs rs; upto = length (w.accepted ++ state.batch) }) m.queue (same ∙ sym t.commands)
@@ -287,7 +289,7 @@ pub looks_asked : {D P : Type 0} (laws : RelayLaws) (choice : Choice) (w : World
 looks_asked laws choice w a b f counts t m asked =
     looks_from laws w m.reached (is_queued w a f m) (λ (n : ℕ). view_at a.seat n) (λ (n : ℕ). view_at f.seat n) m.words 0 a.seat t.visits
     (λ k n e. let same : k ≡ n = omega arith in ap (view_at a.seat) same) t.takes
-    (λ k n e. let same : n ≡ k = omega arith in subst (TakesAsked w.asked n) (ap (λ (s : List ClerkPlace). view_at s n) t.looked ∙ ap (view_at (served a.seat t.visits [])) same) (asked n))
+    (λ k n e. let same : n ≡ k = omega arith in subst (TakesAsked w.asked n) (ap (λ (s : List ClerkPlace). view_at s n) t.looked ∙ ap (view_at (looked_at a.seat t.visits)) same) (asked n))
 
 pub scans_are_allocations : {D P : Type 0} → RelayLaws → (choice : Choice) → RunsAreAny choice → ScansAreAllocations D P choice
 scans_are_allocations laws choice any w a b f counts t some asked room m =

@@ -8,11 +8,11 @@ use Rattle.lift_policy.specs.Step.{State}
 use Rattle.lift_policy.specs.Run.{Run}
 use Rattle.lift_clerk.specs.declared.counts.Counts.{Counts}
 use Rattle.lift_clerk.specs.Turn.{settled}
-use Rattle.lift_clerk.specs.Visits.{Visit, commands_of, served}
+use Rattle.lift_clerk.specs.Visits.{Visit, commands_of}
 use Rattle.lift_parts.specs.Batch.{BatchState, turns_behind, turns_of, commands_in}
 use Rattle.lift_parts.specs.Batch.{replies_in, noted_in}
 use Rattle.lift_parts.specs.Line.{SendState, Tries, tried, Begins, IsNextBatch, WasFull}
-use Rattle.lift_parts.specs.Scan.{TakesEach, turns_in, words_of}
+use Rattle.lift_parts.specs.Scan.{TakesEach, turns_in, looked_at, words_of}
 
 pub record AllocatorState (P : Type 0) : Type 0 where
   pub desk : List TableId
@@ -81,7 +81,7 @@ pub record IsScanTurn {P : Type 0} (choice : Choice) (old new : AllocatorState P
   pub decided : State
   pub each_once : length visits ≡ length old.desk
   pub takes : TakesEach old.seat visits
-  pub looked : new.seat ≡ served old.seat visits []
+  pub looked : new.seat ≡ looked_at old.seat visits
   pub commands : commands_in batch.commands ≡ commands_of 0 visits
   pub notes : noted_in batch.commands ≡ words_of visits
   pub run : Run old.plan choice old.state (commands_of 0 visits) (replies_in batch.commands) decided

@@ -1,16 +1,17 @@
 -- The part that makes batches safe and answers.
-use Rattle.std.specs.Prelude.{ℕ, ◌≡◌, ◌≢◌, ◌≤◌, Bool, true, false, List, [], ◌∷◌, length, drop}
+use Rattle.std.specs.Prelude.{ℕ, suc, ◌≡◌, ◌≢◌, ◌≤◌, Bool, true, false, List, [], ◌∷◌, length, drop}
 use Rattle.std.specs.Prelude.{slice_index_or, Some, Result, Ok, Err, is_ok}
 use Rattle.atomic_table.specs.Seated.{TableId}
-use Rattle.lift_desk.specs.Words.{turn_of, last_of}
-use Rattle.lift_desk.specs.Steps.{with_taking}
+use Rattle.lift_base.specs.declared.history.Entry.{Entry}
+use Rattle.lift_desk.specs.Words.{turn_of, last_of, reply_word}
+use Rattle.lift_desk.specs.Steps.{with_taking, with_answer}
 use Rattle.lift_desk.specs.Seats.{ClerkPlace, IsClerkOf, no_place, view_at, clerk_with, Owes}
 use Rattle.lift_journal.specs.declared.fault.JournalFault.TheVariants.{Disk, Broken}
 use Rattle.lift_keeper.specs.declared.fault.KeeperFault.{KeeperFault}
 use Rattle.lift_keeper.specs.declared.fault.KeeperFault.TheVariants.{Journal}
 use Rattle.lift_keeper.specs.Writer.{WriterView}
 use Rattle.lift_clerk.specs.Scanning.{reply_told}
-use Rattle.lift_clerk.specs.Visits.{Visit, FindsAt, with_reply}
+use Rattle.lift_clerk.specs.Visits.{Visit, FindsAt}
 use Rattle.lift_parts.specs.declared.taken.Taken.{Taken}
 use Rattle.lift_parts.specs.declared.counts.FlushCounts.{FlushCounts}
 use Rattle.lift_clerk.specs.Answered.{AreApart, ask_of}
@@ -50,8 +51,9 @@ pub record AnswersOne (is_safe : Bool) (places : List ClerkPlace) (taken : Taken
   pub gives : visit.found ≡ Some (ask_of taken.command)
   pub word : visit.word ≡ taken.note.word
   pub answered : next ≡ clerk_with places taken.command.terminal
-      (with_reply (with_taking (view_at places taken.command.terminal) visit.word) visit.found
-      (reply_told is_safe taken.reply ∷ []))
+      (with_answer (with_taking (view_at places taken.command.terminal) visit.word)
+      (reply_word (suc (length (view_at places taken.command.terminal).taken))
+      taken.command.number (reply_told is_safe taken.reply)))
 
 -- each command of a batch, one after another
 abbrev pub Answered : Bool → List ClerkPlace → List Taken → List ClerkPlace → Type 0
@@ -59,10 +61,9 @@ Answered is_safe places [] next = next ≡ places
 Answered is_safe places (taken ∷ batch) next = (visit : Visit) × (mid : List ClerkPlace)
     × AnswersOne is_safe places taken visit mid × Answered is_safe mid batch next
 
--- how many entries were received from one state of an end to another
-abbrev pub entries_between : ReceiveState → ReceiveState → ℕ
-entries_between old new =
-    length (entries_of_batches (drop (length old.received) new.received))
+-- what was accepted of the batches that were received from one state of an end to another
+abbrev pub entries_received : ReceiveState → ReceiveState → List Entry
+entries_received old new = entries_of_batches (drop (length old.received) new.received)
 
 -- A turn that received no batch. It tried once to, the line was empty at that try, and nothing else
 -- changes.

@@ -6,11 +6,11 @@ use Rattle.lift_desk.specs.declared.words.Ask.{Ask}
 use Rattle.lift_desk.specs.Words.{turn_of, last_of}
 use Rattle.lift_desk.specs.Spelled.{IsAsk}
 use Rattle.lift_desk.specs.Steps.{with_taking}
-use Rattle.lift_desk.specs.Seats.{ClerkPlace, TakesAheadOf, IsToldAhead}
+use Rattle.lift_desk.specs.Seats.{ClerkPlace, placed_at, TakesAheadOf, IsToldAhead}
 use Rattle.lift_policy.specs.Eligible.{Choice}
 use Rattle.lift_policy.specs.Step.{State}
 use Rattle.lift_policy.specs.Run.{Run}
-use Rattle.lift_clerk.specs.Visits.{Visit, commands_of, served}
+use Rattle.lift_clerk.specs.Visits.{Visit, commands_of}
 use Rattle.lift_parts.specs.declared.taken.Taken.{Taken}
 use Rattle.lift_parts.specs.Batch.{commands_in, replies_in, noted_in}
 
@@ -44,6 +44,13 @@ TakesEach places [] = Unit {0}
 TakesEach [] (visit ∷ visits) = ⊥
 TakesEach (place ∷ places) (visit ∷ visits) = TakesAt place visit × TakesEach places visits
 
+-- the seats behind these looks
+abbrev pub looked_at : List ClerkPlace → List Visit → List ClerkPlace
+looked_at places [] = places
+looked_at [] (visit ∷ visits) = []
+looked_at (place ∷ places) (visit ∷ visits) =
+    placed_at place.table (with_taking place.view visit.word) ∷ looked_at places visits
+
 -- the words that these looks took
 abbrev pub word_at : ℕ → Option Ask → List ℕ
 word_at word None = []
@@ -60,7 +67,7 @@ pub record ScansAhead (choice : Choice) (plan : Plan) (places seat : List ClerkP
   pub visits : List Visit
   pub count : length visits ≡ n
   pub takes : TakesEach places visits
-  pub looked : seat ≡ served places visits []
+  pub looked : seat ≡ looked_at places visits
   pub commands : commands_in taken ≡ commands_of 0 visits
   pub notes : noted_in taken ≡ words_of visits
   pub run : Run plan choice before (commands_in taken) (replies_in taken) after

@@ -1,8 +1,8 @@
 -- Any number of turns of each part.
-use Rattle.std.specs.Prelude.{◌≡◌, ◌⊎◌, ◌++◌, [], Option, Some, None, Result, Ok, Err}
+use Rattle.std.specs.Prelude.{◌≡◌, ◌⊎◌, ◌++◌, [], length, Option, Some, None, Result, Ok, Err}
 use Rattle.lift_disk.specs.Disk.{DiskState}
 use Rattle.lift_policy.specs.Eligible.{Choice}
-use Rattle.lift_keeper.specs.Commits.{CommitsTo}
+use Rattle.lift_keeper.specs.Commits.{Commits}
 use Rattle.lift_keeper.specs.Calls.{CommitCalls}
 use Rattle.lift_keeper.specs.declared.fault.KeeperFault.{KeeperFault}
 use Rattle.lift_clerk.specs.declared.counts.Counts.{Counts}
@@ -10,7 +10,7 @@ use Rattle.lift_parts.specs.declared.counts.FlushCounts.{FlushCounts}
 use Rattle.lift_parts.specs.Batch.{BatchState}
 use Rattle.lift_parts.specs.Allocator.{AllocatorState, IsAllocation}
 use Rattle.lift_parts.specs.Flusher.{FlusherState, IsFlusher, IsEmptyTurn, IsBatchTurn}
-use Rattle.lift_parts.specs.Flusher.{entries_between}
+use Rattle.lift_parts.specs.Flusher.{entries_received}
 
 -- The batch in hand, if there is one, was sent behind all that was sent before, and nothing else
 -- changes.
@@ -39,11 +39,11 @@ pub record IsFlush {D : Type 0} (state : D
     → DiskState) (old new : FlusherState D) (answer : Result FlushCounts KeeperFault) : Type 0 where
   pub before : IsFlusher old
   pub turns : IsEmptyTurn old new answer ⊎ ((batch : BatchState) × IsBatchTurn old new batch answer)
-  -- it commits what it received, which leads to the register at its end of the line
-  pub commits : CommitsTo state old.writer (entries_between old.end new.end) new.end.state.register
-      new.writer answer
+  -- it commits just what it received
+  pub commits : Commits state old.writer (entries_received old.end new.end) new.writer answer
   -- and makes the calls of the device that this takes, and no others
-  pub calls : CommitCalls state old.writer (entries_between old.end new.end) new.writer answer
+  pub calls : CommitCalls state old.writer (length (entries_received old.end new.end)) new.writer
+      answer
   pub same : (new.desk ≡ old.desk) × (new.end.line ≡ old.end.line)
 
 -- the first fault of all turns, once one more has answered this

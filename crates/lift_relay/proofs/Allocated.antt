@@ -15,12 +15,12 @@ use Rattle.lift_policy.specs.Run.{Run}
 use Rattle.lift_clerk.specs.declared.counts.Counts.{Counts}
 use Rattle.lift_clerk.specs.Turn.{settled}
 use Rattle.lift_policy.specs.declared.command.Command.{Command}
-use Rattle.lift_clerk.specs.Visits.{commands_of, served}
+use Rattle.lift_clerk.specs.Visits.{commands_of}
 use Rattle.std.proofs.lemmas.List.{length-map}
 use Rattle.lift_parts.specs.declared.taken.Taken.{Taken}
 use Rattle.lift_parts.specs.Batch.{BatchState, turns_behind, turns_of, turns_after, commands_in, replies_in, noted_in}
 use Rattle.lift_parts.specs.Line.{SendState, Tries, tried, Begins, IsNextBatch, SendsOne, WasFull, FindsNoRoom}
-use Rattle.lift_parts.specs.Scan.{ScansAhead, TakesEach, turns_in}
+use Rattle.lift_parts.specs.Scan.{ScansAhead, TakesEach, turns_in, looked_at}
 use Rattle.lift_relay.specs.Scanner.{ScannerState, MakesBatch, MakesIt, HasScanned}
 use Rattle.lift_relay.proofs.Queues.{full_by}
 use Rattle.lift_parts.specs.Allocator.{AllocatorState, DecidesAlong, GoesOnBehind, IsAllocator, IsScanTurn, IsAllocation, tries_behind}
@@ -161,7 +161,7 @@ scan_turn {P} choice old a new counts taken decided batch between scans commands
       decided = decided;
       each_once = scans.count ∙ ap (λ (s : AllocatorState P). length s.desk) same;
       takes = subst (λ (s : AllocatorState P). TakesEach s.seat visits) same scans.takes;
-      looked = scans.looked ∙ ap (λ (s : AllocatorState P). served s.seat visits []) same;
+      looked = scans.looked ∙ ap (λ (s : AllocatorState P). looked_at s.seat visits) same;
       commands = ap commands_in commands ∙ scans.commands;
       notes = ap noted_in commands ∙ scans.notes;
       run = subst (λ (p : AllocatorState P × List Command × List Taken). Run p.0.plan choice p.0.state p.1 (replies_in p.2) decided) (λ i. (same i, scans.commands i, sym commands i)) scans.run;

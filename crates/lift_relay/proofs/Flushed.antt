@@ -1,5 +1,5 @@
 -- What a turn of the flusher answers.
-use Rattle.std.proofs.Common.{◌≡◌, ◌≢◌, ℕ, zero, suc, ◌+◌, ◌<◌, ◌≤◌, Bool, true, false, List, [], ◌∷◌, ◌++◌, take, length, get_or, Option, Some, refl, sym, ap, ◌∙◌, subst, arith}
+use Rattle.std.proofs.Common.{◌≡◌, ◌≢◌, ℕ, zero, suc, ◌+◌, ◌<◌, ◌≤◌, Bool, true, false, List, [], ◌∷◌, ◌++◌, take, length, get_or, Option, Some, refl, sym, ap, ◌∙◌, subst, arith, length-append}
 use Rattle.std.specs.Prelude.{IfSome, nat_eq}
 use Rattle.std.proofs.Math.Seq.{take-suc}
 use Rattle.std.proofs.lemmas.Bool.Decides.{nat_tests}
@@ -14,7 +14,7 @@ use Rattle.lift_desk.specs.Seats.{ClerkPlace, no_place, placed_at, view_at, cler
 use Rattle.lift_desk.specs.lemmas.Places.{view_at-here, view_at-else}
 use Rattle.lift_desk.specs.lemmas.WordLists.{last_of-push}
 use Rattle.lift_clerk.specs.Scanning.{reply_told}
-use Rattle.lift_clerk.specs.Visits.{Visit, FindsAt, with_reply}
+use Rattle.lift_clerk.specs.Visits.{Visit, FindsAt}
 use Rattle.lift_clerk.specs.Answered.{ask_of}
 use Rattle.lift_clerk.specs.lemmas.Visiting.{finds-at, taken-new}
 use Rattle.lift_clerk.specs.lemmas.Scanned.{Looked}
@@ -56,15 +56,16 @@ gives_one is_safe places mid next taken word found reply look gives here stored 
     let view : ClerkView = with_taking (view_at places t) word in
     let number : number_of (last_of (view_at mid t).taken) ≡ taken.command.number = ap (λ (w : ClerkView). number_of (last_of w.taken)) here ∙ number_given taken found _ look.number gives in
     let told : Reply = reply_told is_safe taken.reply in
+    let count : length view.taken ≡ suc (length (view_at places t).taken) = omega (arith, ap length noted, length-append (view_at places t).taken (taken.note.word ∷ [])) in
     record {
       finds = finds places mid t word found look;
       gives = gives;
       word = one_word (view_at places t) word taken.note.word found taken look.takes gives noted;
       answered = stored ∙ ap (λ (p : ℕ × Reply). clerk_with mid t (with_answer (view_at mid t) (reply_word (length (view_at mid t).taken) p.0 p.1))) (λ i. (number i, said i))
           ∙ ap (λ (v : ClerkView). clerk_with mid t (with_answer v (reply_word (length v.taken) taken.command.number told))) here
-          ∙ ap (λ (l : List ClerkPlace). clerk_with l t (with_reply view (Some (ask_of taken.command)) (told ∷ []))) look.seat_is
-          ∙ changed_twice places t view (with_reply view (Some (ask_of taken.command)) (told ∷ []))
-          ∙ ap (λ (o : Option Ask). clerk_with places t (with_reply view o (told ∷ []))) (sym gives);
+          ∙ ap (λ (l : List ClerkPlace). clerk_with l t (with_answer view (reply_word (length view.taken) taken.command.number told))) look.seat_is
+          ∙ changed_twice places t view (with_answer view (reply_word (length view.taken) taken.command.number told))
+          ∙ ap (λ (n : ℕ). clerk_with places t (with_answer view (reply_word n taken.command.number told))) count;
     }
 
 is_same : (m n : ℕ) → nat_eq m n ≡ true → m ≡ n

@@ -1,6 +1,7 @@
 -- What a run leaves, of both parts.
 use Rattle.std.proofs.Common.{◌≡◌, true, List, [], ◌++◌, length, Option, Some, None, refl, ap, subst, inl, inr, sym, ◌∙◌}
 use Rattle.std.proofs.lemmas.List.{append-nil}
+use Rattle.std.specs.Prelude.{option_map}
 use Rattle.lift_base.specs.declared.history.Entry.{Entry}
 use Rattle.lift_world.specs.declared.event.Taken.{Taken as Held}
 use Rattle.lift_disk.specs.Disk.{DiskState}
@@ -12,10 +13,13 @@ use Rattle.lift_relay.specs.declared.pair.RunFault.TheVariants.{Keeper, Spawn}
 use Rattle.lift_parts.specs.Allocator.{AllocatorState}
 use Rattle.lift_parts.specs.Flusher.{FlusherState}
 use Rattle.lift_parts.specs.Turns.{AllocatorTurns, FlusherTurns, NoFlush, IsSameAllocator, IsSameFlusher}
-use Rattle.lift_relay.specs.Pair.{fault_of, HaveRun, IsRun}
+use Rattle.lift_relay.specs.Pair.{HaveRun, IsRun}
 use Rattle.lift_clerk.specs.History.{History}
 use Rattle.lift_parts.specs.History.{GoesOnTo, TurnsGoOn, group_behind}
 use Rattle.lift_parts.specs.lemmas.Paired.{turns_joined, flushes_joined, same_allocator, same_flusher, faults_broken}
+
+abbrev pub fault_of : Option KeeperFault → Option RunFault
+fault_of first = option_map (λ (of : KeeperFault). Keeper of) first
 
 abbrev fault_in : Option RunFault → Option KeeperFault
 fault_in None = None

@@ -20,7 +20,8 @@ use Rattle.lift_policy.specs.Step.{State}
 use Rattle.lift_keeper.specs.Keeper.{IsKeeper}
 use Rattle.lift_keeper.specs.lemmas.Keepers.{decided_keeper, settled_keeper}
 use Rattle.lift_clerk.specs.Visits.{Visit, command_at, commands_of}
-use Rattle.lift_clerk.specs.lemmas.Visiting.{commands-more, looked-more, untouched}
+use Rattle.lift_clerk.specs.lemmas.Visiting.{commands-more}
+use Rattle.lift_parts.specs.lemmas.Looking.{looked-more, untouched}
 use Rattle.lift_parts.specs.declared.taken.Taken.{Taken}
 use Rattle.lift_parts.specs.Batch.{commands_in, replies_in, noted_in, AreBelow}
 use Rattle.lift_parts.specs.Scan.{TakesAt, TakesEach, ScansAhead, word_at, words_of}
@@ -74,7 +75,7 @@ scans-more choice plan places seat next before mid after taken others n word fou
     let visits = old.visits in
     let v : Visit = record { word = word; found = found } in
     let count : n ≡ length visits = sym old.count in
-    let here : view_at seat n ≡ view_at places n = ap (λ l. view_at l n) old.looked ∙ ap (λ (p : ClerkPlace). p.view) (untouched places visits [] n no_place (omega arith)) in
+    let here : view_at seat n ≡ view_at places n = ap (λ l. view_at l n) old.looked ∙ ap (λ (p : ClerkPlace). p.view) (untouched places visits n no_place (omega arith)) in
     let takes : TakesAt (get_or places n no_place) v = record {
       reads = subst (λ (w : ClerkView). TakesAheadOf w word found) here look.takes;
       in_range = look.in_range;
@@ -86,7 +87,7 @@ scans-more choice plan places seat next before mid after taken others n word fou
       visits = visits ++ v ∷ [];
       count = omega (arith, length-append visits (v ∷ []));
       takes = takes-more places visits n v count inside old.takes takes;
-      looked = look.seat_is ∙ ap (λ l. clerk_with l n (with_taking (view_at l n) word)) old.looked ∙ looked-more places visits [] n v refl count inside;
+      looked = look.seat_is ∙ ap (λ l. clerk_with l n (with_taking (view_at l n) word)) old.looked ∙ looked-more places visits n v count inside;
       notes = map-append (λ (t : Taken). t.note.word) taken others ∙ ap (λ l. l ++ noted_in others) old.notes ∙ ap (λ l. words_of visits ++ l) noted ∙ sym (words-more visits v);
       commands = map-append (λ (t : Taken). t.command) taken others ∙ ap (λ l. l ++ commands_in others) old.commands ∙ ap (λ l. commands_of 0 visits ++ l) same ∙ sym (commands-more 0 n visits v (omega arith));
       run = subst (λ (p : List Command × List Reply). Run plan choice before p.0 p.1 after) (λ i. (sym (map-append (λ (t : Taken). t.command) taken others) i, sym (map-append (λ (t : Taken). t.reply) taken others) i))

@@ -1,8 +1,6 @@
 -- A flusher's turn, of what it received, its commit and its answers.
-use Rattle.std.proofs.Common.{◌≡◌, ◌⊎◌, inl, inr, ⊎_elim, true, false, List, [], ◌∷◌, ◌++◌, drop, length, refl, sym, ap, ◌∙◌}
+use Rattle.std.proofs.Common.{◌≡◌, ◌⊎◌, inl, inr, ⊎_elim, true, false, List, [], ◌∷◌, ◌++◌, length, refl, sym, ap, ◌∙◌, subst}
 use Rattle.std.specs.Prelude.{Result, Ok, Err, IfOk}
-use Rattle.std.proofs.Math.Seq.{drop-append_seam, drop-length}
-use Rattle.std.proofs.lemmas.List.{append-nil}
 use Rattle.lift_base.specs.declared.history.Entry.{Entry}
 use Rattle.lift_disk.specs.Disk.{DiskState}
 use Rattle.lift_register.specs.Register.{register_of}
@@ -10,25 +8,24 @@ use Rattle.lift_policy.specs.Step.{State}
 use Rattle.lift_journal.specs.declared.fault.JournalFault.TheVariants.{Disk, Broken}
 use Rattle.lift_keeper.specs.declared.fault.KeeperFault.{KeeperFault}
 use Rattle.lift_keeper.specs.declared.fault.KeeperFault.TheVariants.{Journal}
-use Rattle.lift_keeper.specs.Commits.{Commits, CommitsTo}
+use Rattle.lift_keeper.specs.Commits.{Commits}
 use Rattle.lift_keeper.specs.Calls.{CommitCalls}
 use Rattle.lift_keeper.specs.Writer.{WriterView}
 use Rattle.lift_keeper.specs.lemmas.Committed.{nothing_refused, nothing_safe, some_failed, whole_before}
 use Rattle.lift_parts.specs.declared.counts.FlushCounts.{FlushCounts}
 use Rattle.lift_building.specs.Plan.{Plan}
-use Rattle.lift_parts.specs.Batch.{BatchState, IsDecided, entries_of_batches}
+use Rattle.lift_parts.specs.Batch.{BatchState, IsDecided}
 use Rattle.lift_parts.specs.Line.{ReceiveState, ReceivesOne, FindsNone, Tries, tried}
-use Rattle.lift_parts.specs.Flusher.{FlusherState, IsFlusher, IsEmptyTurn, IsBatchTurn, entries_between}
+use Rattle.lift_parts.specs.Flusher.{FlusherState, IsFlusher, IsEmptyTurn, IsBatchTurn, entries_received}
 use Rattle.lift_parts.specs.Turns.{IsFlush}
+use Rattle.lift_parts.specs.lemmas.Received.{entries_between, none_received, one_received}
 use Rattle.lift_relay.specs.Settler.{SettlerState, SettlesBatch}
 
 pub none_between : (old new : ReceiveState) (tries : Tries) → new ≡ record old { tries = tries } → 0 ≡ entries_between old new
-none_between old new tries same = sym (ap (λ (r : ReceiveState). entries_between old r) same ∙ ap (λ (l : List BatchState). length (entries_of_batches l)) (drop-length old.received))
+none_between old new tries same = sym (ap (λ (es : List Entry). length es) (none_received old new tries same))
 
 pub one_between : (old new : ReceiveState) (batch : BatchState) → new.received ≡ old.received ++ batch ∷ [] → entries_between old new ≡ length batch.entries
-one_between old new batch receives =
-    ap (λ (l : List BatchState). length (entries_of_batches (drop (length old.received) l))) receives
-    ∙ ap (λ (l : List BatchState). length (entries_of_batches l)) (drop-append_seam old.received (batch ∷ [])) ∙ ap length (append-nil batch.entries)
+one_between old new batch receives = ap (λ (es : List Entry). length es) (one_received old new batch receives)
 
 module _ {D : Type 0} (state : D → DiskState) (f g : FlusherState D) (is_flusher : IsFlusher f) (desk : g.desk ≡ f.desk) where
   -- that received nothing
@@ -38,6 +35,9 @@ module _ {D : Type 0} (state : D → DiskState) (f g : FlusherState D) (is_flush
 
     same_flusher : g.writer ≡ f.writer → g ≡ record f { end = record f.end { tries = tried f.end.tries true } }
     same_flusher writer = λ i. record { desk = desk i; seat = seat i; writer = writer i; end = end i }
+
+    of_nothing : (result : Result FlushCounts KeeperFault) → Commits {D = D} {T = FlushCounts} state f.writer [] g.writer result → Commits {D = D} {T = FlushCounts} state f.writer (entries_received f.end g.end) g.writer result
+    of_nothing result c = subst (λ (es : List Entry). Commits {D = D} {T = FlushCounts} state f.writer es g.writer result) (sym (none_received f.end g.end (tried f.end.tries true) end)) c
 
     pub idle : (result : Result FlushCounts KeeperFault) → Commits {D = D} {T = FlushCounts} state f.writer [] g.writer result → IfOk result (λ counts. counts ≡ record { batches = 0; answers = 0 }) → CommitCalls {D = D} {T = FlushCounts} state f.writer (entries_between f.end g.end) g.writer result → IsFlush state f g result
     idle (Ok counts) c zero made =
@@ -50,12 +50,7 @@ module _ {D : Type 0} (state : D → DiskState) (f g : FlusherState D) (is_flush
             whole = λ _. ap (λ (n : FlushCounts). Ok n) zero;
             broken = λ broken. absurd (let whole = nothing.0 in cc);
           });
-          commits = record {
-            batch = [];
-            counted = sym (none_between f.end g.end (tried f.end.tries true) end);
-            leads = λ whole. ap (λ (r : ReceiveState). r.state.register) end ∙ sym (is_flusher.safe whole) ∙ sym (ap (λ (w : WriterView D). w.register) nothing.1) ∙ c.safe.register;
-            is = c;
-          };
+          commits = of_nothing (Ok counts) c;
           calls = made;
           same = (desk, ap (λ (r : ReceiveState). r.line) end);
         }
@@ -69,12 +64,7 @@ module _ {D : Type 0} (state : D → DiskState) (f g : FlusherState D) (is_flush
             whole = λ whole. absurd (let broken = nothing.0 in cc);
             broken = λ _. ap (λ (x : KeeperFault). Err x) nothing.2;
           });
-          commits = record {
-            batch = [];
-            counted = sym (none_between f.end g.end (tried f.end.tries true) end);
-            leads = λ whole. absurd (let broken = nothing.0 in cc);
-            is = c;
-          };
+          commits = of_nothing (Err fault) c;
           calls = made;
           same = (desk, ap (λ (r : ReceiveState). r.line) end);
         }
@@ -84,12 +74,7 @@ module _ {D : Type 0} (state : D → DiskState) (f g : FlusherState D) (is_flush
   flushed batch answer receives c turn made = record {
     before = is_flusher;
     turns = inr (batch, turn);
-    commits = record {
-      batch = batch.entries;
-      counted = one_between f.end g.end batch receives.receives;
-      leads = λ whole. ap (λ (s : State). s.register) receives.state ∙ turn.decided.shows ∙ ap (λ r. register_of r batch.entries) (ap (λ (s : State). s.register) receives.next.on_state ∙ sym (is_flusher.safe whole));
-      is = c;
-    };
+    commits = subst (λ (es : List Entry). Commits {T = FlushCounts} state f.writer es g.writer answer) (sym (one_received f.end g.end batch receives.receives)) c;
     calls = made;
     same = (desk, receives.same.0);
   }

@@ -1,5 +1,5 @@
 -- What both parts do in a run, each on its own thread.
-use Rattle.std.specs.Prelude.{◌≡◌, ◌⊎◌, [], length, Option, Some, None}
+use Rattle.std.specs.Prelude.{◌≡◌, ◌⊎◌, [], length, Option, Some, None, option_map}
 use Rattle.lift_disk.specs.Disk.{DiskState}
 use Rattle.lift_policy.specs.Eligible.{Choice}
 use Rattle.lift_keeper.specs.declared.fault.KeeperFault.{KeeperFault}
@@ -35,17 +35,13 @@ HaveTurned choice state a f (Refused b no_thread) g = (b ≡ a) × (g ≡ f)
 HaveTurned choice state a f (Done b first) g = AllocatorTurns choice a b
     × FlusherTurns state f None g first
 
-abbrev pub fault_of : Option KeeperFault → Option RunFault
-fault_of None = None
-fault_of (Some fault) = Some (Keeper fault)
-
 -- Each part had its turns, what was in hand then was sent, and all that was sent was received. The
 -- fault is the flusher's first, if it had one.
 pub record HaveRun {D P : Type 0} (choice : Choice) (state : D
     → DiskState) (a b : AllocatorState P) (f g : FlusherState D)
     (fault : Option RunFault) : Type 0 where
   pub first : Option KeeperFault
-  pub is_first : fault ≡ fault_of first
+  pub is_first : fault ≡ option_map (λ (of : KeeperFault). Keeper of) first
   pub allocator : AllocatorTurns choice a b
   pub flusher : FlusherTurns state f None g first
   pub nothing_in_hand : b.hand ≡ []

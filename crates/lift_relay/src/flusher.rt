@@ -10,7 +10,7 @@ ghost use Rattle.lift_keeper.specs.Calls.{CommitCalls};
 ghost use Rattle.lift_parts.specs.Batch.{BatchState};
 ghost use Rattle.lift_parts.specs.Queued.{Queued};
 ghost use Rattle.lift_parts.specs.Parts.{AreOfOne};
-ghost use Rattle.lift_parts.specs.Flusher.{IsFlusher, IsSettled, IsBatchTurn, entries_between};
+ghost use Rattle.lift_parts.specs.Flusher.{IsFlusher, IsSettled, IsBatchTurn, entries_received};
 ghost use Rattle.lift_parts.specs.Turns.{IsFlush};
 ghost use Rattle.lift_base.specs.declared.history.Entry.{Entry};
 ghost use Rattle.lift_world.specs.declared.event.Taken.{Taken as Held};
@@ -188,7 +188,7 @@ impl<'d, 'b, D: Disk, K> Flusher<'d, 'b, D, K> {
         K: HeardBy<V>,
         ensures flushes { IsFlush D.state self.old self.new result }
         ensures calls { CommitCalls D.state self.old.writer
-            (entries_between self.old.end self.new.end) self.new.writer result }
+            (length (entries_received self.old.end self.new.end)) self.new.writer result }
         // Where the device failed first, the witness heard of that, once.
         ensures heard { FailureHeard V.hears
             self.old.writer.is_broken self.new.writer.is_broken witness.old witness.new }

@@ -100,9 +100,9 @@ same_flusher state f g before last (OneFlush {g = h} {first = first} more flush 
     record {
       line = flush.same.1 ∙ was.line;
       desk = flush.same.0 ∙ was.desk;
-      plan = flush.commits.is.same.0 ∙ was.plan;
-      half = flush.commits.is.same.1 ∙ was.half;
-      opened = flush.commits.is.same.2 ∙ was.opened;
+      plan = flush.commits.same.0 ∙ was.plan;
+      half = flush.commits.same.1 ∙ was.half;
+      opened = flush.commits.same.2 ∙ was.opened;
     }
 
 pub still_of_one : {D P : Type 0} (a b : AllocatorState P) (f g : FlusherState D)
@@ -121,9 +121,9 @@ once_broken : {D : Type 0} (state : D
     → ((fault : KeeperFault) → first ≡ Some fault → g.writer.is_broken ≡ true)
     → (fault : KeeperFault) → last ≡ Some fault → h.writer.is_broken ≡ true
 once_broken state None last (Ok counts) g h flush is was fault faults = absurd (cc)
-once_broken state None last (Err e) g h flush is was fault faults = flush.commits.is.breaks
+once_broken state None last (Err e) g h flush is was fault faults = flush.commits.breaks
 once_broken {D} state (Some e) last answer g h flush is was fault faults =
-    let broken = was e refl in ap (λ (w : WriterView D). w.is_broken) (flush.commits.is.rests broken) ∙ broken
+    let broken = was e refl in ap (λ (w : WriterView D). w.is_broken) (flush.commits.rests broken) ∙ broken
 
 pub faults_broken : {D : Type 0} (state : D
     → DiskState) (f g : FlusherState D) (before last : Option KeeperFault)

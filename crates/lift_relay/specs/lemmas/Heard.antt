@@ -27,7 +27,7 @@ heard_on hears true false c u v w first_stays stays first then = absurd (let wro
 heard_on hears true true c u v w first_stays stays first then = then ∙ first
 
 pub flush_stays : {D : Type 0} (state : D → DiskState) (f g : FlusherState D) (answer : Result FlushCounts KeeperFault) → IsFlush state f g answer → f.writer.is_broken ≡ true → g.writer.is_broken ≡ true
-flush_stays {D} state f g answer flush was = ap (λ (w : WriterView D). w.is_broken) (flush.commits.is.rests was) ∙ was
+flush_stays {D} state f g answer flush was = ap (λ (w : WriterView D). w.is_broken) (flush.commits.rests was) ∙ was
 
 pub turns_stay : {D : Type 0} (state : D → DiskState) (f g : FlusherState D) (before last : Option KeeperFault) → FlusherTurns state f before g last → f.writer.is_broken ≡ true → g.writer.is_broken ≡ true
 turns_stay state f g before last NoFlush was = was

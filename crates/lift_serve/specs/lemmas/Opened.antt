@@ -58,7 +58,7 @@ always_on {D} state plan base first f h safe end given later own before
     let k = always_on state plan base first f g safe mid given now own before turns in
     let told : List Taken = s.goes_on.told in
     record {
-      own = flush.commits.is.same.0 ∙ k.own;
+      own = flush.commits.same.0 ∙ k.own;
       front = (
         k.front.0 ++ told,
         sym (append_assoc given k.front.0 told) ∙ ap (λ (l : List Taken). l ++ told) k.front.1,

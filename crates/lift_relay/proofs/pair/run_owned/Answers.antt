@@ -1,9 +1,9 @@
 use Rattle.std.proofs.Common.{◌≡◌, None, inr, sym, ap, ◌∙◌, subst}
 use Rattle.lift_parts.specs.Allocator.{AllocatorState}
 use Rattle.lift_relay.specs.declared.pair.Turned.{Turned}
-use Rattle.lift_relay.specs.Pair.{HaveTurned, HaveRun, fault_of}
+use Rattle.lift_relay.specs.Pair.{HaveTurned, HaveRun}
 use Rattle.lift_relay.specs.lemmas.Heard.{heard_on, turns_stay}
-use Rattle.lift_relay.proofs.Ran.{have_run}
+use Rattle.lift_relay.proofs.Ran.{fault_of, have_run}
 use Rattle.lift_relay.proofs.pair.run_owned.Goals.{in-Some, in-None}
 use Rattle.lift_relay.proofs.pair.run_owned.Goals as goal
 

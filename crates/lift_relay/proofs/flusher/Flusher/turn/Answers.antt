@@ -1,7 +1,7 @@
 use Rattle.std.proofs.Common.{◌≡◌, true, ℕ, List, sym, ap, ◌∙◌, subst}
 use Rattle.lift_policy.specs.Step.{State}
 use Rattle.lift_keeper.specs.Calls.{CommitCalls}
-use Rattle.lift_parts.specs.Flusher.{FlusherState, IsSettled, entries_between}
+use Rattle.lift_parts.specs.Flusher.{FlusherState, IsSettled}
 use Rattle.lift_parts.specs.Line.{tried}
 use Rattle.lift_parts.specs.Turns.{IsFlush}
 use Rattle.lift_relay.specs.Settler.{SettlerState}
