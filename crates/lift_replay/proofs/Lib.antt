@@ -17,5 +17,6 @@ pub mod Built
 pub mod Digits
 pub mod Spelled
 pub mod Total
+mod FrequentLines
 pub mod Fronts
 pub mod Taken

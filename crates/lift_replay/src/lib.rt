@@ -2,6 +2,7 @@
 //! reports.
 #![tactic(auto)]
 
+mod frequent;
 mod input;
 mod law;
 mod line;

@@ -10,6 +10,7 @@ ghost use Rattle.lift_replay.specs.Grammar.{Spells, AreReadAsLine, outcome_words
 ghost use Rattle.lift_disk.specs.declared.outcome.Outcome.{Outcome as Left};
 ghost use Rattle.lift_replay.specs.declared.line.ScriptLine.{ScriptLine as Wanted};
 
+use crate::frequent::frequent;
 use crate::line::ScriptLine;
 use lift_base::text::{
     dir_of_word, letter_of_word, number_of_word, number_up_to, party_of_words, words_of,
@@ -164,8 +165,7 @@ fn alone(words: &[&str], line: ScriptLine) -> Option<ScriptLine>
     if words.is_empty() { Some(line) } else { None }
 }
 
-/// Whether a text is this word of four letters: the words of most lines have as many, and are told
-/// without a call.
+/// Whether a text is this word of four letters. It is told without a call.
 fn is_four(text: &str, word: &[u8; 4]) -> bool
     ensures same { IsTrue result → text.now ≡ word.now }
     ensures other { result ≡ false → text.now ≢ word.now }
@@ -186,20 +186,13 @@ fn is_four(text: &str, word: &[u8; 4]) -> bool
 fn asked_by(first: &str, others: &[&str]) -> Option<ScriptLine>
     ensures { AreReadAsLine (first.now ∷ texts others.now) result }
 {
-    // The most frequent lines come first.
-    if is_four(first, b"stop") {
-        return stop_of(others);
-    }
-    if is_four(first, b"call") {
-        return call_of(others);
-    }
-    if is_four(first, b"cost") {
-        return cost_of(others);
-    }
     match first {
         "place" => place_of(others),
+        "call" => call_of(others),
+        "stop" => stop_of(others),
         "stops" => stops_of(others),
         "turn" => alone(others, ScriptLine::Turn),
+        "cost" => cost_of(others),
         "rows" => alone(others, ScriptLine::Rows),
         "fuse" => fuse_of(others),
         "cut" => cut_of(others),
@@ -212,9 +205,12 @@ pub fn parse(line: &str) -> Option<ScriptLine>
     ensures some { IfSome result (λ wanted. Spells line.now wanted) }
     ensures none { IfNone result ((wanted : Wanted) → Spells line.now wanted → ⊥) }
 {
-    // The most frequent line is not cut into words.
+    // The most frequent lines are not cut into words.
     if is_four(line, b"turn") {
         return Some(ScriptLine::Turn);
+    }
+    if let Some(wanted) = frequent(line.as_bytes()) {
+        return Some(wanted);
     }
     let words = words_of(line)?;
     match words.as_slice() {
