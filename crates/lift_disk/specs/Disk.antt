@@ -220,8 +220,8 @@ pub record KeepsWrites (old new : DiskState) : Type 0 where
   pub written : StaysWritten old new
   pub steady : old.is_honest → old.is_steady → IsSteadyAt old.image new
 
--- These bytes are written in the sector: they are read at once where no call has failed, and after
--- the next sync that succeeds.
+-- These bytes are written in the sector: they are read at once where no call has failed, and once a
+-- sync succeeds if none fails before it.
 pub record StoresSector (sector : ℕ) (bytes : List ℕ) (old new : DiskState) : Type 0 where
   pub settles : old.is_honest → Settles sector bytes old new
   pub steady : old.is_honest → old.is_steady → IsSteadyAt (slice_set old.image sector bytes) new
