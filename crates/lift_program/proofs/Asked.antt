@@ -1,5 +1,6 @@
 -- What words come to.
 use Rattle.std.proofs.Common.{◌≡◌, ◌≢◌, ℕ, Option, List, false, refl, inl, inr, subst}
+use Rattle.std.specs.Prelude.{Result, Ok, Err, IfErr}
 use Rattle.std.specs.declared.net.tcp.TcpListener.{TcpListener as Listener}
 use Rattle.clap.specs.Words.{Text}
 use Rattle.lift_keeper.specs.Keeper.{KeeperView}
@@ -15,7 +16,8 @@ use Rattle.lift_program.specs.declared.words.Request.TheVariants.{Replay, Format
 use Rattle.lift_program.specs.Images.{CommandFiles}
 use Rattle.lift_program.specs.Words.{AskForRequest}
 use Rattle.lift_program.specs.declared.end.End.TheVariants.{Replayed, Formatted, Shown, Served, Failed, NoImage, Unformatted, Unshown, Unserved, OtherWords}
-use Rattle.lift_program.specs.declared.fault.Fault.TheVariants.{Memory}
+use Rattle.lift_program.specs.declared.fault.Fault.TheVariants.{File, Memory}
+use Rattle.lift_program.specs.declared.fault.Role.TheVariants.{Output}
 use Rattle.lift_program.specs.declared.words.Request.{Request}
 
 -- an end of what the words ask for
@@ -31,6 +33,22 @@ asked_end files gives input words before after (Unformatted fault left) request 
 asked_end files gives input words before after (Unshown fault left) request asks is writes = inr (request, asks, is, writes)
 asked_end files gives input words before after (Unserved fault left) request asks is writes = inr (request, asks, is, writes)
 asked_end files gives input words before after (OtherWords unused) request asks is writes = absurd is
+
+-- so it is of whatever a request comes to, over a reader of this input
+pub asked_ended : {T R : Type 0} (files : CommandFiles) (gives : ℕ → Option Listener → Type 0) (remaining : R → Option (List ℕ)) (reader read : R) (words : List Text) (before after : Option (List ℕ)) (request : Request) (result : Result T (EndOver files)) → reader ≡ read → AskForRequest words request
+    → IfErr result (IsEndFor files gives request before after) → WritesFor files (remaining reader) request before after → IfErr result (IsEndOf files gives (remaining read) words before after)
+asked_ended files gives remaining reader read words before after request (Ok ready) same asks is writes = tt
+asked_ended {T} {R} files gives remaining reader read words before after request (Err end) same asks is writes =
+    asked_end files gives (remaining read) words before after end request asks is (subst (λ (r : R). WritesFor files (remaining r) request before after) same writes)
+
+-- only a replay is undone for the standard output with nothing asked of an image
+pub output_of_replay : {T : Type 0} (files : CommandFiles) (gives : ℕ → Option Listener → Type 0) (before after : Option (List ℕ)) (request : Request) (result : Result T (EndOver files)) (unused : files.image.Opener) (P : Type 0) → IfErr result (IsEndFor files gives request before after)
+    → (request ≡ Replay → result ≡ Err (Failed (File Output) unused) → P) → result ≡ Err (Failed (File Output) unused) → P
+output_of_replay files gives before after Replay result unused P is holds same = holds refl same
+output_of_replay {T} files gives before after (Format image building half) result unused P is holds same = absurd (subst (λ (r : Result T (EndOver files)). IfErr r (IsEndFor files gives (Format image building half) before after)) same is).0
+output_of_replay {T} files gives before after (Show image building) result unused P is holds same = absurd (subst (λ (r : Result T (EndOver files)). IfErr r (IsEndFor files gives (Show image building) before after)) same is).0
+output_of_replay {T} files gives before after (Serve image building port sessions policy) result unused P is holds same =
+    absurd (subst (λ (r : Result T (EndOver files)). IfErr r (IsEndFor files gives (Serve image building port sessions policy) before after)) same is).0
 
 -- what is ready was read by a keeper that is whole
 pub ready_whole : (files : CommandFiles) (gives : ℕ → Option Listener → Type 0) (words : List Text) (before after : Option (List ℕ)) (keeper : KeeperView files.image.Served) (listener : Listener) (port sessions : ℕ) (policy : Shipped)

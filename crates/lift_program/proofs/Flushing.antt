@@ -15,8 +15,8 @@ use Rattle.lift_program.specs.Stages.{IsBuildingFault, IsUnkept, fault_in}
 use Rattle.lift_program.specs.declared.left.Undone.{Undone}
 use Rattle.lift_program.specs.declared.left.Undone.TheVariants.{NoBuilding, NoImage, Opened}
 use Rattle.lift_program.specs.declared.fault.Fault.{Fault}
-use Rattle.lift_program.specs.declared.fault.Fault.TheVariants.{File, Network}
-use Rattle.lift_program.specs.declared.fault.Role.TheVariants.{Image as OfImage, Output}
+use Rattle.lift_program.specs.declared.fault.Fault.TheVariants.{File, Memory, Network}
+use Rattle.lift_program.specs.declared.fault.Role.TheVariants.{Building as OfBuilding, Image as OfImage, Output}
 
 -- all of the bytes were written
 pub takes_put : {W : Type 0} (gives : W → List ℕ → Option ℕ → W → Type 0) (bytes : List ℕ) (old new : W) (result : Result Unit WriteFault)
@@ -37,13 +37,13 @@ other_than P result fault wanted is holds same = holds (sym (subst (λ r. IsErrA
 
 -- no fault but a building's file and text, or memory
 abbrev pub IsOfBuilding : Fault → Type 0
-IsOfBuilding = IsBuildingFault (λ text. ⊥)
+IsOfBuilding = IsBuildingFault (λ text. ⊥) ⊥
 
-pub building_no_output : (is_text : List ℕ → Type 0) (fault : Fault) → IsBuildingFault is_text fault → fault ≡ File Output → ⊥
-building_no_output is_text fault is same = subst (IsBuildingFault is_text) same is
+pub building_no_output : (is_text : List ℕ → Type 0) (is_no_text : Type 0) (fault : Fault) → IsBuildingFault is_text is_no_text fault → fault ≡ File Output → ⊥
+building_no_output is_text is_no_text fault is same = subst (IsBuildingFault is_text is_no_text) same is
 
-pub building_no_network : (is_text : List ℕ → Type 0) (fault : Fault) → IsBuildingFault is_text fault → fault ≡ Network → ⊥
-building_no_network is_text fault is same = subst (IsBuildingFault is_text) same is
+pub building_no_network : (is_text : List ℕ → Type 0) (is_no_text : Type 0) (fault : Fault) → IsBuildingFault is_text is_no_text fault → fault ≡ Network → ⊥
+building_no_network is_text is_no_text fault is same = subst (IsBuildingFault is_text is_no_text) same is
 
 pub image_no_output : (fault : Fault) → IsFileFault OfImage fault → fault ≡ File Output → ⊥
 image_no_output fault (inl is) same = absurd (let other = sym is ∙ same in cc)
@@ -72,3 +72,7 @@ network_no_output fault is same = absurd (let other = sym is ∙ same in cc)
 
 pub err_same : {T E : Type 0} (told wanted : E) → ◌≡◌ {A = Result T E} (Err told) (Err wanted) → told ≡ wanted
 err_same {T} {E} told wanted same = subst (λ (r : Result T E). IfErr r (λ other. told ≡ other)) same refl
+
+-- want of memory isn't the building's file
+pub memory_no_file : Memory tt ≡ File OfBuilding → ⊥
+memory_no_file same = cc

@@ -3,5 +3,6 @@ mod Commands
 mod Flushing
 mod Rows
 mod Telling
+mod Unread
 mod Stages
 mod Writing

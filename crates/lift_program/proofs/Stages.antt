@@ -1,5 +1,7 @@
 -- What the faults of each stage are to a whole command.
 use Rattle.std.proofs.Common.{◌≡◌, ◌≢◌, ◌<◌, ◌≤◌, ◌+◌, ◌*◌, ℕ, List, [], Option, Some, None, length, false, refl, sym, subst, inl, inr}
+use Rattle.std.specs.Prelude.{Result, Ok, Err, IfErr}
+use Rattle.std.specs.Str.{IsUtf8}
 use Rattle.lift_building.specs.Describes.{IsTextOf}
 use Rattle.lift_building.specs.Gives.{IsFirstFault}
 use Rattle.lift_building.specs.Plan.{Plan, IsBuilding, shape_of}
@@ -36,14 +38,14 @@ use Rattle.lift_program.specs.declared.fault.Fault.TheVariants.{Building, Journa
 use Rattle.lift_program.specs.declared.fault.Role.TheVariants.{Building as OfBuilding, Image as OfImage, Input, Output}
 
 -- the first fault of a text within the bound
-pub first_fault : (text : List ℕ) (fault : BuildingFault) → length text ≤ most_text → (fault ≢ NoRoom tt → IsFirstFault text fault) → IsBuildingFault (λ t. t ≡ text) (of_building fault)
-first_fault text NotToml short first = record { text = text; read = refl; short = short; first = first (λ same. cc) }
-first_fault text (Missing field) short first = record { text = text; read = refl; short = short; first = first (λ same. cc) }
-first_fault text (WrongType field) short first = record { text = text; read = refl; short = short; first = first (λ same. cc) }
-first_fault text (OutOfRange field) short first = record { text = text; read = refl; short = short; first = first (λ same. cc) }
-first_fault text TableShape short first = record { text = text; read = refl; short = short; first = first (λ same. cc) }
-first_fault text (Detour i j k) short first = record { text = text; read = refl; short = short; first = first (λ same. cc) }
-first_fault text (NoRoom no_memory) short first = tt
+pub first_fault : (text : List ℕ) (is_no_text : Type 0) (fault : BuildingFault) → length text ≤ most_text → (fault ≢ NoRoom tt → IsFirstFault text fault) → IsBuildingFault (λ t. t ≡ text) is_no_text (of_building fault)
+first_fault text is_no_text NotToml short first = record { text = text; read = refl; short = short; first = first (λ same. cc) }
+first_fault text is_no_text (Missing field) short first = record { text = text; read = refl; short = short; first = first (λ same. cc) }
+first_fault text is_no_text (WrongType field) short first = record { text = text; read = refl; short = short; first = first (λ same. cc) }
+first_fault text is_no_text (OutOfRange field) short first = record { text = text; read = refl; short = short; first = first (λ same. cc) }
+first_fault text is_no_text TableShape short first = record { text = text; read = refl; short = short; first = first (λ same. cc) }
+first_fault text is_no_text (Detour i j k) short first = record { text = text; read = refl; short = short; first = first (λ same. cc) }
+first_fault text is_no_text (NoRoom no_memory) short first = tt
 
 -- none of them is the building's file
 pub building_no_file : (fault : BuildingFault) → of_building fault ≢ File OfBuilding
@@ -103,10 +105,28 @@ is_unformatted files path building plan half image left told fault same has fres
 pub reads_building : (is_text : List ℕ → Type 0) (plan : Plan) → HasBuilding is_text plan → ReadsBuilding is_text
 reads_building is_text plan has = (plan, has)
 
--- the building's file, or want of memory
-pub file_refuses : (is_text : List ℕ → Type 0) (fault : Fault) → IsFileFault OfBuilding fault → IsBuildingFault is_text fault
-file_refuses is_text fault (inl is) = subst (IsBuildingFault is_text) (sym is) tt
-file_refuses is_text fault (inr is) = subst (IsBuildingFault is_text) (sym is) tt
+-- the building's file, which is no text, or want of memory
+pub file_refuses : (is_text : List ℕ → Type 0) (is_no_text : Type 0) (fault : Fault) → IsFileFault OfBuilding fault → (fault ≡ File OfBuilding → is_no_text) → IsBuildingFault is_text is_no_text fault
+file_refuses is_text is_no_text fault (inl is) none = subst (IsBuildingFault is_text is_no_text) (sym is) (none is)
+file_refuses is_text is_no_text fault (inr is) none = subst (IsBuildingFault is_text is_no_text) (sym is) tt
+
+-- the fault of bytes that were read
+bytes_refuse : (is_text : List ℕ → Type 0) (is_no_text : Type 0) (bytes : List ℕ) (fault : Fault) → is_text bytes → (¬ IsUtf8 bytes → is_no_text) → IsBuildingFault (λ t. t ≡ bytes) (¬ IsUtf8 bytes) fault → IsBuildingFault is_text is_no_text fault
+bytes_refuse is_text is_no_text bytes (Building fault) read none is =
+    record { text = bytes; read = read; short = subst (λ t. length t ≤ most_text) is.read is.short; first = subst (λ t. IsFirstFault t fault) is.read is.first }
+bytes_refuse is_text is_no_text bytes (Journal fault) read none is = absurd is
+bytes_refuse is_text is_no_text bytes (File OfBuilding) read none is = none is
+bytes_refuse is_text is_no_text bytes (File OfImage) read none is = absurd is
+bytes_refuse is_text is_no_text bytes (File Input) read none is = absurd is
+bytes_refuse is_text is_no_text bytes (File Output) read none is = absurd is
+bytes_refuse is_text is_no_text bytes (Memory no_memory) read none is = tt
+bytes_refuse is_text is_no_text bytes Network read none is = absurd is
+bytes_refuse is_text is_no_text bytes Thread read none is = absurd is
+
+pub bytes_refused : {T : Type 0} (is_text : List ℕ → Type 0) (is_no_text : Type 0) (bytes : List ℕ) (result : Result T Fault) → is_text bytes → (¬ IsUtf8 bytes → is_no_text) → IfErr result (IsBuildingFault (λ t. t ≡ bytes) (¬ IsUtf8 bytes))
+    → IfErr result (IsBuildingFault is_text is_no_text)
+bytes_refused is_text is_no_text bytes (Ok value) read none is = tt
+bytes_refused is_text is_no_text bytes (Err fault) read none is = bytes_refuse is_text is_no_text bytes fault read none is
 
 opening_fault : (plan : Plan) (old new : DiskState) (fault : KeeperFault) → RefusesReopening plan old new fault → IsOpeningFault fault
 opening_fault plan old new (OfJournal Disk) refuses = tt
@@ -144,11 +164,11 @@ pub stands_so : (is_text : List ℕ → Type 0) (plan standing : Plan) → stand
 stands_so is_text plan standing same has = subst (HasBuilding is_text) (sym same) has
 
 -- the recovery was refused, or no image could be opened
-pub keeper_undone : {D F O : Type 0} (is_text : List ℕ → Type 0) (opener : O) (is_fresh : D → Type 0) (state : D → DiskState) (is_refused : FileFault F O → Type 0) (plan : Plan) (undone : Undone D F O) → HasBuilding is_text plan
-    → IsUnkept is_fresh state is_refused plan undone → IsUndone is_text opener is_fresh state is_refused undone
-keeper_undone is_text opener is_fresh state is_refused plan (NoBuilding fault unused) has never = absurd never
-keeper_undone is_text opener is_fresh state is_refused plan (NoImage refused) has is = record { building = (plan, has); unhad = is }
-keeper_undone is_text opener is_fresh state is_refused plan (Opened fault left) has is = record {
+pub keeper_undone : {D F O : Type 0} (is_text : List ℕ → Type 0) (is_no_text : Type 0) (opener : O) (is_fresh : D → Type 0) (state : D → DiskState) (is_refused : FileFault F O → Type 0) (plan : Plan) (undone : Undone D F O) → HasBuilding is_text plan
+    → IsUnkept is_fresh state is_refused plan undone → IsUndone is_text is_no_text opener is_fresh state is_refused undone
+keeper_undone is_text is_no_text opener is_fresh state is_refused plan (NoBuilding fault unused) has never = absurd never
+keeper_undone is_text is_no_text opener is_fresh state is_refused plan (NoImage refused) has is = record { building = (plan, has); unhad = is }
+keeper_undone is_text is_no_text opener is_fresh state is_refused plan (Opened fault left) has is = record {
   plan = plan;
   building = has;
   opened = is.opened;

@@ -214,7 +214,8 @@ pub record IsUnformatted (files : CommandFiles) (image building : List ℕ) (hal
 abbrev pub IsUnmade : (files : CommandFiles) → (image building : List ℕ) → (half : ℕ)
     → Undone files.image.Made files.image.File files.image.Opener → Type 0
 IsUnmade files image building half (NoBuilding fault unused) =
-    IsBuildingFault (files.is_text building) fault × (unused ≡ files.image.opener)
+    IsBuildingFault (files.is_text building) (files.is_no_text building) fault
+    × (unused ≡ files.image.opener)
 IsUnmade files image building half (NoImageHad refused) =
     IsNoImage (files.is_text building) (files.image.is_unmade image (2 + 2 * half)) refused.fault
     refused.cause
@@ -239,6 +240,10 @@ IsShowingUndone (NoBuilding fault unused) = Unit {0}
 IsShowingUndone (NoImageHad refused) = Unit {0}
 IsShowingUndone (Opened fault left) = IsShowingFault fault
 
+-- a reader of which no call was made yet
+abbrev pub uncalled : {R : Type 0} → R → InputState R
+uncalled reader = record { reader = reader; calls = 0; failed = false; ended = false }
+
 -- no call of the reader was made yet
 abbrev pub IsUncalled : {R : Type 0} → InputState R → Type 0
 IsUncalled old = (old.calls ≡ 0) × (old.failed ≡ false) × (old.ended ≡ false)
@@ -257,11 +262,11 @@ IsUnread new = (new.failed ≡ true) ⊎ ((new.calls ≡ 2097152) × (new.ended 
 abbrev pub IsRequestFault : CommandFiles → Request → Fault → Type 0
 IsRequestFault files Replay fault = IsReplayFault fault
 IsRequestFault files (Format image building half) fault =
-    IsBuildingFault (files.is_text building.now) fault
+    IsBuildingFault (files.is_text building.now) (files.is_no_text building.now) fault
 IsRequestFault files (Show image building) fault =
-    IsBuildingFault (files.is_text building.now) fault
+    IsBuildingFault (files.is_text building.now) (files.is_no_text building.now) fault
 IsRequestFault files (Serve image building port sessions policy) fault =
-    IsBuildingFault (files.is_text building.now) fault
+    IsBuildingFault (files.is_text building.now) (files.is_no_text building.now) fault
 
 -- no image was had at the path that was named, for this
 abbrev pub IsNoImageFor : (files : CommandFiles) → Request → Fault
@@ -322,18 +327,39 @@ IsReadyFor files gives (Serve image building asked count named) keeper listener 
     (port ≡ asked) × (sessions ≡ count) × (policy ≡ named)
     × IsReadyOver files (gives asked) image.now building.now keeper listener
 
+-- a socket was had
+abbrev pub IsSocketHad : (gives : Option Listener → Type 0) → Type 0
+IsSocketHad gives = (listener : Listener) × gives (Some listener)
+
+-- how much is written by a command that is undone: nothing until this was had
+abbrev pub IsQuietUntil : {D F O : Type 0} → (had : Type 0) → Undone D F O
+    → (before after : Option (List ℕ)) → Type 0
+IsQuietUntil had (NoBuilding fault unused) before after = after ≡ before
+IsQuietUntil had (NoImageHad refused) before after = after ≡ before
+IsQuietUntil had (Opened fault left) before after = (after ≡ before) ⊎ had
+
 -- A building was to be served over the image at this path, and why it wasn't, though the image was
--- opened: for the port only where a socket there was refused.
+-- opened: for the port only where a socket there was refused. Something was written only where one was
+-- had.
 abbrev pub IsUnservedFor : (files : CommandFiles) → (gives : ℕ → Option Listener → Type 0) → Request
-    → Fault → files.image.Served → Type 0
-IsUnservedFor files gives Replay fault left = ⊥
-IsUnservedFor files gives (Format image building half) fault left = ⊥
-IsUnservedFor files gives (Show image building) fault left = ⊥
-IsUnservedFor files gives (Serve image building port sessions policy) fault left =
+    → (before after : Option (List ℕ)) → Fault → files.image.Served → Type 0
+IsUnservedFor files gives Replay before after fault left = ⊥
+IsUnservedFor files gives (Format image building half) before after fault left = ⊥
+IsUnservedFor files gives (Show image building) before after fault left = ⊥
+IsUnservedFor files gives (Serve image building port sessions policy) before after fault left =
     IsLeftAs (files.is_text building.now) (files.image.is_to_be_served image.now)
     files.image.served_state fault left × (fault ≡ Network → gives port None)
+    × ((after ≡ before) ⊎ IsSocketHad (gives port))
 
--- What a request may come to. Where nothing was asked of an image, what was to open it is left.
+-- nothing was written for a command over a building
+abbrev pub IsQuietFor : Request → (before after : Option (List ℕ)) → Type 0
+IsQuietFor Replay before after = Unit {0}
+IsQuietFor (Format image building half) before after = after ≡ before
+IsQuietFor (Show image building) before after = after ≡ before
+IsQuietFor (Serve image building port sessions policy) before after = after ≡ before
+
+-- What a request may come to. Where nothing was asked of an image, what was to open it is left; and
+-- where no image was had, nothing was written.
 abbrev pub IsEndFor : (files : CommandFiles) → (gives : ℕ → Option Listener → Type 0) → Request → (before after : Option (List ℕ))
     → EndOver files → Type 0
 IsEndFor files gives request before after (Replayed verdict unused) =
@@ -344,11 +370,14 @@ IsEndFor files gives request before after (Served port fault left ending) =
     IsServedFor files gives request port fault left ending
 IsEndFor files gives request before after (Failed fault unused) =
     IsRequestFault files request fault × (unused ≡ files.image.opener)
-IsEndFor files gives request before after (NoImage fault cause) = IsNoImageFor files request fault cause
+    × IsQuietFor request before after
+IsEndFor files gives request before after (NoImage fault cause) =
+    IsNoImageFor files request fault cause × (after ≡ before)
 IsEndFor files gives request before after (Unformatted fault left) =
     IsUnformattedFor files request fault left
 IsEndFor files gives request before after (Unshown fault left) = IsUnshownFor files request fault left
-IsEndFor files gives request before after (Unserved fault left) = IsUnservedFor files gives request fault left
+IsEndFor files gives request before after (Unserved fault left) =
+    IsUnservedFor files gives request before after fault left
 IsEndFor files gives request before after (OtherWords unused) = ⊥
 
 -- what is said where a port is served
@@ -435,7 +464,7 @@ IsPassedOn (OtherWords unused) is_flushed = Unit {0}
 
 -- What was written for words that ask for nothing: how the program is called, where they ask for help,
 -- and else nothing.
-pub record IsAnswered (words : List Text) (has_failed : Type 0)
+pub record IsAnswered (words : List Text) (is_flushed has_failed : Type 0)
     (before after : Option (List ℕ)) : Type 0 where
-  pub help : AsksForHelp words → SaysText help_text has_failed before after
+  pub help : AsksForHelp words → SaysText help_text is_flushed has_failed before after
   pub quiet : ¬ AsksForHelp words → after ≡ before

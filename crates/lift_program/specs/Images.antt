@@ -1,5 +1,6 @@
 -- What is said of the devices over a journal's file.
-use Rattle.std.specs.Prelude.{◌≡◌, ℕ, List, [], ◌∷◌, Option, Some, Bool, IfSome}
+use Rattle.std.specs.Prelude.{◌≡◌, ℕ, List, [], ◌∷◌, Option, Result, Ok, Bool, IfSome}
+use Rattle.std.specs.declared.io.Error.{Error}
 use Rattle.std.specs.declared.fs.options.OpenOptions.{OpenOptions}
 use Rattle.lift_disk.specs.Below.{below}
 use Rattle.lift_disk.specs.Disk.{DiskState}
@@ -50,12 +51,14 @@ pub record CommandFiles : Type 1 where
   pub image : ImageFiles
   -- this text was read from the building's file, which was opened at this path
   pub is_text : (path text : List ℕ) → Type 0
+  -- the building's file at this path gave no text
+  pub is_no_text : (path : List ℕ) → Type 0
 
 -- A file was opened, and this text was all that its reader held, where it is known what it held.
-abbrev pub IsTextRead : {R : Type 0} → (opens : Option R → Type 0)
+abbrev pub IsTextRead : {R : Type 0} → (opens : Result R Error → Type 0)
     → (remaining : R → Option (List ℕ)) → List ℕ → Type 0
 IsTextRead {R} opens remaining text =
-    (reader : R) × opens (Some reader) × IfSome (remaining reader) (λ all. text ≡ all)
+    (reader : R) × opens (Ok reader) × IfSome (remaining reader) (λ all. text ≡ all)
 
 -- An image was opened at this path, in this way: its file was there and was not made, but after these
 -- calls asked for its length, which gives its sectors; no other call was made of it or of its file,

@@ -45,7 +45,8 @@ pub record IsOutputSettled {W : Type 0} (gives : W → List ℕ → Option ℕ �
   pub failed : result ≡ Err (File Output) → WriterHasFailed gives flushes old new
   pub wanting : result ≡ Err (Memory tt) → WasTaken gives flushes old new
 
--- This text was written; or a front of it, and then the output has failed.
-abbrev pub SaysText : List ℕ → (has_failed : Type 0) → (before after : Option (List ℕ)) → Type 0
-SaysText text has_failed before after = Appends before after text
+-- This text was written and passed on; or a front of it, and then the output has failed.
+abbrev pub SaysText : List ℕ → (is_flushed has_failed : Type 0) → (before after : Option (List ℕ))
+    → Type 0
+SaysText text is_flushed has_failed before after = (is_flushed × Appends before after text)
     ⊎ (has_failed × ((count : ℕ) × Appends before after (take count text)))

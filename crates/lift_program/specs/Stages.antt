@@ -1,6 +1,8 @@
 -- How far a command came that is over a building and an image: its faults are looked for in this
 -- order, the building's file, its text, the image's file, the journal, the port.
-use Rattle.std.specs.Prelude.{ℕ, ◌≡◌, ◌≢◌, ◌≤◌, ◌⊎◌, Bool, false, List, [], length, Option}
+use Rattle.std.specs.Prelude.{ℕ, ◌≡◌, ◌≢◌, ◌≤◌, ◌+◌, ◌⊎◌, Bool, false, List, [], length, Option}
+use Rattle.std.specs.Prelude.{Result, Ok, Err}
+use Rattle.std.specs.Str.{IsUtf8}
 use Rattle.std.specs.IoError.{error_kind}
 use Rattle.std.specs.declared.io.Error.{Error}
 use Rattle.std.specs.declared.io.ErrorKind.TheVariants.{OutOfMemory}
@@ -12,7 +14,7 @@ use Rattle.lift_building.specs.declared.fault.BuildingFault.{BuildingFault}
 use Rattle.lift_disk.specs.Disk.{DiskState, LeavesOnly, MayLeave}
 use Rattle.lift_disk.specs.declared.file.FileFault.{FileFault}
 use Rattle.lift_disk.specs.declared.file.FileFault.TheVariants.{Untold, NotAFile, Unopened, Stopped}
-use Rattle.lift_program.specs.Images.{CommandFiles, ImageFiles}
+use Rattle.lift_program.specs.Images.{CommandFiles, ImageFiles, IsTextRead}
 use Rattle.lift_decider.specs.Decider.{starting}
 use Rattle.lift_journal.specs.declared.fault.JournalFault.TheVariants.{Disk, NotFormatted, Damaged}
 use Rattle.lift_journal.specs.declared.fault.JournalFault.TheVariants.{Full, Broken}
@@ -22,6 +24,7 @@ use Rattle.lift_keeper.specs.declared.fault.KeeperFault.{KeeperFault}
 use Rattle.lift_keeper.specs.declared.fault.KeeperFault.TheVariants.{Journal as OfJournal}
 use Rattle.lift_keeper.specs.declared.fault.KeeperFault.TheVariants.{OtherBuilding, BadEntry}
 use Rattle.lift_register.specs.Register.{RegisterState}
+use Rattle.lift_replay.specs.Reading.{ReaderFails}
 use Rattle.lift_program.specs.declared.fault.Fault.{Fault}
 use Rattle.lift_program.specs.declared.fault.Fault.TheVariants.{Building, Journal, File, Memory}
 use Rattle.lift_program.specs.declared.fault.Fault.TheVariants.{Network, Thread}
@@ -38,6 +41,24 @@ most_text = 1048576
 abbrev pub TakesBytes : {R : Type 0} → ℕ → (R → Option (List ℕ)) → (old new : R) → Type 0
 TakesBytes count remaining old new = (bytes : List ℕ) × (length bytes ≡ count)
     × Consumes (remaining old) (remaining new) bytes
+
+-- A call of this reader failed, which was the last, or it gave a byte more than a text may have.
+abbrev pub GivesNoText : {R : Type 0} → (remaining : R → Option (List ℕ))
+    → (gives : R → List ℕ → Option ℕ → R → Type 0) → (old new : R) → Type 0
+GivesNoText remaining gives old new =
+    ReaderFails gives old new ⊎ TakesBytes (most_text + 1) remaining old new
+
+-- the system didn't open the building's file, and not for want of memory
+abbrev pub IsTextRefused : {R : Type 0} → (opens : Result R Error → Type 0) → Type 0
+IsTextRefused opens = (error : Error) × opens (Err error) × (error_kind error ≢ OutOfMemory)
+
+-- Why a building's file is no text: it wasn't opened; or what was opened gave none; or what it held
+-- is no UTF-8.
+abbrev pub IsNoText : {R : Type 0} → (opens : Result R Error → Type 0)
+    → (remaining : R → Option (List ℕ)) → (gives : R → List ℕ → Option ℕ → R → Type 0) → Type 0
+IsNoText {R} opens remaining gives = IsTextRefused opens
+    ⊎ (((old : R) × (new : R) × opens (Ok old) × GivesNoText remaining gives old new)
+    ⊎ ((text : List ℕ) × IsTextRead opens remaining text × ¬ IsUtf8 text))
 
 -- a text within the bound was read, and it describes this building
 pub record HasBuilding (is_text : List ℕ → Type 0) (plan : Plan) : Type 0 where
@@ -123,17 +144,18 @@ pub record IsLeftAs {D : Type 0} (is_text : List ℕ → Type 0) (is_fresh : D �
   pub moments : LeavesOnly (state opened) (state left) (MayLeave (state opened))
   pub unwritten : (state left).writes ≡ (state opened).writes
 
--- what no building is had for: its file, want of memory, or its text's first fault
-abbrev pub IsBuildingFault : (is_text : List ℕ → Type 0) → Fault → Type 0
-IsBuildingFault is_text (Building fault) = HasNoBuilding is_text fault
-IsBuildingFault is_text (Journal fault) = ⊥
-IsBuildingFault is_text (File OfBuilding) = Unit {0}
-IsBuildingFault is_text (File OfImage) = ⊥
-IsBuildingFault is_text (File Input) = ⊥
-IsBuildingFault is_text (File Output) = ⊥
-IsBuildingFault is_text (Memory no_memory) = Unit {0}
-IsBuildingFault is_text Network = ⊥
-IsBuildingFault is_text Thread = ⊥
+-- What no building is had for: its file, only where that is no text; want of memory; or its text's
+-- first fault.
+abbrev pub IsBuildingFault : (is_text : List ℕ → Type 0) → (is_no_text : Type 0) → Fault → Type 0
+IsBuildingFault is_text is_no_text (Building fault) = HasNoBuilding is_text fault
+IsBuildingFault is_text is_no_text (Journal fault) = ⊥
+IsBuildingFault is_text is_no_text (File OfBuilding) = is_no_text
+IsBuildingFault is_text is_no_text (File OfImage) = ⊥
+IsBuildingFault is_text is_no_text (File Input) = ⊥
+IsBuildingFault is_text is_no_text (File Output) = ⊥
+IsBuildingFault is_text is_no_text (Memory no_memory) = Unit {0}
+IsBuildingFault is_text is_no_text Network = ⊥
+IsBuildingFault is_text is_no_text Thread = ⊥
 
 -- what the system's refusal comes to: want of memory where it said so, else the image's file
 abbrev pub IsSystemFault : Error → Fault → Type 0
@@ -168,27 +190,27 @@ fault_in (Opened fault left) = fault
 
 -- Why a command over an image is undone, and how it has left the image, its file or what was to open
 -- it. The first of these that stands: no building was had; no image was had; or one was.
-abbrev pub IsUndone : {D F O : Type 0} → (is_text : List ℕ → Type 0) → (opener : O)
-    → (is_fresh : D → Type 0) → (state : D → DiskState)
+abbrev pub IsUndone : {D F O : Type 0} → (is_text : List ℕ → Type 0) → (is_no_text : Type 0)
+    → (opener : O) → (is_fresh : D → Type 0) → (state : D → DiskState)
     → (is_refused : FileFault F O → Type 0) → Undone D F O → Type 0
-IsUndone is_text opener is_fresh state is_refused (NoBuilding fault unused) =
-    IsBuildingFault is_text fault × (unused ≡ opener)
-IsUndone is_text opener is_fresh state is_refused (NoImage refused) =
+IsUndone is_text is_no_text opener is_fresh state is_refused (NoBuilding fault unused) =
+    IsBuildingFault is_text is_no_text fault × (unused ≡ opener)
+IsUndone is_text is_no_text opener is_fresh state is_refused (NoImage refused) =
     IsNoImage is_text is_refused refused.fault refused.cause
-IsUndone is_text opener is_fresh state is_refused (Opened fault left) =
+IsUndone is_text is_no_text opener is_fresh state is_refused (Opened fault left) =
     IsLeftAs is_text is_fresh state fault left
 
 -- so it is of an image that was to be served
 abbrev pub IsUndoneServing : (files : CommandFiles) → (image building : List ℕ)
     → Undone files.image.Served files.image.File files.image.Opener → Type 0
-IsUndoneServing files image building = IsUndone (files.is_text building) files.image.opener
-    (files.image.is_to_be_served image) files.image.served_state (files.image.is_unserved image)
+IsUndoneServing files image building = IsUndone (files.is_text building)
+    (files.is_no_text building) files.image.opener (files.image.is_to_be_served image) files.image.served_state (files.image.is_unserved image)
 
 -- and of one that was to be shown
 abbrev pub IsUndoneShowing : (files : CommandFiles) → (image building : List ℕ)
     → Undone files.image.Shown files.image.File files.image.Opener → Type 0
-IsUndoneShowing files image building = IsUndone (files.is_text building) files.image.opener
-    (files.image.is_to_be_shown image) files.image.shown_state (files.image.is_unshown image)
+IsUndoneShowing files image building = IsUndone (files.is_text building)
+    (files.is_no_text building) files.image.opener (files.image.is_to_be_shown image) files.image.shown_state (files.image.is_unshown image)
 
 -- What no keeper of this building is had for: no image was had, or the recovery was refused.
 abbrev pub IsUnkept : {D F O : Type 0} → (is_fresh : D → Type 0) → (state : D → DiskState)

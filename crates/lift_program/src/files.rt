@@ -1,16 +1,16 @@
 //! The files that the commands name: buildings, and the images of journals.
 
-ghost use Rattle.std.specs.Prelude.{◌≡◌, ◌≢◌, ◌≤◌, ◌+◌, ◌*◌, ◌∷◌, ◌⊎◌, [], IfOk, IfErr, IfSome, OnOk};
+ghost use Rattle.std.specs.Prelude.{◌≡◌, ◌≢◌, ◌≤◌, ◌+◌, ◌*◌, ◌∷◌, [], IfOk, IfErr, IfSome, OnOk};
 ghost use Rattle.std.specs.Prelude.{Err, false, length, vec_len};
 ghost use Rattle.std.specs.Str.{IsUtf8};
 ghost use Rattle.lift_disk.specs.FileCalls.FileCall.{Lock};
 ghost use Rattle.lift_disk.specs.Files.{IsMeasured, making_below, sector_file_state_of};
 ghost use Rattle.lift_disk.specs.Traced.{making_calls, to_be_read, to_be_used};
 ghost use Rattle.lift_replay.specs.Reading.{TakesUpTo};
-ghost use Rattle.lift_program.specs.Ends.{IsFileFault, IsUncalled, IsUnread};
+ghost use Rattle.lift_program.specs.Ends.{IsFileFault, IsUncalled};
 ghost use Rattle.lift_program.specs.Images.{IsJustMade, IsTextRead};
 ghost use Rattle.lift_program.specs.Stages.{HasBuilding, HasNoImage, IsBuildingFault, IsImageFault};
-ghost use Rattle.lift_program.specs.Stages.{TakesBytes, most_text};
+ghost use Rattle.lift_program.specs.Stages.{GivesNoText, IsNoText, most_text};
 ghost use Rattle.lift_program.specs.declared.fault.Role.TheVariants.{Building as OfBuilding};
 ghost use Rattle.lift_program.specs.declared.fault.Role.TheVariants.{Image as OfImage};
 
@@ -24,7 +24,6 @@ use lift_building::Building;
 use lift_disk::{Buffered, FileFault, FileOpener, SectorFile};
 use lift_replay::{InputFault, MOST_BYTES, MOST_CALLS, read_all};
 use std::alloc::Global;
-use std::io::Read;
 use std::str;
 
 /// What a building's file comes to that couldn't be read.
@@ -41,18 +40,18 @@ fn unread(fault: InputFault) -> Fault
 
 /// The bytes of a building's file, as many as a script may have. Reading stops after one byte more,
 /// and the file is refused then.
-fn bytes_of<R: Read + Drop>(alloc: Global, reader: &mut Counted<R>) -> Result<Vec<u8>, Fault>
+fn bytes_of<B: TextOpener>(alloc: Global, reader: &mut Counted<B::Text>) -> Result<Vec<u8>, Fault>
     requires uncalled { IsUncalled reader.old }
     ensures whole { IfOk result (λ bytes.
-        IfSome (R.remaining reader.old.reader) (λ all. bytes.items ≡ all)) }
+        IfSome (B.Text.remaining reader.old.reader) (λ all. bytes.items ≡ all)) }
     ensures bound { IfOk result (λ bytes. vec_len bytes ≤ most_text) }
-    ensures taken { TakesUpTo (most_text + 1) R.remaining reader.old.reader reader.new.reader }
+    ensures taken { TakesUpTo (most_text + 1) B.Text.remaining reader.old.reader reader.new.reader }
     ensures few_calls { reader.new.calls ≤ 2097152 }
     ensures fault { IfErr result (IsFileFault OfBuilding) }
-    // The file is refused where it couldn't be read, or where it held a byte too many; memory is
-    // wanting only where no call failed.
-    ensures refused { result ≡ Err (Fault.File OfBuilding) → IsUnread reader.new
-        ⊎ TakesBytes (most_text + 1) R.remaining reader.old.reader reader.new.reader }
+    // The file is refused where a call failed, which was the last, or where it held a byte too many;
+    // memory is wanting only where no call failed.
+    ensures no_text { result ≡ Err (Fault.File OfBuilding)
+        → GivesNoText B.Text.remaining B.reads reader.old.reader reader.new.reader }
     ensures wanting { result ≡ Err (Fault.Memory tt) → reader.new.failed ≡ false }
     ensures unfailed { OnOk result (reader.new.failed ≡ false) }
 {
@@ -73,7 +72,8 @@ fn bytes_of<R: Read + Drop>(alloc: Global, reader: &mut Counted<R>) -> Result<Ve
 fn building_of(alloc: Global, bytes: &[u8]) -> Result<Building, Fault>
     requires bound { length bytes.now ≤ most_text }
     ensures found { IfOk result (HasBuilding (λ text. text ≡ bytes.now)) }
-    ensures fault { IfErr result (IsBuildingFault (λ text. text ≡ bytes.now)) }
+    ensures fault { IfErr result
+        (IsBuildingFault (λ text. text ≡ bytes.now) (¬ IsUtf8 bytes.now)) }
     // It is refused as a file just where it is no text.
     ensures no_text { ¬ IsUtf8 bytes.now → result ≡ Err (Fault.File OfBuilding) }
     ensures text { IsUtf8 bytes.now → IfErr result (λ fault. fault ≢ Fault.File OfBuilding) }
@@ -93,10 +93,11 @@ pub fn building_in<B: TextOpener>(opener: B, alloc: Global, path: &str) -> Resul
     ensures found { IfOk result
         (HasBuilding (IsTextRead (B.opens opener path.now) B.Text.remaining)) }
     ensures fault { IfErr result
-        (IsBuildingFault (IsTextRead (B.opens opener path.now) B.Text.remaining)) }
+        (IsBuildingFault (IsTextRead (B.opens opener path.now) B.Text.remaining)
+        (IsNoText (B.opens opener path.now) B.Text.remaining B.reads)) }
 {
     let text = text_in(opener, path)?;
-    let bytes = bytes_of(alloc, &mut Counted::new(text))?;
+    let bytes = bytes_of::<B>(alloc, &mut Counted::new(text))?;
     building_of(alloc, &bytes)
 }
 

@@ -7,7 +7,7 @@ ghost use Rattle.lift_program.specs.declared.fault.Role.TheVariants.{Input, Outp
 ghost use Rattle.lift_program.specs.declared.words.Request.TheVariants.{Replay};
 ghost use Rattle.lift_program.specs.Ends.{AreReadyFor, IsAnswered, IsEndFor, IsEndOf, IsReadyFor};
 ghost use Rattle.lift_program.specs.Ends.{IsPassedOn, IsReportOfEnd, IsUncalled, IsUnread, WritesFor};
-ghost use Rattle.lift_program.specs.Ends.{line_at_once, serving_text, undone_for};
+ghost use Rattle.lift_program.specs.Ends.{line_at_once, serving_text, uncalled, undone_for};
 ghost use Rattle.lift_program.specs.Listening.{local};
 ghost use Rattle.lift_program.specs.Output.{IsFlushed, WriterHasFailed};
 ghost use Rattle.lift_program.specs.Words.{AskForRequest, IsRequestInRange};
@@ -17,7 +17,7 @@ use crate::end::{End, EndBy};
 use crate::fault::Fault;
 use crate::format::format;
 use crate::help::answer;
-use crate::left::Undone;
+use crate::left::{Left, Undone};
 use crate::listening::Listens;
 use crate::opening::{Files, FilesView, Openers, TextOpener};
 use crate::output::Outflow;
@@ -33,15 +33,16 @@ use std::convert::AsStr;
 use std::io::{Read, Write};
 use std::marker::PhantomData;
 
-/// The words behind the program's name, and what opens the files and the socket that they ask for.
-/// Nobody can take them apart: they can only be prepared, by a call that returns. So whoever waits
-/// with them has opened nothing, and nothing but what the words ask for can be opened by them. That
-/// a device fails is told to an `E`.
+/// The words behind the program's name, what opens the files and the socket that they ask for, and the
+/// standard input. Nobody can take them apart: they can only be prepared, by a call that returns. So
+/// whoever waits with them has opened and read nothing, and nothing but what the words ask for can be
+/// opened by them. That a device fails is told to an `E`.
 #[derive(Drop)]
-pub struct Given<'w, B, I, L, S, E> {
+pub struct Given<'w, B, I, L, S, R, E> {
     files: Files<B, I>,
     socket: L,
     words: &'w [S],
+    reader: R,
     told: PhantomData<E>,
 }
 
@@ -135,94 +136,108 @@ fn done<'b, B: TextOpener, I: FileOpener, L: Listens, R: Read + Drop, W: Outflow
     }
 }
 
-impl<'w, B: TextOpener, I: FileOpener, L: Listens, S: AsStr, E: Write + Drop> Given<
+impl<'w, B: TextOpener, I: FileOpener, L: Listens, S: AsStr, R: Read + Drop, E: Write + Drop> Given<
     'w,
     B,
     I,
     L,
     S,
+    R,
     E,
 > {
-    pub fn new(openers: Openers<B, I, L>, words: &'w [S]) -> Self
+    pub fn new(openers: Openers<B, I, L>, words: &'w [S], reader: R) -> Self
         ensures files { result.files ≡ openers.files }
         ensures socket { result.socket ≡ openers.socket }
         ensures words { result.words.now ≡ words.now }
+        ensures reader { result.reader ≡ reader }
     {
         let Openers { files, socket } = openers;
         Given {
             files,
             socket,
             words,
+            reader,
             told: PhantomData,
         }
     }
 
     /// Does what the words ask for, and answers how it ended; but what they ask to be served is only
-    /// made ready, over a building that stands in `place`.
+    /// made ready, over a building that stands in `place`. The input comes back as it was left, which
+    /// nobody reads any more.
     #[inline(never)]
-    pub(crate) fn prepare<'b, R: Read + Drop, W: Outflow>(
+    pub(crate) fn prepare<'b, W: Outflow>(
         self,
         alloc: Global,
         place: &'b mut Option<Building>,
-        input: &mut Counted<R>,
         writer: &mut W,
-    ) -> Result<Ready<'b, BufferedFile<I::Told>, E>, EndBy<I, I::Told>>
-        requires uncalled { IsUncalled input.old }
-        ensures ready { IfOk result (λ ready. AreReadyFor
+    ) -> (
+        Left<Counted<R>>,
+        Result<Ready<'b, BufferedFile<I::Told>, E>, EndBy<I, I::Told>>,
+    )
+        ensures ready { IfOk result.1 (λ ready. AreReadyFor
             (⟦<Files<B, I> as FilesView>⟧.view self.entry.files)
             (L.gives self.entry.socket local) (map S.text self.entry.words.now) (W.contents writer.old)
             (W.contents writer.new) ready.prepared.keeper ready.prepared.listening ready.port
             ready.prepared.sessions ready.prepared.policy) }
         // It ends as the words ask, and nothing is written but a front of what they ask for.
-        ensures end { IfErr result (IsEndOf (⟦<Files<B, I> as FilesView>⟧.view self.entry.files)
-            (L.gives self.entry.socket local) (R.remaining input.old.reader)
+        ensures end { IfErr result.1 (IsEndOf (⟦<Files<B, I> as FilesView>⟧.view self.entry.files)
+            (L.gives self.entry.socket local) (R.remaining self.entry.reader)
             (map S.text self.entry.words.now) (W.contents writer.old) (W.contents writer.new)) }
         // A script's report is that of the input, and a journal's are its open calls.
-        ensures report { IfErr result (λ end. IsReportOfEnd (R.remaining input.old.reader) end
+        ensures report { IfErr result.1 (λ end. IsReportOfEnd (R.remaining self.entry.reader) end
             (W.contents writer.old) (W.contents writer.new)) }
         // Where all was done it was passed on,
-        ensures passed_on { IfErr result (λ end.
+        ensures passed_on { IfErr result.1 (λ end.
             IsPassedOn end (IsFlushed W.gives W.flushes writer.old writer.new)) }
         // and that a port is served was, before it is.
-        ensures said_on { OnOk result (IsFlushed W.gives W.flushes writer.old writer.new) }
+        ensures said_on { OnOk result.1 (IsFlushed W.gives W.flushes writer.old writer.new) }
         // Only a replay reads: nothing was read of a group that is to be served.
         ensures unasked { ¬ AskForRequest (map S.text self.entry.words.now) Replay
-            → input.new ≡ input.old }
-        ensures unwaiting { OnOk result (input.new ≡ input.old) }
+            → result.0 ≡ uncalled self.entry.reader }
+        ensures unwaiting { OnOk result.1 (result.0 ≡ uncalled self.entry.reader) }
         // Words that ask for nothing are answered by how the program is called, if they ask for help.
-        ensures answered { result ≡ Err (End.OtherWords self.entry.files.image)
+        ensures answered { result.1 ≡ Err (End.OtherWords self.entry.files.image)
             → IsAnswered (map S.text self.entry.words.now)
+            (IsFlushed W.gives W.flushes writer.old writer.new)
             (WriterHasFailed W.gives W.flushes writer.old writer.new) (W.contents writer.old)
             (W.contents writer.new) }
         // A good script was read to its end,
-        ensures good { result ≡ Err (End.Replayed Good self.entry.files.image)
-            → input.new.ended ≡ true }
+        ensures good { result.1 ≡ Err (End.Replayed Good self.entry.files.image)
+            → result.0.ended ≡ true }
         // one that is undone for the standard input could not be read,
-        ensures unread { result ≡ Err (End.Failed (Fault.File Input) self.entry.files.image)
-            → IsUnread input.new }
+        ensures unread { result.1 ≡ Err (End.Failed (Fault.File Input) self.entry.files.image)
+            → IsUnread result.0 }
         // and one that is undone for the standard output was.
         ensures read { AskForRequest (map S.text self.entry.words.now) Replay
-            → result ≡ Err (End.Failed (Fault.File Output) self.entry.files.image)
-            → IsInputRead R.remaining input.old input.new }
+            → result.1 ≡ Err (End.Failed (Fault.File Output) self.entry.files.image)
+            → IsInputRead R.remaining (uncalled self.entry.reader) result.0 }
         // The standard output is told only where it failed.
-        ensures unwritten { IfErr result (λ end. undone_for end ≡ Some (Fault.File Output)
+        ensures unwritten { IfErr result.1 (λ end. undone_for end ≡ Some (Fault.File Output)
             → WriterHasFailed W.gives W.flushes writer.old writer.new) }
-        ensures quiet { IfErr result (λ end. line_at_once end ≡ None) }
+        ensures quiet { IfErr result.1 (λ end. line_at_once end ≡ None) }
     {
         let Given {
             files,
             socket,
             words,
+            reader,
             told: _,
         } = self;
         let openers = Openers { files, socket };
+        let mut input = Counted::new(reader);
         match request_of(alloc, words) {
-            Ok(Some(request)) => done(openers, alloc, place, request, input, writer),
+            Ok(Some(request)) => {
+                let outcome = done(openers, alloc, place, request, &mut input, writer);
+                (Left::new(input), outcome)
+            }
             Ok(None) => {
                 answer(words, writer);
-                Err(End::OtherWords(openers.unused()))
+                (Left::new(input), Err(End::OtherWords(openers.unused())))
             }
-            Err(no_memory) => Err(End::Failed(Fault::Memory(no_memory), openers.unused())),
+            Err(no_memory) => {
+                let end = End::Failed(Fault::Memory(no_memory), openers.unused());
+                (Left::new(input), Err(end))
+            }
         }
     }
 }

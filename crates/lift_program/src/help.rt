@@ -2,7 +2,7 @@
 
 ghost use Rattle.std.specs.Prelude.{map};
 ghost use Rattle.lift_program.specs.Ends.{IsAnswered};
-ghost use Rattle.lift_program.specs.Output.{WriterHasFailed, SaysText};
+ghost use Rattle.lift_program.specs.Output.{IsFlushed, SaysText, WriterHasFailed};
 
 use crate::output::Outflow;
 use crate::words::asks_for_help;
@@ -29,7 +29,8 @@ Status 0: done. 1: a fault, told in a line on standard error, or a bad script.
 
 /// Writes a text, and has the output pass it on. Where it can't be written, nothing tells.
 fn write_text<W: Outflow>(writer: &mut W, text: &str)
-    ensures { SaysText text.now (WriterHasFailed W.gives W.flushes writer.old writer.new)
+    ensures { SaysText text.now (IsFlushed W.gives W.flushes writer.old writer.new)
+        (WriterHasFailed W.gives W.flushes writer.old writer.new)
         (W.contents writer.old) (W.contents writer.new) }
 {
     if put_all(writer, text.as_bytes()).is_err() {
@@ -45,6 +46,7 @@ fn write_text<W: Outflow>(writer: &mut W, text: &str)
 /// all the same.
 pub fn answer<S: AsStr, W: Outflow>(words: &[S], writer: &mut W)
     ensures { IsAnswered (map S.text words.now)
+        (IsFlushed W.gives W.flushes writer.old writer.new)
         (WriterHasFailed W.gives W.flushes writer.old writer.new)
         (W.contents writer.old) (W.contents writer.new) }
 {

@@ -1,13 +1,16 @@
 //! What a command opens its building, its image and its socket by.
 
-ghost use Rattle.std.specs.Prelude.{◌≡◌, ℕ, List, Option, Some, None, IfOk, OnErr, ⊤};
+ghost use Rattle.std.specs.Prelude.{◌≡◌, ℕ, List, Option, Result, Ok, Err, IfOk, IfErr, ⊤};
+ghost use Rattle.std.specs.declared.io.Error.{Error};
 ghost use Rattle.lift_program.specs.Images.{CommandFiles, ImageFiles, IsTextRead, image_files};
+ghost use Rattle.lift_program.specs.Stages.{IsNoText};
 
 use crate::left::Left;
 use crate::unwritten::ShownImage;
+use lift_base::text::Inlet;
 use lift_disk::{BufferedFile, Disk, FileOpener};
 use std::fs::File;
-use std::io::{ErrorKind, Read};
+use std::io::ErrorKind;
 use std::os::fd::AsRawFd;
 use std::rt::LibcRuntime;
 use std::{fs, io};
@@ -18,15 +21,22 @@ const STANDARD_ERROR: i32 = 2;
 /// What opens the file of a building to read it, once: an opening takes it, whether or not it
 /// succeeds.
 pub trait TextOpener: Drop {
-    type Text: Read + Drop;
+    type Text: Inlet + Drop;
 
     /// What was given where the file at a path was to be opened.
-    ghost opens: { Self → List ℕ → Option Self.Text → Type 0 };
+    ghost opens: { Self → List ℕ → Result Self.Text Error → Type 0 };
+
+    /// A call of its reader for as many bytes as these, answered so, from one state to the next.
+    ghost reads: { Self.Text → List ℕ → Option ℕ → Self.Text → Type 0 };
 
     /// A reader of the file at the path.
     fn open_text(self, path: &str) -> io::Result<Self::Text>
-        ensures opened { IfOk result (λ text. opens self path.now (Some text)) }
-        ensures refused { OnErr result (opens self path.now None) };
+        ensures opened { IfOk result (λ text. opens self path.now (Ok text)) }
+        ensures refused { IfErr result (λ error. opens self path.now (Err error)) };
+
+    /// What the reader tells is such a call.
+    ghost reads_told: { (old : Self.Text) (buffer : List ℕ) (answer : Option ℕ) (new : Self.Text)
+        → Self.Text.gives old buffer answer new → reads old buffer answer new };
 }
 
 /// What opens the file of a building on the host.
@@ -45,6 +55,10 @@ impl TextOpener for SystemTextOpener<'_> {
     type Text = File;
 
     ghost opens = { λ _ _ _. ⊤ };
+
+    ghost reads = { λ _ _ _ _. ⊤ };
+
+    ghost reads_told = { λ _ _ _ _ _. tt };
 
     /// What isn't a file, as a pipe or a terminal, isn't opened, so that nothing waits for its other
     /// end. A file that got the descriptor of a standard stream, which the program began without, is
@@ -108,5 +122,6 @@ impl<B: TextOpener, I: FileOpener> FilesView for Files<B, I> {
     ghost view = { λ files. record {
       image = ⟦<I as ImageView>⟧.image files.image;
       is_text = λ path. IsTextRead (B.opens files.building path) B.Text.remaining;
+      is_no_text = λ path. IsNoText (B.opens files.building path) B.Text.remaining B.reads;
     } };
 }

@@ -2,7 +2,8 @@
 
 ghost use Rattle.std.specs.Prelude.{◌≡◌, Some, None, IfOk, IfErr, OnOk, OnErr};
 ghost use Rattle.std.specs.Io.KnownBytes.{Appends};
-ghost use Rattle.lift_program.specs.Ends.{IsFileFault, IsReportOfFault, SaysFront, serving_text};
+ghost use Rattle.lift_program.specs.Ends.{IsFileFault, IsQuietUntil, IsReportOfFault, IsSocketHad};
+ghost use Rattle.lift_program.specs.Ends.{SaysFront, serving_text};
 ghost use Rattle.lift_program.specs.Listening.{local};
 ghost use Rattle.lift_program.specs.Output.{IsFlushed, IsOutputSettled, WriterHasFailed};
 ghost use Rattle.lift_program.specs.Serving.{IsReadyOver};
@@ -96,6 +97,10 @@ pub(crate) fn ready_for<'b, B: TextOpener, I: FileOpener, L: Listens, W: Outflow
     ensures report { IfErr result (λ undone.
         IsReportOfFault (fault_in undone) (W.contents writer.old) (W.contents writer.new)) }
     ensures front { SaysFront port (W.contents writer.old) (W.contents writer.new) }
+    // Nothing is said until the socket was had.
+    ensures quiet { IfErr result (λ undone. IsQuietUntil
+        (IsSocketHad (L.gives openers.socket local port)) undone (W.contents writer.old)
+        (W.contents writer.new)) }
     ensures failed { IfErr result (λ undone. fault_in undone ≡ Fault.File Output
         → WriterHasFailed W.gives W.flushes writer.old writer.new) }
 {

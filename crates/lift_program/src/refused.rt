@@ -1,12 +1,12 @@
 //! What memory may be wanting for, and the evidence that none was left.
 
-ghost use Rattle.std.specs.Prelude.{◌≡◌, ◌≢◌, Some, None, true, false, map};
+ghost use Rattle.std.specs.Prelude.{◌≡◌, ◌≢◌, Ok, Err, Some, None, true, false, map};
 ghost use Rattle.std.specs.Prelude.{IfOk, IfErr, IfSome, IfNone, OnOk, OnErr};
 ghost use Rattle.std.specs.Io.KnownBytes.{Keeps};
 ghost use Rattle.std.specs.IoError.{error_kind};
 ghost use Rattle.lift_program.specs.Ends.{IsFileFault};
 ghost use Rattle.lift_program.specs.Faults.{served_fault};
-ghost use Rattle.lift_program.specs.Stages.{IsImageFault};
+ghost use Rattle.lift_program.specs.Stages.{IsImageFault, IsTextRefused};
 ghost use Rattle.lift_program.specs.Words.{AreMatchesOf, AskForRequest, AsksNothing};
 ghost use Rattle.lift_program.specs.declared.fault.Fault.TheVariants.{Memory as Wanting};
 ghost use Rattle.lift_program.specs.declared.fault.Role.TheVariants.{Building as OfBuilding};
@@ -111,7 +111,8 @@ pub(crate) fn told_as<F: Drop, O: Drop>(cause: &FileFault<F, O>) -> Fault
 
 /// What reads the file of a building.
 pub(crate) fn text_in<B: TextOpener>(opener: B, path: &str) -> Result<B::Text, Fault>
-    ensures opened { IfOk result (λ text. B.opens opener path.now (Some text)) }
+    ensures opened { IfOk result (λ text. B.opens opener path.now (Ok text)) }
+    ensures refused { result ≡ Err (Fault.File OfBuilding) → IsTextRefused (B.opens opener path.now) }
     ensures fault { IfErr result (IsFileFault OfBuilding) }
 {
     match opener.open_text(path) {

@@ -6,7 +6,7 @@ ghost use Rattle.lift_keeper.specs.Reopening.{RefusesReopening};
 ghost use Rattle.lift_keeper.specs.declared.fault.KeeperFault.{KeeperFault as Refusal};
 ghost use Rattle.lift_replay.specs.Report.{register_text};
 ghost use Rattle.lift_program.specs.Ends.{IsFileFault, IsReportOfFault, IsShowingFault};
-ghost use Rattle.lift_program.specs.Ends.{IsShowingUndone};
+ghost use Rattle.lift_program.specs.Ends.{IsQuietUntil, IsShowingUndone};
 ghost use Rattle.lift_program.specs.Output.{WriterHasFailed, IsFlushed, IsOutputSettled};
 ghost use Rattle.lift_program.specs.Showing.{IsShown, ShowsRegister, ShowsFront, ShowsPart};
 ghost use Rattle.lift_program.specs.Stages.{IsUndoneShowing, fault_in};
@@ -99,6 +99,9 @@ pub fn show<B: TextOpener, I: FileOpener, W: Outflow>(
     ensures showing { IfErr result IsShowingUndone }
     ensures report { IfErr result (λ undone.
         IsReportOfFault (fault_in undone) (W.contents writer.old) (W.contents writer.new)) }
+    // Nothing is written until an image was had.
+    ensures quiet { IfErr result (λ undone. IsQuietUntil (Unit {0}) undone (W.contents writer.old)
+        (W.contents writer.new)) }
     ensures failed { IfErr result (λ undone. fault_in undone ≡ Fault.File Output
         → WriterHasFailed W.gives W.flushes writer.old writer.new) }
 {

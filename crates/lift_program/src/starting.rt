@@ -18,7 +18,7 @@ use crate::output::Outflow;
 use crate::ready::Ready;
 use crate::refused::NoMemory;
 use crate::serve::serve;
-use lift_base::text::{Counted, Watched};
+use lift_base::text::Watched;
 use lift_disk::FileOpener;
 use std::alloc::Global;
 use std::convert::AsStr;
@@ -65,21 +65,21 @@ pub fn start<
     E: Write + Drop,
 >(
     rt: &F,
-    given: Given<'_, B, I, L, S, E>,
+    given: Given<'_, B, I, L, S, R, E>,
     alloc: Global,
-    reader: R,
     writer: &mut W,
     errors: &mut Watched<E>,
 ) -> EndBy<I, I::Told>
     // The words come to this end,
     ensures end { IsEndOf (⟦<Files<B, I> as FilesView>⟧.view given.entry.files)
-        (L.gives given.entry.socket local) (R.remaining reader) (map S.text given.entry.words.now)
-        (W.contents writer.old) (W.contents writer.new) result }
+        (L.gives given.entry.socket local) (R.remaining given.entry.reader)
+        (map S.text given.entry.words.now) (W.contents writer.old) (W.contents writer.new) result }
     // whose report was written,
-    ensures report { IsReportOfEnd (R.remaining reader) result (W.contents writer.old)
+    ensures report { IsReportOfEnd (R.remaining given.entry.reader) result (W.contents writer.old)
         (W.contents writer.new) }
     ensures answered { result ≡ End.OtherWords given.entry.files.image
         → IsAnswered (map S.text given.entry.words.now)
+        (IsFlushed W.gives W.flushes writer.old writer.new)
         (WriterHasFailed W.gives W.flushes writer.old writer.new) (W.contents writer.old)
         (W.contents writer.new) }
     // which is a fault of the standard output only where that has failed,
@@ -90,11 +90,11 @@ pub fn start<
     // and its line was told, and nothing else.
     ensures told { TellsLine E.contents (line_of result) errors.old errors.new }
 {
-    let mut input = Counted::new(reader);
     let mut place = None;
-    let end = match given.prepare(alloc, &mut place, &mut input, writer) {
+    let (input, outcome) = given.prepare(alloc, &mut place, writer);
+    drop(input);
+    let end = match outcome {
         Ok(Ready { port, prepared }) => {
-            drop(input);
             let serving = serve(rt, alloc, prepared, errors);
             End::Served(port, serving.fault, serving.left, serving.end)
         }

@@ -89,9 +89,8 @@ impl Run {
         let mut errors = Vec::new(rt.alloc());
         let status = start(
             rt,
-            Given::new(openers, words),
+            Given::new(openers, words, reader),
             rt.alloc(),
-            reader,
             &mut report,
             &mut Watched::new(&mut errors),
         )
@@ -127,9 +126,8 @@ where
     let mut errors = Vec::new(rt.alloc());
     let status = start(
         rt,
-        Given::new(openers, words),
+        Given::new(openers, words, b"".as_slice()),
         rt.alloc(),
-        b"".as_slice(),
         writer,
         &mut Watched::new(&mut errors),
     )
@@ -175,9 +173,8 @@ fn inputs_that_fail(rt: HostRuntime) {
         let mut errors = Watched::new(Failing);
         let status = start(
             &rt,
-            Given::new(openers(&rt), words.as_slice()),
+            Given::new(openers(&rt), words.as_slice(), Failing),
             rt.alloc(),
-            Failing,
             &mut report,
             &mut errors,
         )

@@ -30,9 +30,8 @@ fn main(rt: HostRuntime) -> ExitCode {
     let status = match given(&rt) {
         Ok(words) => start(
             &rt,
-            Given::new(openers(&rt), words.as_slice()),
+            Given::new(openers(&rt), words.as_slice(), rt.stdin()),
             rt.alloc(),
-            rt.stdin(),
             &mut rt.stdout(),
             &mut errors,
         )

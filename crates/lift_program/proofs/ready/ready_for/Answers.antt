@@ -1,4 +1,4 @@
-use Rattle.std.proofs.Common.{Err, ap}
+use Rattle.std.proofs.Common.{Err, ap, inl, inr, refl}
 use Rattle.lift_program.proofs.Flushing.{building_no_network, building_no_output, network_no_output, output_no_network, unkept_no_network, unkept_no_output}
 use Rattle.lift_program.proofs.Stages.{is_ready, stands_so, keeper_undone, nothing_written, output_left, output_report, port_left}
 use Rattle.lift_program.proofs.ready.ready_for.Goals as goal
@@ -9,10 +9,10 @@ returns-clause-ready g c =
     c.insert-standing.ensures.value c.in-Ok.ensures.found c.in-Ok-keeper_in.ensures.opened c.in-Ok-keeper_in.ensures.settled c.in-Ok-listen_here.ensures.here
 
 pub returns-in-Err-clause-failed : goal.returns-in-Err-clause-failed
-returns-in-Err-clause-failed g c = λ same. absurd (building_no_output _ _ c.in-Err.ensures.fault same)
+returns-in-Err-clause-failed g c = λ same. absurd (building_no_output _ _ _ c.in-Err.ensures.fault same)
 
 pub returns-in-Err-clause-refused : goal.returns-in-Err-clause-refused
-returns-in-Err-clause-refused g c = λ same. absurd (building_no_network _ _ c.in-Err.ensures.fault same)
+returns-in-Err-clause-refused g c = λ same. absurd (building_no_network _ _ _ c.in-Err.ensures.fault same)
 
 pub returns-in-Err-keeper_in-clause-failed : goal.returns-in-Err-keeper_in-clause-failed
 returns-in-Err-keeper_in-clause-failed g c = λ same. absurd (unkept_no_output _ _ _ c.insert-standing.result.now _ c.in-Err-keeper_in.ensures.undone same)
@@ -21,7 +21,7 @@ pub returns-in-Err-keeper_in-clause-refused : goal.returns-in-Err-keeper_in-clau
 returns-in-Err-keeper_in-clause-refused g c = λ same. absurd (unkept_no_network _ _ _ c.insert-standing.result.now _ c.in-Err-keeper_in.ensures.undone same)
 
 pub returns-in-Err-keeper_in-clause-undone : goal.returns-in-Err-keeper_in-clause-undone
-returns-in-Err-keeper_in-clause-undone g c = keeper_undone _ _ _ _ _ c.insert-standing.result.now c.in-Err-keeper_in.undone (stands_so _ c.in-Ok.building c.insert-standing.result.now c.insert-standing.ensures.value c.in-Ok.ensures.found) c.in-Err-keeper_in.ensures.undone
+returns-in-Err-keeper_in-clause-undone g c = keeper_undone _ _ _ _ _ _ c.insert-standing.result.now c.in-Err-keeper_in.undone (stands_so _ c.in-Ok.building c.insert-standing.result.now c.insert-standing.ensures.value c.in-Ok.ensures.found) c.in-Err-keeper_in.ensures.undone
 
 pub returns-in-Err-keeper_in-clause-report : goal.returns-in-Err-keeper_in-clause-report
 returns-in-Err-keeper_in-clause-report g c = nothing_written _ _
@@ -48,3 +48,9 @@ returns-in-Err-say-clause-report g c = output_report c.in-Err-say.fault _ _ c.in
 pub returns-in-Err-say-clause-undone : goal.returns-in-Err-say-clause-undone
 returns-in-Err-say-clause-undone g c =
     output_left _ _ c.args.image.now c.insert-standing.result.now c.in-Ok-keeper_in.keeper _ c.in-Err-say.fault (stands_so _ c.in-Ok.building c.insert-standing.result.now c.insert-standing.ensures.value c.in-Ok.ensures.found) c.in-Ok-keeper_in.ensures.opened c.left_by-in-Err-say.ensures c.in-Err-say.ensures.fault
+
+pub returns-in-Err-listen_here-clause-quiet : goal.returns-in-Err-listen_here-clause-quiet
+returns-in-Err-listen_here-clause-quiet g c = inl refl
+
+pub returns-in-Err-say-clause-quiet : goal.returns-in-Err-say-clause-quiet
+returns-in-Err-say-clause-quiet g c = inr (c.in-Ok-listen_here.listening, c.in-Ok-listen_here.ensures.here)
