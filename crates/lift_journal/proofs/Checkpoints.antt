@@ -15,7 +15,7 @@ use Rattle.lift_record.specs.Version.{version_number}
 use Rattle.lift_disk.specs.Disk.{DiskState, Image, RunsOn, LooseWithin, TouchesOnly, LeavesNoOther, IsSteadyAt, IsWhole}
 use Rattle.lift_disk.specs.lemmas.Moments.{runs_none, runs_then, touches_none, touches_then}
 use Rattle.lift_journal.specs.Order.{AreRecordsInOrder, IsComplete}
-use Rattle.lift_journal.specs.Layout.{Batch, bodies, size_of, used, NeverFall, IsSound, IsBody, is_marked, IsOpen, sector_at}
+use Rattle.lift_journal.specs.Layout.{Batch, body_size, size_of, used, NeverFall, IsSound, IsBody, is_marked, IsOpen, sector_at}
 use Rattle.lift_journal.specs.Steps.{overwritten, marked, IsInRange}
 use Rattle.lift_journal.specs.Walk.{IsFront, IsSoundFront, Reaches}
 use Rattle.lift_journal.specs.Checkpoint.{in_batches, batch_count, checkpoint_of, sectors_for}
@@ -58,10 +58,10 @@ used_rises (suc early) zero records le = absurd (omega arith)
 used_rises (suc early) (suc late) records le = omega (arith, used_rises early late (drop 63 records) (omega arith))
 
 -- the next batch is one of them
-pub used_within : (count end size : ℕ) (records items : List Record) → count < end → end ≡ batch_count (length records) → 1 ≤ length records → items ≡ take 63 (drop (63 * count) records) → size ≡ bodies (length items)
+pub used_within : (count end size : ℕ) (records items : List Record) → count < end → end ≡ batch_count (length records) → 1 ≤ length records → items ≡ take 63 (drop (63 * count) records) → size ≡ body_size (length items)
     → used (in_batches count records) + (1 + size) ≤ sectors_for (length records)
 used_within count end size records items below all some is sized =
-    let batch : size ≡ size_of (batch_at count records) = sized ∙ ap (λ (l : List Record). bodies (length l)) is in
+    let batch : size ≡ size_of (batch_at count records) = sized ∙ ap (λ (l : List Record). body_size (length l)) is in
     omega (arith, batch, used_more (in_batches count records) (batch_at count records), ap used (batches_more count records), used_rises (suc count) (batch_count (length records)) records (omega (arith, below, all)), used_checkpoint records some)
 
 never_fall : (version : Version) (count : ℕ) (records : List Record) → version_number version ≤ 2 → NeverFall version (in_batches count records)
@@ -281,20 +281,20 @@ module _ (old now new : DiskState) (start gate count : ℕ) (records : List Reco
       }
 
 -- the body of the next batch, of as many sectors as it takes
-pub next_size : (size : ℕ) (items : List Record) (sectors : Image) → size ≡ bodies (length items) → length sectors ≡ 2 → length (take size sectors) ≡ size
+pub next_size : (size : ℕ) (items : List Record) (sectors : Image) → size ≡ body_size (length items) → length sectors ≡ 2 → length (take size sectors) ≡ size
 next_size size items sectors is two = omega (arith, length-take size sectors, is, two, bodies_few (length items))
 
-pub next_body : (count size : ℕ) (records items : List Record) (sectors : Image) → items ≡ take 63 (drop (63 * count) records) → size ≡ bodies (length items)
-    → IsBody (count + 1) (record { version = Two; records = items }) (take (bodies (length items)) sectors) → IsBody (count + 1) (batch_at count records) (take size sectors)
+pub next_body : (count size : ℕ) (records items : List Record) (sectors : Image) → items ≡ take 63 (drop (63 * count) records) → size ≡ body_size (length items)
+    → IsBody (count + 1) (record { version = Two; records = items }) (take (body_size (length items)) sectors) → IsBody (count + 1) (batch_at count records) (take size sectors)
 next_body count size records items sectors is sized body =
     subst (λ (l : List Record). IsBody (count + 1) (record { version = Two; records = l }) (take size sectors)) is
     (subst (λ k. IsBody (count + 1) (record { version = Two; records = items }) (take k sectors)) (sym sized) body)
 
-pub next_exact : (count size : ℕ) (records items : List Record) (sectors : Image) → items ≡ take 63 (drop (63 * count) records) → size ≡ bodies (length items)
-    → take (bodies (length items)) sectors ≡ batch_body (count + 1) (record { version = Two; records = items }) → take size sectors ≡ batch_body (count + 1) (batch_at count records)
+pub next_exact : (count size : ℕ) (records items : List Record) (sectors : Image) → items ≡ take 63 (drop (63 * count) records) → size ≡ body_size (length items)
+    → take (body_size (length items)) sectors ≡ batch_body (count + 1) (record { version = Two; records = items }) → take size sectors ≡ batch_body (count + 1) (batch_at count records)
 next_exact count size records items sectors is sized exact =
     ap (λ k. take k sectors) sized ∙ exact ∙ ap (λ (l : List Record). batch_body (count + 1) (record { version = Two; records = l })) is
 
 -- there is room for it
-pub next_room : (start gate count size end : ℕ) (records items : List Record) → gate ≡ start + used (in_batches count records) → count < end → end ≤ 10 → size ≡ bodies (length items) → gate + 1 + size < start + 64
+pub next_room : (start gate count size end : ℕ) (records items : List Record) → gate ≡ start + used (in_batches count records) → count < end → end ≤ 10 → size ≡ body_size (length items) → gate + 1 + size < start + 64
 next_room start gate count size end records items at below few is = omega (arith, at, used_most count records, below, few, is, bodies_few (length items))

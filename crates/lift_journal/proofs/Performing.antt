@@ -9,7 +9,7 @@ use Rattle.lift_disk.specs.lemmas.Moments.{cause_of, runs_call, runs_none, runs_
 use Rattle.lift_journal.specs.declared.fault.JournalFault.{JournalFault}
 use Rattle.lift_journal.specs.declared.fault.JournalFault.TheVariants.{Disk}
 use Rattle.lift_journal.specs.Calls.{Performs, append_calls}
-use Rattle.lift_journal.specs.Layout.{bodies}
+use Rattle.lift_journal.specs.Layout.{body_size}
 use Rattle.lift_journal.specs.Calls.{CallsDevice}
 use Rattle.lift_journal.specs.Journal.{JournalView}
 use Rattle.lift_journal.specs.Told.{FailsBy}
@@ -148,12 +148,12 @@ device_none fault calls n w disk other told = record {
 }
 
 -- the calls of an append, by the batch that it writes
-pub performs_body : {U E : Type 0} (r : Result U E) (old new : DiskState) (gate first n count : ℕ) (sectors body : Image) → length sectors ≡ 2 → n ≡ bodies count → take (bodies count) sectors ≡ body → gate ≡ first
-    → Performs r (append_calls gate (take n sectors)) (length (take n sectors) + 4) (length (take n sectors) + 2) old new → Performs r (append_calls first body) (bodies count + 4) (bodies count + 2) old new
+pub performs_body : {U E : Type 0} (r : Result U E) (old new : DiskState) (gate first n count : ℕ) (sectors body : Image) → length sectors ≡ 2 → n ≡ body_size count → take (body_size count) sectors ≡ body → gate ≡ first
+    → Performs r (append_calls gate (take n sectors)) (length (take n sectors) + 4) (length (take n sectors) + 2) old new → Performs r (append_calls first body) (body_size count + 4) (body_size count + 2) old new
 performs_body r old new gate first n count sectors body two is exact at was =
-    let long : length (take n sectors) ≡ bodies count = omega (arith, length-take n sectors, bodies_few count, two, is) in
-    subst (λ k. Performs r (append_calls k body) (bodies count + 4) (bodies count + 2) old new) at
-    (subst (λ (b : Image). Performs r (append_calls gate b) (bodies count + 4) (bodies count + 2) old new) (ap (λ k. take k sectors) is ∙ exact)
+    let long : length (take n sectors) ≡ body_size count = omega (arith, length-take n sectors, bodies_few count, two, is) in
+    subst (λ k. Performs r (append_calls k body) (body_size count + 4) (body_size count + 2) old new) at
+    (subst (λ (b : Image). Performs r (append_calls gate b) (body_size count + 4) (body_size count + 2) old new) (ap (λ k. take k sectors) is ∙ exact)
     (subst (λ k. Performs r (append_calls gate (take n sectors)) (k + 4) (k + 2) old new) long was))
 
 -- the same of what a caller sees of the journal

@@ -7,12 +7,12 @@ use Rattle.lift_disk.specs.Disk.{Image}
 use Rattle.lift_record.specs.declared.headers.Header.{Header}
 use Rattle.lift_record.specs.Header.{header_bytes, IsHeaderSpelling}
 use Rattle.lift_record.specs.lemmas.Spellings.{header_versions, header_counts}
-use Rattle.lift_journal.specs.Layout.{Batch, bodies, size_of, IsBody, sector_at}
+use Rattle.lift_journal.specs.Layout.{Batch, body_size, size_of, IsBody, sector_at}
 use Rattle.lift_journal.specs.Walk.{IsBatchAt}
 use Rattle.lift_journal.specs.Seen.{IsTailOf}
 use Rattle.lift_journal.proofs.Texts.{body_found, body_sectors, header_of_body, text_of_body, tail_of_text}
 
-pub bodies_few : (count : ℕ) → (1 ≤ bodies count) × (bodies count ≤ 2)
+pub bodies_few : (count : ℕ) → (1 ≤ body_size count) × (body_size count ≤ 2)
 bodies_few count = by_size (nat_lt count 32)
   where
     by_size : (b : Bool) → (1 ≤ cond b 1 2) × (cond b 1 2 ≤ 2)
@@ -57,15 +57,15 @@ module _ (image : Image) (gate end number : ℕ) where
       same_version batch there = header_versions header.version batch.version header.count (length batch.records) header.number number (same_header batch there)
 
       -- the next gate would not stand below the end
-      pub no_next : end ≤ gate + 1 + bodies header.count → (batch : Batch) → ¬ IsBatchAt image gate end number batch
+      pub no_next : end ≤ gate + 1 + body_size header.count → (batch : Batch) → ¬ IsBatchAt image gate end number batch
       no_next short batch there =
-          let next : gate + 1 + bodies header.count < end = subst (λ k. gate + 1 + bodies k < end) (sym (same_count batch there)) there.next in
+          let next : gate + 1 + body_size header.count < end = subst (λ k. gate + 1 + body_size k < end) (sym (same_count batch there)) there.next in
           omega (arith, short, next)
 
-      module _ (second : List ℕ) (two : length second ≡ 512) (next : bodies header.count ≡ 2 → sector_at image (gate + 2) ≡ second)
-          (blank : bodies header.count ≡ 1 → second ≡ replicate 512 0) (room : gate + 1 + bodies header.count < end) where
-        sectors : take (bodies header.count) (drop (gate + 1) image) ≡ take (bodies header.count) (first ∷ second ∷ [])
-        sectors = body_sectors (bodies header.count) (gate + 1) image first second (bodies_few header.count) (omega (arith, room, within)) is
+      module _ (second : List ℕ) (two : length second ≡ 512) (next : body_size header.count ≡ 2 → sector_at image (gate + 2) ≡ second)
+          (blank : body_size header.count ≡ 1 → second ≡ replicate 512 0) (room : gate + 1 + body_size header.count < end) where
+        sectors : take (body_size header.count) (drop (gate + 1) image) ≡ take (body_size header.count) (first ∷ second ∷ [])
+        sectors = body_sectors (body_size header.count) (gate + 1) image first second (bodies_few header.count) (omega (arith, room, within)) is
             (λ more. (let there : gate + 1 + 1 ≡ gate + 2 = omega arith in ap (λ k. sector_at image k) there ∙ next more))
 
         -- the records that were read
@@ -78,10 +78,10 @@ module _ (image : Image) (gate end number : ℕ) where
             let body = body_found number batch first second long two (omega (arith, counted, spelled.count_range)) (omega (arith, counted, spelled.count_range)) head
             (subst (λ v. IsTailOf v batch.records (drop 16 (first ++ second))) (sym version) tail) in
             let here : take (size_of batch) (first ∷ second ∷ []) ≡ take (size_of batch) (drop (gate + 1) image) =
-            ap (λ k. take (bodies k) (first ∷ second ∷ [])) counted ∙ sym sectors ∙ ap (λ k. take (bodies k) (drop (gate + 1) image)) (sym counted) in
+            ap (λ k. take (body_size k) (first ∷ second ∷ [])) counted ∙ sym sectors ∙ ap (λ k. take (body_size k) (drop (gate + 1) image)) (sym counted) in
             record {
               body = subst (IsBody number batch) here body;
-              next = subst (λ k. gate + 1 + bodies k < end) (sym counted) room;
+              next = subst (λ k. gate + 1 + body_size k < end) (sym counted) room;
             }
 
         -- no records, no batch
@@ -91,7 +91,7 @@ module _ (image : Image) (gate end number : ℕ) where
             let count = same_count batch there in
             let version = same_version batch there in
             let here : take (size_of batch) (drop (gate + 1) image) ≡ take (size_of batch) (first ∷ second ∷ []) =
-            ap (λ k. take (bodies k) (drop (gate + 1) image)) (sym count) ∙ sectors ∙ ap (λ k. take (bodies k) (first ∷ second ∷ [])) count in
+            ap (λ k. take (body_size k) (drop (gate + 1) image)) (sym count) ∙ sectors ∙ ap (λ k. take (body_size k) (first ∷ second ∷ [])) count in
             let body = subst (IsBody number batch) here there.body in
-            let text = text_of_body number batch first second body (λ one. blank (ap bodies count ∙ one)) in
+            let text = text_of_body number batch first second body (λ one. blank (ap body_size count ∙ one)) in
             none batch.records (sym count) (subst (λ v. IsTailOf v batch.records (drop 16 (first ++ second))) (sym version) (tail_of_text number batch first second body.lawful text))

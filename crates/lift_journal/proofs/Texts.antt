@@ -13,7 +13,7 @@ use Rattle.lift_record.specs.declared.version.Version.TheVariants.{Two}
 use Rattle.lift_record.specs.Record.{spelling_of}
 use Rattle.lift_record.specs.Header.{header_bytes}
 use Rattle.lift_record.specs.lemmas.Spellings.{length-spelling_of, length-header_bytes}
-use Rattle.lift_journal.specs.Layout.{Batch, new_batch, filled, bodies, size_of, batch_bytes, IsBody, IsRecordIn, sector_at}
+use Rattle.lift_journal.specs.Layout.{Batch, new_batch, filled, body_size, size_of, batch_bytes, IsBody, IsRecordIn, sector_at}
 use Rattle.lift_journal.specs.Calls.{batch_body}
 use Rattle.lift_journal.specs.Seen.{IsRecordsIn, IsTailOf}
 use Rattle.lift_journal.specs.lemmas.Unique.{length-spellings}
@@ -44,7 +44,7 @@ take_past xs ys n le = (let whole : n ≡ length xs + (n - length xs) = omega ar
 
 -- the front of a text, cut into sectors
 pub sectors_spelled : (count : ℕ) (content text : List ℕ) → length content ≡ 16 + 16 * count → count ≤ 63 → text ≡ filled 2 content
-    → concat (take (bodies count) (take 512 text ∷ drop 512 text ∷ [])) ≡ filled (bodies count) content
+    → concat (take (body_size count) (take 512 text ∷ drop 512 text ∷ [])) ≡ filled (body_size count) content
 sectors_spelled count content text size few is = by_size (nat_lt count 32) refl
   where
     one : count < 32 → take 512 text ++ [] ≡ content ++ replicate (512 - length content) 0
@@ -81,7 +81,7 @@ body_found number batch first second one two some few header tail =
       some = some;
       few = few;
       lawful = tail.lawful;
-      spelled = sym (ap (λ (l : Image). concat (take (bodies n) l)) cut) ∙ sectors_spelled n (batch_bytes number batch) text (length-batch_bytes number batch) few spelled;
+      spelled = sym (ap (λ (l : Image). concat (take (body_size n) l)) cut) ∙ sectors_spelled n (batch_bytes number batch) text (length-batch_bytes number batch) few spelled;
     }
 
 -- the body that is written is one of the batch

@@ -6,7 +6,7 @@ use Rattle.lift_base.specs.declared.history.Record.{Record}
 use Rattle.lift_record.specs.declared.version.Version.TheVariants.{One}
 use Rattle.lift_record.specs.Version.{version_number}
 use Rattle.lift_journal.specs.Order.{last_behind, IsInOrderBehind}
-use Rattle.lift_journal.specs.Layout.{Batch, records_of, used, bodies}
+use Rattle.lift_journal.specs.Layout.{Batch, records_of, used, body_size}
 use Rattle.lift_journal.specs.Walk.{IsSoundFront, version_behind}
 use Rattle.lift_journal.specs.Seen.{batch_of}
 use Rattle.lift_journal.specs.declared.batch.Stored.{Stored}
@@ -50,7 +50,7 @@ module _ {V : Type 0} (takes : V → List Record → V → Type 0) where
       → takes mid stored.records.items new → next ≡ passed front stored → IsShown takes was new start next (batches ++ batch_of stored ∷ [])
   more_shown was mid new start front next batches stored shown sized passes step is =
       let batch = batch_of stored in
-      let gate : next.gate ≡ front.gate + (1 + bodies (length stored.records.items)) = ap (λ (f : Front). f.gate) is in
+      let gate : next.gate ≡ front.gate + (1 + body_size (length stored.records.items)) = ap (λ (f : Front). f.gate) is in
       record {
         sound = front_push batches batch shown.sound (subst (λ v. version_number v ≤ version_number stored.version) shown.version_is passes.rises)
             (subst (λ l. IsInOrderBehind l stored.records.items) shown.last_is passes.ordered);

@@ -4,7 +4,7 @@ use Rattle.std.specs.Prelude.{Result, OnOk, OnErr, IfErr, IsErrOf}
 use Rattle.lift_disk.specs.Disk.{DiskState, LeavesOnly}
 use Rattle.lift_journal.specs.declared.fault.JournalFault.{JournalFault}
 use Rattle.lift_journal.specs.declared.fault.JournalFault.TheVariants.{Disk, Full, Broken}
-use Rattle.lift_journal.specs.Layout.{Batch, HoldsIn, bodies}
+use Rattle.lift_journal.specs.Layout.{Batch, HoldsIn, body_size}
 use Rattle.lift_journal.specs.Journal.{JournalView, JournalHolds}
 
 -- The batches that a journal holds become others, in this half.
@@ -24,7 +24,7 @@ pub record Becomes {D T : Type 0} (state : D → DiskState) (old : JournalView D
 
 -- The next batch goes into this half, after this many sectors, with this number; where the call
 -- fails, it goes where it would have gone.
-pub record GoesTo {D T : Type 0} (old : JournalView D) (is_second : Bool) (sectors next : ℕ)
+pub record MovesOnOk {D T : Type 0} (old : JournalView D) (is_second : Bool) (sectors next : ℕ)
     (new : JournalView D) (result : Result T JournalFault) : Type 0 where
   pub second : OnOk result (new.is_second ≡ is_second)
   pub used : OnOk result (new.used ≡ sectors)
@@ -37,6 +37,6 @@ pub record GoesTo {D T : Type 0} (old : JournalView D) (is_second : Bool) (secto
 pub record RefusesForRoom {D T : Type 0} (old : JournalView D) (count : ℕ) (new : JournalView D)
     (result : Result T JournalFault) : Type 0 where
   pub full : IsErrOf result Full
-      ↔ (old.is_broken ≡ false) × (old.shape.half < old.used + bodies count + 2)
+      ↔ (old.is_broken ≡ false) × (old.shape.half < old.used + body_size count + 2)
   pub unchanged : IsErrOf result Full → new ≡ old
   pub causes : IfErr result (λ fault. (fault ≡ Disk) ⊎ (fault ≡ Full) ⊎ (fault ≡ Broken))

@@ -2,7 +2,7 @@
 use Rattle.std.specs.Prelude.{◌+◌, ◌-◌, ◌*◌, ◌/◌, ℕ, zero, suc, List, [], ◌∷◌, length, take, drop}
 use Rattle.lift_base.specs.declared.history.Record.{Record}
 use Rattle.lift_record.specs.declared.version.Version.TheVariants.{Two}
-use Rattle.lift_journal.specs.Layout.{Batch, bodies}
+use Rattle.lift_journal.specs.Layout.{Batch, body_size}
 
 -- the first of these records, in this many batches of 63; the last one may be shorter
 abbrev pub in_batches : ℕ → List Record → List Batch
@@ -22,4 +22,4 @@ checkpoint_of records = in_batches (batch_count (length records)) records
 -- a gate, and all but the last are full and take two sectors more.
 abbrev pub sectors_for : ℕ → ℕ
 sectors_for records =
-    let full = batch_count records - 1 in 3 * full + 1 + bodies (records - 63 * full)
+    let full = batch_count records - 1 in 3 * full + 1 + body_size (records - 63 * full)

@@ -6,7 +6,7 @@ use Rattle.lift_journal.specs.declared.fault.JournalFault.{JournalFault}
 use Rattle.lift_journal.specs.declared.fault.JournalFault.TheVariants.{Disk, NotFormatted, Damaged}
 use Rattle.lift_journal.specs.declared.fault.JournalFault.TheVariants.{Full, Broken}
 use Rattle.lift_journal.specs.declared.walk.Front.{Front}
-use Rattle.lift_journal.specs.Layout.{bodies}
+use Rattle.lift_journal.specs.Layout.{body_size}
 use Rattle.lift_journal.specs.Order.{IsInOrderBehind, last_behind}
 use Rattle.std.specs.Prelude.{length}
 
@@ -18,7 +18,7 @@ pub record Passes (front : Front) (stored : Stored) : Type 0 where
 -- the front after it
 abbrev pub passed : Front → Stored → Front
 passed front stored = record {
-  gate = front.gate + (1 + bodies (length stored.records.items));
+  gate = front.gate + (1 + body_size (length stored.records.items));
   number = front.number + 1;
   version = stored.version;
   last = last_behind front.last stored.records.items;

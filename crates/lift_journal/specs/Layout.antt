@@ -44,11 +44,11 @@ abbrev pub IsClosed : List ℕ → Type 0
 IsClosed gate = is_marked gate ≡ false
 
 -- how many sectors this many records take beside their gate
-abbrev pub bodies : ℕ → ℕ
-bodies count = if nat_lt count 32 then 1 else 2
+abbrev pub body_size : ℕ → ℕ
+body_size count = if nat_lt count 32 then 1 else 2
 
 abbrev pub size_of : Batch → ℕ
-size_of batch = bodies (length batch.records)
+size_of batch = body_size (length batch.records)
 
 -- the bytes with zeros to the end of this many sectors
 abbrev pub filled : ℕ → List ℕ → List ℕ

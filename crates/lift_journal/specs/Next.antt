@@ -8,7 +8,7 @@ use Rattle.lift_base.specs.declared.history.Record.{Record}
 use Rattle.lift_disk.specs.Disk.{DiskState}
 use Rattle.lift_journal.specs.declared.fault.JournalFault.{JournalFault}
 use Rattle.lift_journal.specs.declared.fault.JournalFault.TheVariants.{Disk, Damaged}
-use Rattle.lift_journal.specs.Layout.{Batch, bodies}
+use Rattle.lift_journal.specs.Layout.{Batch, body_size}
 use Rattle.lift_journal.specs.Calls.{half_start, reads_from, HasRead, HasReadAt}
 use Rattle.lift_journal.specs.Steps.{ReadsOnly}
 use Rattle.lift_journal.specs.Told.{AnswersAsTold}
@@ -25,7 +25,7 @@ pub record GivesNext (batches : List Batch) (from to : CursorView)
 pub record MovesCursor {D : Type 0} (old : JournalView D) (from : CursorView) (new : JournalView D)
     (to : CursorView) (result : Result (Option (ArrayVec Record)) JournalFault) : Type 0 where
   pub given : IfOk result (λ found. IfSome found (λ records.
-      (to.skipped ≡ from.skipped + (1 + bodies (length records.items)))
+      (to.skipped ≡ from.skipped + (1 + body_size (length records.items)))
       × (to.given ≡ from.given + 1)))
   -- the end is told after all used sectors alone, and without a call
   pub ends : result ≡ Ok None → (old.used ≤ from.skipped) × (new ≡ old) × (to ≡ from)
@@ -45,7 +45,7 @@ pub record NextCalls {D : Type 0} (state : D → DiskState) (old : JournalView D
   pub all : IfOk result (λ found. IfSome found (λ records.
       (state new.device).trace ≡ (state old.device).trace
       ++ reads_from (half_start old.is_second old.shape.half + from.skipped)
-      (1 + bodies (length records.items))))
+      (1 + body_size (length records.items))))
   pub failed : IsErrOf result Disk
       → HasRead (half_start old.is_second old.shape.half + from.skipped) 2
       (half_start old.is_second old.shape.half + old.shape.half) (state old.device)

@@ -9,7 +9,7 @@ use Rattle.lift_disk.specs.Disk.{Image}
 use Rattle.lift_journal.specs.declared.batch.Stored.{Stored}
 use Rattle.lift_journal.specs.declared.reads.AtGate.{AtGate}
 use Rattle.lift_journal.specs.declared.reads.AtGate.TheVariants.{Closed, Batch as BatchAt, Damaged}
-use Rattle.lift_journal.specs.Layout.{Batch, IsRecordIn, IsOpen, IsClosed, sector_at, bodies}
+use Rattle.lift_journal.specs.Layout.{Batch, IsRecordIn, IsOpen, IsClosed, sector_at, body_size}
 use Rattle.lift_journal.specs.Walk.{IsBatchAt}
 
 -- the text begins with this many records
@@ -37,7 +37,7 @@ batch_of stored = record { version = stored.version; records = stored.records.it
 pub record FitsBelow (gate end : ℕ) (stored : Stored) : Type 0 where
   pub some : 1 ≤ length stored.records.items
   pub few : length stored.records.items ≤ 63
-  pub below : gate + 1 + bodies (length stored.records.items) < end
+  pub below : gate + 1 + body_size (length stored.records.items) < end
 
 -- this stands after an open gate
 abbrev pub ShowsBody : Image → ℕ → ℕ → ℕ → AtGate → Type 0

@@ -28,7 +28,7 @@ pub record StopsAtGate (shape : Shape) (batches : List Batch) (batch : Batch) (m
 
 -- An append of this many body sectors has failed: before the gate's write each cut leaves the
 -- batches from before.
-pub record StopsShort (shape : Shape) (batches : List Batch) (batch : Batch) (bodies : ℕ)
+pub record StopsAppend (shape : Shape) (batches : List Batch) (batch : Batch) (bodies : ℕ)
     (old new : DiskState) : Type 0 where
   pub early : new.calls ≤ old.calls + (bodies + 2) → LeavesNow new (Holds shape batches)
   pub late : old.calls + (bodies + 2) < new.calls

@@ -6,7 +6,7 @@ ghost use Rattle.lift_base.specs.Records.{IsLawful};
 ghost use Rattle.lift_record.specs.Record.{spelling_of};
 ghost use Rattle.lift_record.specs.Header.{header_bytes};
 ghost use Rattle.lift_record.specs.declared.version.Version.TheVariants.{Two};
-ghost use Rattle.lift_journal.specs.Layout.{IsBody, IsRecordIn, bodies, filled, new_batch};
+ghost use Rattle.lift_journal.specs.Layout.{IsBody, IsRecordIn, body_size, filled, new_batch};
 ghost use Rattle.lift_journal.specs.Calls.{batch_body};
 
 use crate::bytes::put;
@@ -45,7 +45,7 @@ pub fn sectors_of(text: &[u8; 1024]) -> &[[u8; 512]]
 
 /// How many sectors a batch of this many records takes beside its gate.
 pub fn body_count(count: usize) -> usize
-    ensures { result ≡ bodies count }
+    ensures { result ≡ body_size count }
 {
     if count < 32 { 1 } else { 2 }
 }
@@ -59,8 +59,8 @@ pub fn put_body(text: &mut [u8; 1024], batch: &[Record], number: u32)
     requires numbered { 1 ≤ number }
     requires lawful { All IsLawful batch.now }
     ensures spelled { IsBody number (record { version = Two; records = batch.now })
-        (take (bodies (length batch.now)) (take 512 text.new ∷ drop 512 text.new ∷ [])) }
-    ensures exact { take (bodies (length batch.now)) (take 512 text.new ∷ drop 512 text.new ∷ [])
+        (take (body_size (length batch.now)) (take 512 text.new ∷ drop 512 text.new ∷ [])) }
+    ensures exact { take (body_size (length batch.now)) (take 512 text.new ∷ drop 512 text.new ∷ [])
         ≡ batch_body number (new_batch batch.now) }
 {
     put_text(text, batch, number);

@@ -7,14 +7,14 @@ ghost use Rattle.lift_base.specs.Records.{IsLawful};
 ghost use Rattle.lift_disk.specs.Disk.{LeavesNow, IsSynced};
 ghost use Rattle.lift_register.specs.Base.{base_records};
 ghost use Rattle.lift_journal.specs.Checkpoint.{batch_count, checkpoint_of, sectors_for};
-ghost use Rattle.lift_journal.specs.Layout.{bodies, Batch, new_batch, Holds};
+ghost use Rattle.lift_journal.specs.Layout.{body_size, Batch, new_batch, Holds};
 ghost use Rattle.lift_journal.specs.Order.{IsEntry};
 ghost use Rattle.lift_journal.specs.Steps.{ReadsOnly, IsSyncedAt};
-ghost use Rattle.lift_journal.specs.Stops.{StopsShort, StopsCheckpoint};
+ghost use Rattle.lift_journal.specs.Stops.{StopsAppend, StopsCheckpoint};
 ghost use Rattle.lift_journal.specs.Calls.{half_start, append_calls, batch_body, pick_of};
 ghost use Rattle.lift_journal.specs.Calls.{checkpoint_calls, CallsDevice};
 ghost use Rattle.lift_journal.specs.Fronts.{IsOfCursor};
-ghost use Rattle.lift_journal.specs.Becomes.{Becomes, GoesTo, RefusesForRoom};
+ghost use Rattle.lift_journal.specs.Becomes.{Becomes, MovesOnOk, RefusesForRoom};
 ghost use Rattle.lift_journal.specs.Next.{GivesNext, MovesCursor, NextCalls};
 ghost use Rattle.lift_journal.specs.Visits.{TakesAll, HasTaken, ShownBefore};
 
@@ -110,7 +110,7 @@ impl<D: Disk> Journal<D> {
 
     /// Whether a batch of this many records (1 to 63) has room.
     pub fn room(&self, count: usize) -> bool
-        ensures room { IsTrue result ↔ (self.now.used + bodies count + 2 ≤ self.now.shape.half) }
+        ensures room { IsTrue result ↔ (self.now.used + body_size count + 2 ≤ self.now.shape.half) }
         // Until a call of the device fails, an honest one has some batches.
         ensures holds { self.now.is_broken ≡ false → (D.state self.now.device).is_honest
             → (batches : List Batch) × JournalHolds D.state self.now batches }
@@ -179,8 +179,8 @@ impl<D: Disk> Journal<D> {
             → Becomes D.state self.old self.old.is_second
             (λ batches. batches ++ new_batch batch.now.items ∷ []) self.new result }
         // At Ok the next batch goes after this one, else where this one would have gone.
-        ensures goes { GoesTo self.old self.old.is_second
-            (self.old.used + bodies (length batch.now.items) + 1) (self.old.number + 1) self.new
+        ensures goes { MovesOnOk self.old self.old.is_second
+            (self.old.used + body_size (length batch.now.items) + 1) (self.old.number + 1) self.new
             result }
         // A call of the device that fails breaks it; a broken journal rests.
         ensures breaks { BreaksByFault D.state self.old self.new result }
@@ -190,14 +190,14 @@ impl<D: Disk> Journal<D> {
         ensures calls { CallsDevice result
             (append_calls (half_start self.old.is_second self.old.shape.half + self.old.used)
             (batch_body self.old.number (new_batch batch.now.items)))
-            (bodies (length batch.now.items) + 4) (bodies (length batch.now.items) + 2)
+            (body_size (length batch.now.items) + 4) (body_size (length batch.now.items) + 2)
             (D.state self.old.device) (D.state self.new.device) }
         // Where it stopped says what a cut leaves.
         ensures stops { IsErrOf result JournalFault.Disk → (D.state self.old.device).is_honest
             → (D.state self.old.device).is_inert → (batches : List Batch)
             → LeavesNow (D.state self.old.device) (Holds self.old.shape batches)
-            → StopsShort self.old.shape batches (new_batch batch.now.items)
-            (bodies (length batch.now.items)) (D.state self.old.device)
+            → StopsAppend self.old.shape batches (new_batch batch.now.items)
+            (body_size (length batch.now.items)) (D.state self.old.device)
             (D.state self.new.device) }
     {
         if self.is_broken {
@@ -227,12 +227,12 @@ impl<D: Disk> Journal<D> {
         ensures becomes { self.old.is_broken ≡ false → (D.state self.old.device).is_honest
             → Becomes D.state self.old (not self.old.is_second)
             (λ _. checkpoint_of (base_records register.now)) self.new result }
-        ensures goes { GoesTo self.old (not self.old.is_second)
+        ensures goes { MovesOnOk self.old (not self.old.is_second)
             (sectors_for (length (base_records register.now)))
             (batch_count (length (base_records register.now)) + 1) self.new result }
         // After a checkpoint any batch has room.
         ensures roomy { OnOk result ((count : ℕ)
-            → self.new.used + bodies count + 2 ≤ self.new.shape.half) }
+            → self.new.used + body_size count + 2 ≤ self.new.shape.half) }
         ensures breaks { BreaksByFault D.state self.old self.new result }
         ensures causes { IfErr result (λ fault. (fault ≡ JournalFault.Disk)
             ⊎ (fault ≡ JournalFault.Broken)) }

@@ -3,7 +3,7 @@ ghost use Rattle.std.specs.Prelude.{◌≡◌, ◌≤◌, ◌<◌, ◌+◌, ◌-
 ghost use Rattle.std.specs.Prelude.{◌≢◌, OnOk, OnErr, IfOk, true, false};
 ghost use Rattle.lift_disk.specs.Disk.{IsSynced};
 ghost use Rattle.lift_record.specs.Header.{IsHeaderSpelling};
-ghost use Rattle.lift_journal.specs.Layout.{sector_at, is_marked, bodies, Batch as BatchValue, size_of};
+ghost use Rattle.lift_journal.specs.Layout.{sector_at, is_marked, body_size, Batch as BatchValue, size_of};
 ghost use Rattle.lift_journal.specs.Walk.{IsBatchAt};
 ghost use Rattle.lift_disk.specs.Trace.{Records};
 ghost use Rattle.lift_disk.specs.Trace.Access.{Sync};
@@ -97,7 +97,7 @@ fn read_rest<D: Disk>(
         → IsBatchAt (D.state disk.old).image gate end header.number batch → size_of batch ≡ 2) }
     ensures whole { IfOk result (λ at. (stored : _) → at ≡ AtGate.Batch stored
         → (D.state disk.new).trace ≡ (D.state disk.old).trace
-        ++ reads_from (gate + 2) (bodies (length stored.records.items) - 1)) }
+        ++ reads_from (gate + 2) (body_size (length stored.records.items) - 1)) }
 {
     let count = header.count as usize;
     let bodies = body_count(count) as u32;
@@ -133,7 +133,7 @@ fn read_body<D: Disk>(disk: &mut D, gate: u32, end: u32, number: u32) -> Result<
         → HasRead (gate + 1) (size_of batch - 1) end (D.state disk.old) (D.state disk.new)) }
     ensures whole { IfOk result (λ at. (stored : _) → at ≡ AtGate.Batch stored
         → (D.state disk.new).trace ≡ (D.state disk.old).trace
-        ++ reads_from (gate + 1) (bodies (length stored.records.items))) }
+        ++ reads_from (gate + 1) (body_size (length stored.records.items))) }
 {
     if end - gate <= 2 {
         return Ok(AtGate::Damaged);
@@ -186,7 +186,7 @@ pub fn look<D: Disk>(disk: &mut D, gate: u32, end: u32, number: u32) -> Result<A
         → HasRead gate (size_of batch) end (D.state disk.old) (D.state disk.new)) }
     ensures whole { IfOk result (λ at. (stored : _) → at ≡ AtGate.Batch stored
         → (D.state disk.new).trace ≡ (D.state disk.old).trace
-        ++ reads_from gate (1 + bodies (length stored.records.items))) }
+        ++ reads_from gate (1 + body_size (length stored.records.items))) }
     ensures closed { IfOk result (λ at. at ≡ AtGate.Closed
         → (D.state disk.new).trace ≡ (D.state disk.old).trace ++ reads_from gate 1) }
 {

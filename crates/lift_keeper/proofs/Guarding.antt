@@ -27,9 +27,9 @@ use Rattle.lift_journal.specs.Journal.{ReadsAs, StandsFor}
 use Rattle.lift_journal.specs.Told.{NoneFails, LastFails, FailsBy, AnswersAsTold}
 use Rattle.lift_journal.specs.lemmas.Telling.{passes_then, fault_then}
 use Rattle.lift_journal.specs.Checkpoint.{sectors_for}
-use Rattle.lift_journal.specs.Layout.{Batch, new_batch, records_of, size_of, bodies, used, Holds, HoldsIn, Picks}
+use Rattle.lift_journal.specs.Layout.{Batch, new_batch, records_of, size_of, body_size, used, Holds, HoldsIn, Picks}
 use Rattle.lift_journal.specs.Order.{IsEntry, IsOfBase}
-use Rattle.lift_journal.specs.Stops.{StopsShort, StopsCheckpoint}
+use Rattle.lift_journal.specs.Stops.{StopsAppend, StopsCheckpoint}
 use Rattle.lift_keeper.specs.Images.{IsImageOf, IsImageIn, IsInDoubt}
 use Rattle.lift_keeper.specs.Recovery.{entries_of, IsRegisterOf}
 use Rattle.lift_keeper.specs.Writer.{Keeps, Guards, StopsFolding, StopsAdding, StopsCommit, room_calls, room_used, room_second}
@@ -297,7 +297,7 @@ module _ (plan : Plan) (shape : Shape) (is_second : Bool) (taken : ℕ) (registe
     pub append_keeps : (new : DiskState) (after : Shape) (second : Bool) (count : ℕ) → (new.is_honest ↔ old.is_honest) → after ≡ shape
         → ((base entries : List Record) → StandsFor shape base entries old → StandsFor after base (entries ++ records) new)
         → ((batches : List Batch) → LeavesNow old (Holds shape batches) → LeavesNow new (Holds after (batches ++ new_batch records ∷ [])))
-        → second ≡ is_second → LeavesNow new (Picks is_second) → count ≡ taken + bodies (length records) + 1
+        → second ≡ is_second → LeavesNow new (Picks is_second) → count ≡ taken + body_size (length records) + 1
         → new.is_honest → Keeps plan after second count (register_of register batch) new
     append_keeps new after second count same is stands holds half picks counts honest_new =
         let keeps = guards.keeps (same.0 honest_new) in
@@ -316,7 +316,7 @@ module _ (plan : Plan) (shape : Shape) (is_second : Bool) (taken : ℕ) (registe
 
     -- an append that failed
     module _ (new : DiskState) (honest : old.is_honest) (honest_new : new.is_honest) (are : All IsEntry records) (picks : LeavesNow new (Picks is_second)) (may_lose : MayLose new)
-        (stops : StopsShort shape (guards.keeps honest).batches (new_batch records) (bodies (length records)) old new) where
+        (stops : StopsAppend shape (guards.keeps honest).batches (new_batch records) (body_size (length records)) old new) where
       pick_at : (left : Image) → MayLeave new left → Picks is_second left
       pick_at left leaves = picks honest_new left leaves
 
@@ -327,25 +327,25 @@ module _ (plan : Plan) (shape : Shape) (is_second : Bool) (taken : ℕ) (registe
       before_in left leaves holds = old_in honest left (record { holds = holds; picks = pick_at left leaves })
 
       added_in : (left : Image) → MayLeave new left → Holds shape ((guards.keeps honest).batches ++ new_batch records ∷ []) left
-          → IsImageIn plan shape.half is_second (taken + (bodies (length batch) + 1)) (register_of register batch) left
+          → IsImageIn plan shape.half is_second (taken + (body_size (length batch) + 1)) (register_of register batch) left
       added_in left leaves holds =
           let keeps = guards.keeps honest in
           let reads = keeps_reads plan shape is_second taken register old keeps honest in
-          image_in plan shape is_second (taken + (bodies (length batch) + 1)) (register_of register batch) (keeps.batches ++ new_batch records ∷ []) keeps.base (keeps.entries ++ records) left keeps.of_building holds
+          image_in plan shape is_second (taken + (body_size (length batch) + 1)) (register_of register batch) (keeps.batches ++ new_batch records ∷ []) keeps.base (keeps.entries ++ records) left keeps.of_building holds
           (records_push keeps.batches (new_batch records) ∙ ap (λ (l : List Record). l ++ records) keeps.joined ∙ append_assoc keeps.base keeps.entries records)
           reads.is_base (All-append IsEntry keeps.entries records reads.are_entries are) (batch_behind plan keeps.base keeps.entries register batch records keeps.is fit kept) (pick_at left leaves)
-          (omega (arith, keeps.counts, used_push keeps.batches (new_batch records), ap bodies long))
+          (omega (arith, keeps.counts, used_push keeps.batches (new_batch records), ap body_size long))
 
       -- this many calls were made before
       pub append_stops : (first : DiskState) (made : ℕ) → old.calls ≡ first.calls + made → StopsAdding plan shape.half is_second taken register batch made first new
       append_stops first made before = record {
-        early = λ few _ left leaves. before_in left leaves (stops.early (omega (arith, few, before, ap bodies long)) honest_new left leaves);
-        keeps_old = λ calls. before_in new.image here ((stops.late (omega (arith, calls, before, ap bodies long))).keeps_old (omega (arith, calls, before, ap bodies long)));
-        keeps_new = λ calls. added_in new.image here ((stops.late (omega (arith, calls, before, ap bodies long))).keeps_new (omega (arith, calls, before, ap bodies long)));
-        loses = λ many. before_in new.synced (may_lose honest_new) ((stops.late (omega (arith, many, before, ap bodies long))).loses);
-        fills_mark = λ many left filled. added_in left (filled_left 165 new left filled) ((stops.late (omega (arith, many, before, ap bodies long))).fills_new left filled);
+        early = λ few _ left leaves. before_in left leaves (stops.early (omega (arith, few, before, ap body_size long)) honest_new left leaves);
+        keeps_old = λ calls. before_in new.image here ((stops.late (omega (arith, calls, before, ap body_size long))).keeps_old (omega (arith, calls, before, ap body_size long)));
+        keeps_new = λ calls. added_in new.image here ((stops.late (omega (arith, calls, before, ap body_size long))).keeps_new (omega (arith, calls, before, ap body_size long)));
+        loses = λ many. before_in new.synced (may_lose honest_new) ((stops.late (omega (arith, many, before, ap body_size long))).loses);
+        fills_mark = λ many left filled. added_in left (filled_left 165 new left filled) ((stops.late (omega (arith, many, before, ap body_size long))).fills_new left filled);
         fills_other = λ many byte left other filled.
-            before_in left (filled_left byte new left filled) ((stops.late (omega (arith, many, before, ap bodies long))).fills_old byte left other filled);
+            before_in left (filled_left byte new left filled) ((stops.late (omega (arith, many, before, ap body_size long))).fills_old byte left other filled);
       }
         where
           here : MayLeave new new.image

@@ -11,7 +11,7 @@ use Rattle.lift_register.specs.Prelude.{IsWellFormed}
 use Rattle.lift_register.specs.Base.{base_records}
 use Rattle.lift_journal.specs.Checkpoint.{sectors_for}
 use Rattle.lift_journal.specs.Journal.{JournalView, StandsFor}
-use Rattle.lift_journal.specs.Layout.{Batch, records_of, Holds, Picks, bodies, used}
+use Rattle.lift_journal.specs.Layout.{Batch, records_of, Holds, Picks, body_size, used}
 use Rattle.lift_keeper.specs.Cuts.{StopsAtMark}
 use Rattle.lift_keeper.specs.Images.{IsImageIn, IsInDoubt}
 use Rattle.lift_keeper.specs.Recovery.{IsRegisterOf}
@@ -72,7 +72,7 @@ pub record IsWriter {D : Type 0} (plan : Plan) (journal : JournalView D) (regist
 
 -- a batch of this many entries has room after this many used sectors of a half
 abbrev pub has_room : (used half count : ℕ) → Bool
-has_room used half count = nat_le (used + bodies count + 2) half
+has_room used half count = nat_le (used + body_size count + 2) half
 
 -- how many device calls the checkpoint takes that a batch without room needs, and how many of them
 -- are writes
@@ -97,15 +97,15 @@ room_second is_second used half count =
 -- sectors used after it
 abbrev pub commit_calls : RegisterState → (used half count : ℕ) → ℕ
 commit_calls register used half count =
-    if count == 0 then 0 else room_calls register used half count + (bodies count + 4)
+    if count == 0 then 0 else room_calls register used half count + (body_size count + 4)
 
 abbrev pub commit_writes : RegisterState → (used half count : ℕ) → ℕ
 commit_writes register used half count =
-    if count == 0 then 0 else room_writes register used half count + (bodies count + 2)
+    if count == 0 then 0 else room_writes register used half count + (body_size count + 2)
 
 abbrev pub commit_used : RegisterState → (used half count : ℕ) → ℕ
 commit_used register used half count =
-    if count == 0 then used else room_used register used half count + (bodies count + 1)
+    if count == 0 then used else room_used register used half count + (body_size count + 1)
 
 abbrev pub commit_second : Bool → (used half count : ℕ) → Bool
 commit_second is_second used half count =
@@ -125,8 +125,8 @@ abbrev pub StopsAdding : Plan → ℕ → Bool → ℕ → RegisterState → Lis
     → DiskState → Type 0
 StopsAdding plan half is_second taken register batch before old new =
     StopsAtMark (IsImageIn plan half is_second taken register)
-    (IsImageIn plan half is_second (taken + (bodies (length batch) + 1))
-    (register_of register batch)) false (before + (bodies (length batch) + 2)) old new
+    (IsImageIn plan half is_second (taken + (body_size (length batch) + 1))
+    (register_of register batch)) false (before + (body_size (length batch) + 2)) old new
 
 -- A commit has failed: within its checkpoint, if it needs one, or after it.
 pub record StopsCommit (plan : Plan) (half : ℕ) (is_second : Bool) (taken : ℕ)

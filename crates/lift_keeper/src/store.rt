@@ -9,7 +9,7 @@ ghost use Rattle.lift_building.specs.Plan.{Plan};
 ghost use Rattle.lift_disk.specs.Disk.{LeavesOnly, RunsOn};
 ghost use Rattle.lift_register.specs.Prelude.{register_of, FitFrom};
 ghost use Rattle.lift_journal.specs.Answers.{BreaksByFault};
-ghost use Rattle.lift_journal.specs.Layout.{bodies};
+ghost use Rattle.lift_journal.specs.Layout.{body_size};
 ghost use Rattle.lift_journal.specs.Order.{IsEntry};
 ghost use Rattle.lift_journal.specs.Steps.{Makes};
 ghost use Rattle.lift_journal.specs.Told.{AnswersAsTold};
@@ -42,7 +42,7 @@ fn make_room<D: Disk>(
         → (D.state journal.new.device).is_honest
         → Keeps plan journal.new.shape journal.new.is_second journal.new.used register.now
         (D.state journal.new.device)) }
-    ensures room { OnOk result (journal.new.used + bodies count + 2 ≤ journal.new.shape.half) }
+    ensures room { OnOk result (journal.new.used + body_size count + 2 ≤ journal.new.shape.half) }
     ensures used { OnOk result (journal.new.used
         ≡ room_used register.now journal.old.used journal.old.shape.half count) }
     ensures second { OnOk result (journal.new.is_second
@@ -94,16 +94,16 @@ pub fn store<D: Disk>(
         (register_of register.now batch) (D.state journal.new.device)) }
     ensures used { OnOk result (journal.new.used
         ≡ room_used register.now journal.old.used journal.old.shape.half (length records.now.items)
-        + (bodies (length records.now.items) + 1)) }
+        + (body_size (length records.now.items) + 1)) }
     ensures second { OnOk result (journal.new.is_second
         ≡ room_second journal.old.is_second journal.old.used journal.old.shape.half
         (length records.now.items)) }
     ensures runs { RunsOn (D.state journal.old.device) (D.state journal.new.device) }
     ensures made { Makes result
         (room_calls register.now journal.old.used journal.old.shape.half (length records.now.items)
-        + (bodies (length records.now.items) + 4))
+        + (body_size (length records.now.items) + 4))
         (room_writes register.now journal.old.used journal.old.shape.half (length records.now.items)
-        + (bodies (length records.now.items) + 2))
+        + (body_size (length records.now.items) + 2))
         (D.state journal.old.device) (D.state journal.new.device) }
     ensures told { AnswersAsTold result (D.state journal.old.device) (D.state journal.new.device) }
     ensures stops { OnErr result ((plan : Plan) (batch : List EntryValue)

@@ -8,7 +8,7 @@ use Rattle.lift_base.specs.declared.history.Record.TheVariants.{Row, Done}
 use Rattle.lift_register.specs.Register.{RegisterState, rows_of, cars, terminals}
 use Rattle.lift_register.specs.Base.{base_records, last_records}
 use Rattle.lift_record.specs.declared.version.Version.TheVariants.{Two}
-use Rattle.lift_journal.specs.Layout.{Batch, records_of, bodies, used}
+use Rattle.lift_journal.specs.Layout.{Batch, records_of, body_size, used}
 use Rattle.lift_journal.specs.Checkpoint.{in_batches, batch_count, checkpoint_of, sectors_for}
 use Rattle.lift_journal.specs.lemmas.Chains.{used_more}
 
@@ -39,7 +39,7 @@ length_batches (suc count) records = ap suc (length_batches count (drop 63 recor
 used_full : (count : ℕ) (records : List Record) → 63 * count ≤ length records → used (in_batches count records) ≡ 3 * count
 used_full zero records full = omega arith
 used_full (suc count) records full =
-    let size : bodies (length (take 63 records)) ≡ 2 = ap bodies (length-take-le 63 records (omega arith)) in
+    let size : body_size (length (take 63 records)) ≡ 2 = ap body_size (length-take-le 63 records (omega arith)) in
     omega (arith, size, used_full count (drop 63 records) (omega (arith, length-drop 63 records)))
 
 pub used_checkpoint : (records : List Record) → 1 ≤ length records → used (checkpoint_of records) ≡ sectors_for (length records)
@@ -51,10 +51,10 @@ used_checkpoint records some =
     let late : n ≤ 63 * full + 63 = omega arith in
     let rest : length (take 63 (drop (63 * full) records)) ≡ n - 63 * full =
     ap length (take_all 63 (drop (63 * full) records) (omega (arith, length-drop (63 * full) records))) ∙ length-drop (63 * full) records in
-    let last : bodies (length (take 63 (drop (63 * full) records))) ≡ bodies (n - 63 * full) = ap bodies rest in
+    let last : body_size (length (take 63 (drop (63 * full) records))) ≡ body_size (n - 63 * full) = ap body_size rest in
     ap (λ k. used (in_batches k records)) count
     ∙ ap used (batches_more full records)
-    ∙ (let sum : used (in_batches full records ++ batch_at full records ∷ []) ≡ 3 * full + 1 + bodies (n - 63 * full) =
+    ∙ (let sum : used (in_batches full records ++ batch_at full records ∷ []) ≡ 3 * full + 1 + body_size (n - 63 * full) =
     omega (arith, used_more (in_batches full records) (batch_at full records), used_full full records early, last) in sum)
 
 pub checkpoint_records : (records : List Record) → records_of (checkpoint_of records) ≡ records

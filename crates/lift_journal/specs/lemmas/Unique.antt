@@ -12,7 +12,7 @@ use Rattle.lift_record.specs.declared.version.Version.{Version}
 use Rattle.lift_record.specs.Record.{spelling_of}
 use Rattle.lift_record.specs.Header.{header_bytes}
 use Rattle.lift_record.specs.lemmas.Spellings.{spelling_of_unique, header_versions, header_counts, length-spelling_of, length-header_bytes}
-use Rattle.lift_journal.specs.Layout.{Batch, bodies, size_of, filled, IsRecordIn, IsBody, IsChain, start_of, stamp_bytes, IsStamped, Holds}
+use Rattle.lift_journal.specs.Layout.{Batch, body_size, size_of, filled, IsRecordIn, IsBody, IsChain, start_of, stamp_bytes, IsStamped, Holds}
 
 pub length-spellings : (version : Version) (contents : List Record) → length (flat_map (spelling_of version) contents) ≡ 16 * length contents
 length-spellings version [] = refl
@@ -74,14 +74,14 @@ headers_same number first second rest a b =
 -- of one version and one count
 texts_unique : (number count : ℕ) (version : Version) (first second : List Record) (bytes : List ℕ) → length first ≡ count → length second ≡ count
     → All (IsRecordIn version) first → All (IsRecordIn version) second
-    → bytes ≡ filled (bodies count) (header_bytes version count number ++ flat_map (spelling_of version) first)
-    → bytes ≡ filled (bodies count) (header_bytes version count number ++ flat_map (spelling_of version) second) → first ≡ second
+    → bytes ≡ filled (body_size count) (header_bytes version count number ++ flat_map (spelling_of version) first)
+    → bytes ≡ filled (body_size count) (header_bytes version count number ++ flat_map (spelling_of version) second) → first ≡ second
 texts_unique number count version first second bytes so_many as_many a b is also =
     let header = header_bytes version count number in
     let one = flat_map (spelling_of version) first in
     let two = flat_map (spelling_of version) second in
     let n = 16 * count in
-    let zeros : List ℕ → List ℕ = λ texts. replicate (512 * bodies count - length (header ++ texts)) 0 in
+    let zeros : List ℕ → List ℕ = λ texts. replicate (512 * body_size count - length (header ++ texts)) 0 in
     let size_one : length one ≡ n = length-spellings version first ∙ ap (λ k. 16 * k) so_many in
     let size_two : length two ≡ n = length-spellings version second ∙ ap (λ k. 16 * k) as_many in
     let both : header ++ (one ++ zeros one) ≡ header ++ (two ++ zeros two) =
@@ -106,7 +106,7 @@ body_unique number first second rest a b =
     let lawful : All (IsRecordIn first.version) second.records = subst (λ v. All (IsRecordIn v) second.records) (sym version) b.lawful in
     let again : concat (take (size_of first) rest) ≡ filled (size_of first) (header_bytes first.version (length first.records) number ++ flat_map (spelling_of first.version) second.records) =
     subst (λ v. concat (take (size_of first) rest) ≡ filled (size_of first) (header_bytes v (length first.records) number ++ flat_map (spelling_of v) second.records)) (sym version)
-    (subst (λ k. concat (take (bodies k) rest) ≡ filled (bodies k) (header_bytes second.version k number ++ flat_map (spelling_of second.version) second.records)) (sym count) b.spelled) in
+    (subst (λ k. concat (take (body_size k) rest) ≡ filled (body_size k) (header_bytes second.version k number ++ flat_map (spelling_of second.version) second.records)) (sym count) b.spelled) in
     batch_same first second version
     (texts_unique number (length first.records) first.version first.records second.records (concat (take (size_of first) rest)) refl (sym count) a.lawful lawful a.spelled again)
 

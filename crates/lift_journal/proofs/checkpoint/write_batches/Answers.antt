@@ -6,7 +6,7 @@ use Rattle.lift_disk.specs.Disk.{Image}
 use Rattle.lift_disk.specs.lemmas.Moments.{runs_then}
 use Rattle.lift_record.specs.declared.version.Version.TheVariants.{Two}
 use Rattle.lift_register.specs.Base.{base_records}
-use Rattle.lift_journal.specs.Layout.{bodies, used, IsBody}
+use Rattle.lift_journal.specs.Layout.{body_size, used, IsBody}
 use Rattle.lift_journal.specs.Walk.{Reaches}
 use Rattle.lift_journal.specs.Checkpoint.{in_batches, batch_count, sectors_for}
 use Rattle.lift_journal.proofs.Bases.{base_in_order}
@@ -24,7 +24,7 @@ put_body-requires-clause-lawful g c =
 pub write_open_batch-requires-clause-there : goal.write_open_batch-requires-clause-there
 write_open_batch-requires-clause-there g c =
     let items = c.base_batch-batch.result.items in
-    let is : c.body_count-bodies.result ≡ bodies (length items) = c.body_count-bodies.ensures ∙ ap bodies c.len.ensures.value in
+    let is : c.body_count-bodies.result ≡ body_size (length items) = c.body_count-bodies.ensures ∙ ap body_size c.len.ensures.value in
     let long = next_size c.body_count-bodies.result items c.sectors_of-body.result.now is c.sectors_of-body.ensures.length in
     let room = next_room c.args.start c.loop-index.gate c.loop-index.index c.body_count-bodies.result c.batches_for-index-end.result (base_records c.args.register.now) items c.loop-index.invariant.at c.loop-index-test.true c.batches_for-index-end.ensures.limit is in
     omega (arith, long, room, c.requires.there, c.loop-index.invariant.runs.size)
@@ -32,7 +32,7 @@ write_open_batch-requires-clause-there g c =
 pub write_open_batch-requires-clause-fits : goal.write_open_batch-requires-clause-fits
 write_open_batch-requires-clause-fits g c =
     let items = c.base_batch-batch.result.items in
-    let is : c.body_count-bodies.result ≡ bodies (length items) = c.body_count-bodies.ensures ∙ ap bodies c.len.ensures.value in
+    let is : c.body_count-bodies.result ≡ body_size (length items) = c.body_count-bodies.ensures ∙ ap body_size c.len.ensures.value in
     let long = next_size c.body_count-bodies.result items c.sectors_of-body.result.now is c.sectors_of-body.ensures.length in
     let room = next_room c.args.start c.loop-index.gate c.loop-index.index c.body_count-bodies.result c.batches_for-index-end.result (base_records c.args.register.now) items c.loop-index.invariant.at c.loop-index-test.true c.batches_for-index-end.ensures.limit is in
     omega (arith, long, room, c.requires.fits)
@@ -41,7 +41,7 @@ pub returns-in_err-write_open_batch-clause-touched : goal.returns-in_err-write_o
 returns-in_err-write_open_batch-clause-touched g c =
     let items = c.base_batch-batch.result.items in
     let records = base_records c.args.register.now in
-    let is : c.body_count-bodies.result ≡ bodies (length items) = c.body_count-bodies.ensures ∙ ap bodies c.len.ensures.value in
+    let is : c.body_count-bodies.result ≡ body_size (length items) = c.body_count-bodies.ensures ∙ ap body_size c.len.ensures.value in
     let long = next_size c.body_count-bodies.result items c.sectors_of-body.result.now is c.sectors_of-body.ensures.length in
     let room = next_room c.args.start c.loop-index.gate c.loop-index.index c.body_count-bodies.result c.batches_for-index-end.result records items c.loop-index.invariant.at c.loop-index-test.true c.batches_for-index-end.ensures.limit is in
     drafted_touched (g.D.Disk.state c.args.disk.now) (g.D.Disk.state c.loop-index.disk) (g.D.Disk.state c.write_open_batch.new.disk) c.args.start c.loop-index.gate c.loop-index.index records c.loop-index.invariant
@@ -50,7 +50,7 @@ returns-in_err-write_open_batch-clause-touched g c =
 pub overflow_add-gate-in-loop-index : goal.overflow_add-gate-in-loop-index
 overflow_add-gate-in-loop-index g c =
     let items = c.base_batch-batch.result.items in
-    let is : c.body_count-bodies.result ≡ bodies (length items) = c.body_count-bodies.ensures ∙ ap bodies c.len.ensures.value in
+    let is : c.body_count-bodies.result ≡ body_size (length items) = c.body_count-bodies.ensures ∙ ap body_size c.len.ensures.value in
     let room = next_room c.args.start c.loop-index.gate c.loop-index.index c.body_count-bodies.result c.batches_for-index-end.result (base_records c.args.register.now) items c.loop-index.invariant.at c.loop-index-test.true c.batches_for-index-end.ensures.limit is in
     omega (arith, room, c.requires.fits)
 
@@ -64,15 +64,15 @@ loop-index-preserved g c =
     let n = c.body_count-bodies.result in
     let k = c.loop-index.index in
     let sectors = take n c.sectors_of-body.result.now in
-    let is : n ≡ bodies (length items) = c.body_count-bodies.ensures ∙ ap bodies c.len.ensures.value in
+    let is : n ≡ body_size (length items) = c.body_count-bodies.ensures ∙ ap body_size c.len.ensures.value in
     let long = next_size n items c.sectors_of-body.result.now is c.sectors_of-body.ensures.length in
     let room = next_room c.args.start c.loop-index.gate k n c.batches_for-index-end.result records items c.loop-index.invariant.at c.loop-index-test.true c.batches_for-index-end.ensures.limit is in
-    let written = subst (λ (s : Image). IsBody (k + 1) (record { version = Two; records = items }) (take (bodies (length items)) s)) (sym c.sectors_of-body.ensures.cut) (subst (λ (l : List Record). IsBody (k + 1) (record { version = Two; records = l }) (take (bodies (length l)) (take 512 c.put_body.new.text ∷ drop 512 c.put_body.new.text ∷ []))) c.deref.ensures.0 c.put_body.ensures.spelled) in
-    let exact : take (bodies (length items)) c.sectors_of-body.result.now ≡ batch_body (k + 1) (record { version = Two; records = items }) =
-    ap (λ (s : Image). take (bodies (length items)) s) c.sectors_of-body.ensures.cut
-    ∙ subst (λ (l : List Record). take (bodies (length l)) (take 512 c.put_body.new.text ∷ drop 512 c.put_body.new.text ∷ []) ≡ batch_body (k + 1) (record { version = Two; records = l })) c.deref.ensures.0 c.put_body.ensures.exact in
+    let written = subst (λ (s : Image). IsBody (k + 1) (record { version = Two; records = items }) (take (body_size (length items)) s)) (sym c.sectors_of-body.ensures.cut) (subst (λ (l : List Record). IsBody (k + 1) (record { version = Two; records = l }) (take (body_size (length l)) (take 512 c.put_body.new.text ∷ drop 512 c.put_body.new.text ∷ []))) c.deref.ensures.0 c.put_body.ensures.spelled) in
+    let exact : take (body_size (length items)) c.sectors_of-body.result.now ≡ batch_body (k + 1) (record { version = Two; records = items }) =
+    ap (λ (s : Image). take (body_size (length items)) s) c.sectors_of-body.ensures.cut
+    ∙ subst (λ (l : List Record). take (body_size (length l)) (take 512 c.put_body.new.text ∷ drop 512 c.put_body.new.text ∷ []) ≡ batch_body (k + 1) (record { version = Two; records = l })) c.deref.ensures.0 c.put_body.ensures.exact in
     subst (λ m. Drafted old new c.args.start (c.loop-index.gate + (m + 1)) (k + 1) records) long
-    (drafted_more old now new c.args.start c.loop-index.gate k records c.loop-index.invariant sectors (omega (arith, long, room)) (long ∙ is ∙ ap (λ (l : List Record). bodies (length l)) c.base_batch-batch.ensures)
+    (drafted_more old now new c.args.start c.loop-index.gate k records c.loop-index.invariant sectors (omega (arith, long, room)) (long ∙ is ∙ ap (λ (l : List Record). body_size (length l)) c.base_batch-batch.ensures)
     (next_body k n records items c.sectors_of-body.result.now c.base_batch-batch.ensures is written) (base_in_order c.args.register.now c.base_len.ensures.lawful)
     c.write_open_batch.ensures.runs c.in_ok-write_open_batch.ensures.made.calls c.in_ok-write_open_batch.ensures.made.writes c.in_ok-write_open_batch.ensures.cause.ok c.in_ok-write_open_batch.ensures.told.ok
     (next_exact k n records items c.sectors_of-body.result.now c.base_batch-batch.ensures is exact) c.in_ok-write_open_batch.ensures.follows.all c.write_open_batch.ensures.touched c.in_ok-write_open_batch.ensures.written (g.met.D.Disk.whole c.loop-index.disk))
@@ -107,14 +107,14 @@ returns-in_err-write_open_batch-clause-performs g c =
     let n = c.body_count-bodies.result in
     let k = c.loop-index.index in
     let fault = err_from_is_err_and c.from_residual.result c.from_residual.ensures.1 in
-    let is : n ≡ bodies (length items) = c.body_count-bodies.ensures ∙ ap bodies c.len.ensures.value in
+    let is : n ≡ body_size (length items) = c.body_count-bodies.ensures ∙ ap body_size c.len.ensures.value in
     let long = next_size n items c.sectors_of-body.result.now is c.sectors_of-body.ensures.length in
     let all : c.batches_for-index-end.result ≡ batch_count (length records) = c.batches_for-index-end.ensures.value ∙ ap batch_count c.base_len.ensures.value in
     let within = used_within k c.batches_for-index-end.result n records items c.loop-index-test.true all (omega (arith, c.base_len.ensures.value, c.base_len.ensures.limit.0)) c.base_batch-batch.ensures is in
     let made = c.write_open_batch.ensures.made in
-    let exact : take (bodies (length items)) c.sectors_of-body.result.now ≡ batch_body (k + 1) (record { version = Two; records = items }) =
-    ap (λ (s : Image). take (bodies (length items)) s) c.sectors_of-body.ensures.cut
-    ∙ subst (λ (l : List Record). take (bodies (length l)) (take 512 c.put_body.new.text ∷ drop 512 c.put_body.new.text ∷ []) ≡ batch_body (k + 1) (record { version = Two; records = l })) c.deref.ensures.0 c.put_body.ensures.exact in
+    let exact : take (body_size (length items)) c.sectors_of-body.result.now ≡ batch_body (k + 1) (record { version = Two; records = items }) =
+    ap (λ (s : Image). take (body_size (length items)) s) c.sectors_of-body.ensures.cut
+    ∙ subst (λ (l : List Record). take (body_size (length l)) (take 512 c.put_body.new.text ∷ drop 512 c.put_body.new.text ∷ []) ≡ batch_body (k + 1) (record { version = Two; records = l })) c.deref.ensures.0 c.put_body.ensures.exact in
     record {
       runs = runs_then old now new so_far.runs c.write_open_batch.ensures.runs;
       cause = record { ok = rw fault.1 tt; err = rw fault.1 (omega (arith, so_far.failures, c.in_err-write_open_batch.ensures.cause.err)) };

@@ -3,7 +3,7 @@ use Rattle.std.specs.Prelude.{IfOk}
 use Rattle.lift_disk.specs.Disk.{Image}
 use Rattle.lift_journal.specs.declared.reads.AtGate.{AtGate}
 use Rattle.lift_journal.specs.declared.reads.AtGate.TheVariants.{Closed, Batch, Damaged}
-use Rattle.lift_journal.specs.Layout.{IsOpen, sector_at, bodies, size_of}
+use Rattle.lift_journal.specs.Layout.{IsOpen, sector_at, body_size, size_of}
 use Rattle.lift_journal.specs.Seen.{ShowsBody, ShowsAt}
 use Rattle.lift_journal.specs.Walk.{IsBatchAt}
 use Rattle.lift_journal.specs.lemmas.Looking.{looks_then, err_weaker}
@@ -73,7 +73,7 @@ returns-clause-unfinished g c =
 pub returns-clause-whole : goal.returns-clause-whole
 returns-clause-whole g c =
     if_ok c.read_body.result _ _ (λ at whole stored is.
-    rows_then (g.D.Disk.state c.args.disk.now) (g.D.Disk.state c.read_mark.new.disk) (g.D.Disk.state c.read_body.new.disk) c.args.gate 1 (bodies (length stored.records.items)) (c.args.gate + 1) (omega arith)
+    rows_then (g.D.Disk.state c.args.disk.now) (g.D.Disk.state c.read_mark.new.disk) (g.D.Disk.state c.read_body.new.disk) c.args.gate 1 (body_size (length stored.records.items)) (c.args.gate + 1) (omega arith)
     c.in_ok-read_mark.ensures.read (whole stored is)) c.read_body.ensures.whole
 
 pub returns-clause-closed : goal.returns-clause-closed

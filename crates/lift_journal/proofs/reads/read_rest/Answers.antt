@@ -1,6 +1,6 @@
 use Rattle.std.proofs.Common.{◌≡◌, length, nat_eq, true, refl, sym, ◌∙◌, ap, arith}
 use Rattle.std.proofs.lemmas.Bool.{eqb-true}
-use Rattle.lift_journal.specs.Layout.{Batch, bodies}
+use Rattle.lift_journal.specs.Layout.{Batch, body_size}
 use Rattle.lift_journal.specs.lemmas.Looking.{err_any}
 use Rattle.lift_journal.proofs.Seeing.{no_next, batch_there, no_records, same_count}
 use Rattle.lift_journal.proofs.reads.read_rest.Goals as goal
@@ -45,4 +45,4 @@ returns-in_err-second-clause-unfinished g c =
     let count = same_count image c.args.gate c.args.end c.args.header.number c.args.first.now is c.told-first (omega (arith, whole, c.requires.inside)) c.args.header c.requires.header refl batch there in
     let wanted : nat_eq c.body_count-bodies.result 2 ≡ true = c.in_err-second.ensures.wanted in
     let two : c.body_count-bodies.result ≡ 2 = eqb-true c.body_count-bodies.result 2 wanted in
-    ap bodies (sym count) ∙ sym c.body_count-bodies.ensures ∙ two))
+    ap body_size (sym count) ∙ sym c.body_count-bodies.ensures ∙ two))

@@ -10,7 +10,7 @@ use Rattle.lift_journal.specs.lemmas.Unique.{chain_unique}
 use Rattle.lift_journal.proofs.Walks.{walk_begins, goes_on, reaches_end, ends, ends_early, none_here, may_not, seen_at}
 use Rattle.lift_journal.specs.lemmas.Looking.{reads_then, well_then, failed_then}
 use Rattle.lift_journal.proofs.Seeing.{bodies_few}
-use Rattle.lift_journal.specs.Layout.{bodies, Batch as BatchValue}
+use Rattle.lift_journal.specs.Layout.{body_size, Batch as BatchValue}
 use Rattle.lift_journal.specs.Calls.{reads_from}
 use Rattle.lift_journal.proofs.Following.{rows_then, rows_same}
 use Rattle.lift_journal.proofs.walk.walk.Goals as goal
@@ -46,7 +46,7 @@ loop-front-preserved g c =
       only = reads_then old mid new inv.only c.look.ensures.looks.only;
       well = well_then old mid new inv.only inv.well c.in-Ok-Batch.ensures.looks.ok;
       trace =
-          let more = 1 + bodies (length stored.records.items) in
+          let more = 1 + body_size (length stored.records.items) in
           let place : (front.gate - c.args.start) + more ≡ (front.gate + more) - c.args.start = omega (arith, inv.low) in
           subst (λ (f : Front). new.trace ≡ old.trace ++ reads_from c.args.start (f.gate - c.args.start)) (sym is)
           (rows_then old mid new c.args.start (front.gate - c.args.start) more front.gate (omega (arith, inv.low)) inv.trace (c.in-Ok-Batch.ensures.whole stored c.in-Ok-Batch.field-0-is)
@@ -232,11 +232,11 @@ returns-then-not-pass-clause-behind g c =
     let fits = c.in-Ok-Batch.ensures.fits stored c.in-Ok-Batch.field-0-is in
     let few = bodies_few (length stored.records.items) in
     record {
-      more = bodies (length stored.records.items);
+      more = body_size (length stored.records.items);
       low = inv.low;
       few = omega (arith, few);
       inside = omega (arith, fits.below);
-      made = rows_then (g.D.Disk.state c.args.disk.now) (g.D.Disk.state c.loop-front.disk) (g.D.Disk.state c.look.new.disk) c.args.start (front.gate - c.args.start) (1 + bodies (length stored.records.items)) front.gate
+      made = rows_then (g.D.Disk.state c.args.disk.now) (g.D.Disk.state c.loop-front.disk) (g.D.Disk.state c.look.new.disk) c.args.start (front.gate - c.args.start) (1 + body_size (length stored.records.items)) front.gate
           (omega (arith, inv.low)) inv.trace (c.in-Ok-Batch.ensures.whole stored c.in-Ok-Batch.field-0-is);
       damaged = λ known. returns-then-not-pass-clause-damaged g c front.gate refl known.0 known.1;
     }

@@ -5,7 +5,7 @@ use Rattle.lift_keeper.proofs.Guarding.{ok_five, append_leaves, append_keeps, in
 use Rattle.std.proofs.lemmas.List.{length-map}
 use Rattle.lift_base.specs.declared.history.Record.TheVariants.{Entry as EntryRecord}
 use Rattle.lift_base.specs.declared.history.Shape.{Shape}
-use Rattle.lift_journal.specs.Layout.{Picks, bodies}
+use Rattle.lift_journal.specs.Layout.{Picks, body_size}
 use Rattle.lift_journal.specs.lemmas.Adding.{adds_reads, adds_half, added_reads, added_lists}
 use Rattle.lift_keeper.proofs.store.store.Goals as goal
 
@@ -64,7 +64,7 @@ returns-clause-stops g c =
     let picks = now_after mid new (Picks middle.is_second)
     (adds_half g.D.Disk.state middle after records same c.append.ensures.breaks.shape c.append.result (c.append.ensures.becomes room.breaks.stays)) (g.met.D.Disk.counts_now after.device) in
     by_disk_alone c.append.result _ c.append.ensures.refuses.causes
-    (λ is. absurd (omega (arith, (c.append.ensures.refuses.full.0 is).1, room.room, ap bodies count)))
+    (λ is. absurd (omega (arith, (c.append.ensures.refuses.full.0 is).1, room.room, ap body_size count)))
     (λ is. cc (c.append.ensures.breaks.broken.0 is, room.breaks.stays))
     (λ is plan batch kept fit guards honest inert.
     let then = guards_then plan journal.shape middle.shape journal.is_second middle.is_second journal.used middle.used register old mid guards (room.keeps plan guards) in

@@ -3,8 +3,8 @@ use Rattle.lift_base.specs.declared.history.Record.{Record}
 use Rattle.lift_disk.specs.Disk.{Image, LeavesNow, LeavesOnly}
 use Rattle.lift_record.specs.declared.version.Version.TheVariants.{Two}
 use Rattle.lift_journal.specs.declared.fault.JournalFault.TheVariants.{Full, Broken}
-use Rattle.lift_journal.specs.Layout.{Batch, new_batch, bodies, size_of, IsBody, Holds, HoldsIn}
-use Rattle.lift_journal.specs.Stops.{StopsShort}
+use Rattle.lift_journal.specs.Layout.{Batch, new_batch, body_size, size_of, IsBody, Holds, HoldsIn}
+use Rattle.lift_journal.specs.Stops.{StopsAppend}
 use Rattle.lift_journal.specs.Journal.{JournalView, JournalHolds}
 use Rattle.lift_journal.specs.lemmas.Looking.{open_ok, open_err}
 use Rattle.lift_journal.proofs.Standing.{append_picks, gate_high, ready, same_batches, stands_then, stands_seen, seen_then, leaves_in, becomes_none}
@@ -22,8 +22,8 @@ invariant_of-self-2 g c =
     let new = g.D.Disk.state c.write_batch.new.disk in
     let items = c.args.batch.now.items in
     let batch : Batch = record { version = Two; records = items } in
-    let is : c.body_count-bodies.result ≡ size_of batch = c.body_count-bodies.ensures ∙ ap bodies c.len.ensures.value in
-    let body = subst (λ (s : Image). IsBody j.place.number batch (take (bodies (length items)) s)) (sym c.sectors_of-body.ensures.cut) (subst (λ (l : List Record). IsBody j.place.number (record { version = Two; records = l }) (take (bodies (length l)) (take 512 c.put_body.new.text ∷ drop 512 c.put_body.new.text ∷ []))) c.deref.ensures.0 c.put_body.ensures.spelled) in
+    let is : c.body_count-bodies.result ≡ size_of batch = c.body_count-bodies.ensures ∙ ap body_size c.len.ensures.value in
+    let body = subst (λ (s : Image). IsBody j.place.number batch (take (body_size (length items)) s)) (sym c.sectors_of-body.ensures.cut) (subst (λ (l : List Record). IsBody j.place.number (record { version = Two; records = l }) (take (body_size (length l)) (take 512 c.put_body.new.text ∷ drop 512 c.put_body.new.text ∷ []))) c.deref.ensures.0 c.put_body.ensures.spelled) in
     let few = bodies_few (length items) in
     let place = c.self.invariant.place in
     let quiet = open_ok c.write_batch.result (new.failures ≡ old.failures) (sym c.is_err.ensures.value ∙ c.if-is_err.false) c.write_batch.ensures.performs.cause.ok in
@@ -65,8 +65,8 @@ returns-then-is_err-clause-becomes g c _ honest_seen =
     let new = g.D.Disk.state c.write_batch.new.disk in
     let items = c.args.batch.now.items in
     let batch : Batch = record { version = Two; records = items } in
-    let is : c.body_count-bodies.result ≡ size_of batch = c.body_count-bodies.ensures ∙ ap bodies c.len.ensures.value in
-    let body = subst (λ (s : Image). IsBody j.place.number batch (take (bodies (length items)) s)) (sym c.sectors_of-body.ensures.cut) (subst (λ (l : List Record). IsBody j.place.number (record { version = Two; records = l }) (take (bodies (length l)) (take 512 c.put_body.new.text ∷ drop 512 c.put_body.new.text ∷ []))) c.deref.ensures.0 c.put_body.ensures.spelled) in
+    let is : c.body_count-bodies.result ≡ size_of batch = c.body_count-bodies.ensures ∙ ap body_size c.len.ensures.value in
+    let body = subst (λ (s : Image). IsBody j.place.number batch (take (body_size (length items)) s)) (sym c.sectors_of-body.ensures.cut) (subst (λ (l : List Record). IsBody j.place.number (record { version = Two; records = l }) (take (body_size (length l)) (take 512 c.put_body.new.text ∷ drop 512 c.put_body.new.text ∷ []))) c.deref.ensures.0 c.put_body.ensures.spelled) in
     let high = j.place.gate + length (take c.body_count-bodies.result c.sectors_of-body.result.now) + 2 in
     let honest : old.is_honest = subst (λ (v : JournalView g.row.D.Denot). (g.D.Disk.state v.device).is_honest) (sym c.self.view_is) honest_seen in
     let at = c.self.invariant.stands c.if-self.false honest in
@@ -88,8 +88,8 @@ returns-clause-becomes g c _ honest_seen =
     let new = g.D.Disk.state c.write_batch.new.disk in
     let items = c.args.batch.now.items in
     let batch : Batch = record { version = Two; records = items } in
-    let is : c.body_count-bodies.result ≡ size_of batch = c.body_count-bodies.ensures ∙ ap bodies c.len.ensures.value in
-    let body = subst (λ (s : Image). IsBody j.place.number batch (take (bodies (length items)) s)) (sym c.sectors_of-body.ensures.cut) (subst (λ (l : List Record). IsBody j.place.number (record { version = Two; records = l }) (take (bodies (length l)) (take 512 c.put_body.new.text ∷ drop 512 c.put_body.new.text ∷ []))) c.deref.ensures.0 c.put_body.ensures.spelled) in
+    let is : c.body_count-bodies.result ≡ size_of batch = c.body_count-bodies.ensures ∙ ap body_size c.len.ensures.value in
+    let body = subst (λ (s : Image). IsBody j.place.number batch (take (body_size (length items)) s)) (sym c.sectors_of-body.ensures.cut) (subst (λ (l : List Record). IsBody j.place.number (record { version = Two; records = l }) (take (body_size (length l)) (take 512 c.put_body.new.text ∷ drop 512 c.put_body.new.text ∷ []))) c.deref.ensures.0 c.put_body.ensures.spelled) in
     let high = j.place.gate + length (take c.body_count-bodies.result c.sectors_of-body.result.now) + 2 in
     let honest : old.is_honest = subst (λ (v : JournalView g.row.D.Denot). (g.D.Disk.state v.device).is_honest) (sym c.self.view_is) honest_seen in
     let at = c.self.invariant.stands c.if-self.false honest in
@@ -125,14 +125,14 @@ returns-clause-calls g c =
     let new = g.D.Disk.state c.write_batch.new.disk in
     let items = c.args.batch.now.items in
     let batch : Batch = record { version = Two; records = items } in
-    let is : c.body_count-bodies.result ≡ size_of batch = c.body_count-bodies.ensures ∙ ap bodies c.len.ensures.value in
-    let body = subst (λ (s : Image). IsBody j.place.number batch (take (bodies (length items)) s)) (sym c.sectors_of-body.ensures.cut) (subst (λ (l : List Record). IsBody j.place.number (record { version = Two; records = l }) (take (bodies (length l)) (take 512 c.put_body.new.text ∷ drop 512 c.put_body.new.text ∷ []))) c.deref.ensures.0 c.put_body.ensures.spelled) in
+    let is : c.body_count-bodies.result ≡ size_of batch = c.body_count-bodies.ensures ∙ ap body_size c.len.ensures.value in
+    let body = subst (λ (s : Image). IsBody j.place.number batch (take (body_size (length items)) s)) (sym c.sectors_of-body.ensures.cut) (subst (λ (l : List Record). IsBody j.place.number (record { version = Two; records = l }) (take (body_size (length l)) (take 512 c.put_body.new.text ∷ drop 512 c.put_body.new.text ∷ []))) c.deref.ensures.0 c.put_body.ensures.spelled) in
     let sectors = c.sectors_of-body.result.now in
     let place = c.self.invariant.place in
     let gate : half_start (nat_lt 2 j.place.start) j.place.shape.half + (j.place.gate - j.place.start) ≡ j.place.gate = omega (arith, begins_at j.place.shape.half j.place.start (omega (arith, place.within.half.0)) place.halves, place.low) in
-    let exact : take (bodies (length items)) sectors ≡ batch_body j.place.number batch =
-    ap (take (bodies (length items))) c.sectors_of-body.ensures.cut
-    ∙ subst (λ (l : List Record). take (bodies (length l)) (take 512 c.put_body.new.text ∷ drop 512 c.put_body.new.text ∷ []) ≡ batch_body j.place.number (record { version = Two; records = l })) c.deref.ensures.0 c.put_body.ensures.exact in
+    let exact : take (body_size (length items)) sectors ≡ batch_body j.place.number batch =
+    ap (take (body_size (length items))) c.sectors_of-body.ensures.cut
+    ∙ subst (λ (l : List Record). take (body_size (length l)) (take 512 c.put_body.new.text ∷ drop 512 c.put_body.new.text ∷ []) ≡ batch_body j.place.number (record { version = Two; records = l })) c.deref.ensures.0 c.put_body.ensures.exact in
     let performed = performs_body c.write_batch.result old new j.place.gate _ c.body_count-bodies.result (length items) sectors (batch_body j.place.number batch) c.sectors_of-body.ensures.length is exact (sym gate) c.write_batch.ensures.performs in
     calls_seen g.D.Disk.state (λ (v : JournalView g.row.D.Denot). append_calls (half_start v.is_second v.shape.half + v.used) (batch_body v.number batch)) c.self.view_is
     (device_ok _ _ _ old new c.write_batch.result (sym c.is_err.ensures.value ∙ c.if-is_err.false) performed)
@@ -144,14 +144,14 @@ returns-then-is_err-clause-calls g c =
     let new = g.D.Disk.state c.write_batch.new.disk in
     let items = c.args.batch.now.items in
     let batch : Batch = record { version = Two; records = items } in
-    let is : c.body_count-bodies.result ≡ size_of batch = c.body_count-bodies.ensures ∙ ap bodies c.len.ensures.value in
-    let body = subst (λ (s : Image). IsBody j.place.number batch (take (bodies (length items)) s)) (sym c.sectors_of-body.ensures.cut) (subst (λ (l : List Record). IsBody j.place.number (record { version = Two; records = l }) (take (bodies (length l)) (take 512 c.put_body.new.text ∷ drop 512 c.put_body.new.text ∷ []))) c.deref.ensures.0 c.put_body.ensures.spelled) in
+    let is : c.body_count-bodies.result ≡ size_of batch = c.body_count-bodies.ensures ∙ ap body_size c.len.ensures.value in
+    let body = subst (λ (s : Image). IsBody j.place.number batch (take (body_size (length items)) s)) (sym c.sectors_of-body.ensures.cut) (subst (λ (l : List Record). IsBody j.place.number (record { version = Two; records = l }) (take (body_size (length l)) (take 512 c.put_body.new.text ∷ drop 512 c.put_body.new.text ∷ []))) c.deref.ensures.0 c.put_body.ensures.spelled) in
     let sectors = c.sectors_of-body.result.now in
     let place = c.self.invariant.place in
     let gate : half_start (nat_lt 2 j.place.start) j.place.shape.half + (j.place.gate - j.place.start) ≡ j.place.gate = omega (arith, begins_at j.place.shape.half j.place.start (omega (arith, place.within.half.0)) place.halves, place.low) in
-    let exact : take (bodies (length items)) sectors ≡ batch_body j.place.number batch =
-    ap (take (bodies (length items))) c.sectors_of-body.ensures.cut
-    ∙ subst (λ (l : List Record). take (bodies (length l)) (take 512 c.put_body.new.text ∷ drop 512 c.put_body.new.text ∷ []) ≡ batch_body j.place.number (record { version = Two; records = l })) c.deref.ensures.0 c.put_body.ensures.exact in
+    let exact : take (body_size (length items)) sectors ≡ batch_body j.place.number batch =
+    ap (take (body_size (length items))) c.sectors_of-body.ensures.cut
+    ∙ subst (λ (l : List Record). take (body_size (length l)) (take 512 c.put_body.new.text ∷ drop 512 c.put_body.new.text ∷ []) ≡ batch_body j.place.number (record { version = Two; records = l })) c.deref.ensures.0 c.put_body.ensures.exact in
     let performed = performs_body c.write_batch.result old new j.place.gate _ c.body_count-bodies.result (length items) sectors (batch_body j.place.number batch) c.sectors_of-body.ensures.length is exact (sym gate) c.write_batch.ensures.performs in
     calls_seen g.D.Disk.state (λ (v : JournalView g.row.D.Denot). append_calls (half_start v.is_second v.shape.half + v.used) (batch_body v.number batch)) c.self.view_is
     (device_err _ _ _ old new c.write_batch.result (sym c.is_err.ensures.value ∙ c.if-is_err.true) performed)
@@ -163,15 +163,15 @@ returns-then-is_err-clause-stops g c _ =
     let new = g.D.Disk.state c.write_batch.new.disk in
     let items = c.args.batch.now.items in
     let batch : Batch = record { version = Two; records = items } in
-    let is : c.body_count-bodies.result ≡ size_of batch = c.body_count-bodies.ensures ∙ ap bodies c.len.ensures.value in
-    let body = subst (λ (s : Image). IsBody j.place.number batch (take (bodies (length items)) s)) (sym c.sectors_of-body.ensures.cut) (subst (λ (l : List Record). IsBody j.place.number (record { version = Two; records = l }) (take (bodies (length l)) (take 512 c.put_body.new.text ∷ drop 512 c.put_body.new.text ∷ []))) c.deref.ensures.0 c.put_body.ensures.spelled) in
+    let is : c.body_count-bodies.result ≡ size_of batch = c.body_count-bodies.ensures ∙ ap body_size c.len.ensures.value in
+    let body = subst (λ (s : Image). IsBody j.place.number batch (take (body_size (length items)) s)) (sym c.sectors_of-body.ensures.cut) (subst (λ (l : List Record). IsBody j.place.number (record { version = Two; records = l }) (take (body_size (length l)) (take 512 c.put_body.new.text ∷ drop 512 c.put_body.new.text ∷ []))) c.deref.ensures.0 c.put_body.ensures.spelled) in
     let sectors = c.sectors_of-body.result.now in
     let stands = c.self.invariant.stands c.if-self.false in
     let stopped = λ (honest : old.is_honest) (inert : old.is_inert) (batches : List Batch) (lists : LeavesNow old (Holds j.place.shape batches)).
     (let at = stands honest in
     let before = ready j.place.shape j.place.start j.place.gate j.place.number c.body_count-bodies.result old items sectors at is c.if-used-bodies.false c.sectors_of-body.ensures.length body c.requires.entries in
     let stops = open_err c.write_batch.result _ (sym c.is_err.ensures.value ∙ c.if-is_err.true) c.write_batch.ensures.stops j.place.shape at.batches batch honest inert before in
-    subst (λ (bs : List Batch). StopsShort j.place.shape bs batch (size_of batch) old new) (same_batches j.place.shape j.place.start j.place.gate j.place.number old stands batches lists honest)
-    (subst (λ n. StopsShort j.place.shape at.batches batch n old new) before.size stops)) in
+    subst (λ (bs : List Batch). StopsAppend j.place.shape bs batch (size_of batch) old new) (same_batches j.place.shape j.place.start j.place.gate j.place.number old stands batches lists honest)
+    (subst (λ n. StopsAppend j.place.shape at.batches batch n old new) before.size stops)) in
     subst (λ (v : JournalView g.row.D.Denot). (g.D.Disk.state v.device).is_honest → (g.D.Disk.state v.device).is_inert → (batches : List Batch) → LeavesNow (g.D.Disk.state v.device) (Holds v.shape batches)
-    → StopsShort v.shape batches batch (size_of batch) (g.D.Disk.state v.device) new) c.self.view_is stopped
+    → StopsAppend v.shape batches batch (size_of batch) (g.D.Disk.state v.device) new) c.self.view_is stopped

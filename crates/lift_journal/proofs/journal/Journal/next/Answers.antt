@@ -1,7 +1,7 @@
 use Rattle.std.proofs.Common.{◌≡◌, ◌<◌, ◌+◌, ◌++◌, List, Some, length, nat_lt, refl, sym, ◌∙◌, ap, subst, arith}
 use Rattle.lift_journal.specs.Calls.{half_start, reads_from, HasRead, HasReadAt}
 use Rattle.lift_journal.proofs.Following.{begins_at}
-use Rattle.lift_journal.specs.Layout.{Batch, Holds, used, bodies, size_of}
+use Rattle.lift_journal.specs.Layout.{Batch, Holds, used, body_size, size_of}
 use Rattle.lift_journal.specs.Journal.{JournalView, CursorView, IsCursorIn, IsNext}
 use Rattle.lift_journal.specs.Seen.{batch_of}
 use Rattle.lift_journal.specs.declared.reads.AtGate.TheVariants.{Batch as BatchAt, Damaged, Closed}
@@ -44,7 +44,7 @@ returns-in-Ok-Batch-clause-gives g c honest batches holds within =
     let lt = some_next batches cursor within (omega (arith, c.if-cursor-self.false, stands.at, stands.starts, same)) in
     let shows = seen_at image image (j.place.start + cursor.skipped) (j.place.start + j.place.shape.half) (cursor.given + 1) c.in-Ok-Batch.field-0 (BatchAt stored) refl c.in-Ok-Batch.field-0-is
     (c.in-Ok-Batch.ensures.seen honest stands.synced) in
-    let size : c.body_count.result ≡ size_of (batch_of stored) = c.body_count.ensures ∙ ap bodies c.len.ensures.value in
+    let size : c.body_count.result ≡ size_of (batch_of stored) = c.body_count.ensures ∙ ap body_size c.len.ensures.value in
     next_is j.place.shape batches image j.place.start cursor behind (batch_of stored) holds stands.starts within lt shows.1 (omega (arith, size)) refl) in
     let gives = subst (λ (v : JournalView g.row.D.Denot). (g.D.Disk.state v.device).is_honest → (batches : List Batch) → Holds v.shape batches (g.D.Disk.state v.device).image
     → IsCursorIn batches c.args.cursor.now → IsNext batches c.args.cursor.now behind (Some stored.records.items)) c.self.view_is
@@ -115,7 +115,7 @@ returns-in-Ok-Batch-clause-calls g c =
     let j = c.self.inside in
     let place = c.self.invariant.place in
     let new = g.D.Disk.state c.look.new.disk in
-    let more = 1 + bodies (length c.in-Ok-Batch.stored.records.items) in
+    let more = 1 + body_size (length c.in-Ok-Batch.stored.records.items) in
     let gate : half_start (nat_lt 2 j.place.start) j.place.shape.half ≡ j.place.start = begins_at j.place.shape.half j.place.start (omega (arith, place.within.half.0)) place.halves in
     let made = subst (λ (v : JournalView g.row.D.Denot). new.trace ≡ (g.D.Disk.state v.device).trace ++ reads_from (half_start v.is_second v.shape.half + c.args.cursor.now.skipped) more) c.self.view_is
     (subst (λ (w : CursorView). new.trace ≡ (g.D.Disk.state j.device).trace ++ reads_from (half_start (nat_lt 2 j.place.start) j.place.shape.half + w.skipped) more) c.cursor.view_is
