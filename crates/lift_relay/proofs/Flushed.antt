@@ -10,7 +10,7 @@ use Rattle.lift_desk.specs.declared.view.ClerkView.{ClerkView}
 use Rattle.lift_desk.specs.declared.words.Ask.{Ask}
 use Rattle.lift_desk.specs.Words.{turn_of, last_of, number_of, reply_word}
 use Rattle.lift_desk.specs.Steps.{with_taking, with_answer}
-use Rattle.lift_desk.specs.Seats.{ClerkPlace, no_place, placed_at, view_at, clerk_with, ahead_from, TakesOf, Owes, OwesNothing, Says}
+use Rattle.lift_desk.specs.Seats.{ClerkPlace, no_place, placed_at, view_at, clerk_with, ahead_from, TakesOf, Owes, OwesNothing}
 use Rattle.lift_desk.specs.lemmas.Places.{view_at-here, view_at-else}
 use Rattle.lift_desk.specs.lemmas.WordLists.{last_of-push}
 use Rattle.lift_clerk.specs.Scanning.{reply_told}
@@ -22,6 +22,7 @@ use Rattle.lift_parts.specs.declared.taken.Taken.{Taken}
 use Rattle.lift_parts.specs.Batch.{AreBelow, commands_in, turns_of, turns_with, turns_after, IsNoted, AreNoted}
 use Rattle.lift_parts.specs.Flusher.{AnswersOne, Answered, IsSettled}
 use Rattle.lift_parts.specs.lemmas.Used.{is_below}
+use Rattle.lift_relay.specs.Settler.{IsDue}
 
 finds : (places next : List ClerkPlace) (n word : ℕ) (found : Option Ask) → Looked places next n word found → FindsAt (get_or places n no_place) (record { word = word; found = found })
 finds places next n word found look = finds-at (get_or places n no_place) word found look.takes look.even look.number look.in_range look.known look.told
@@ -144,16 +145,20 @@ after_more turns commands n taken inside is = sym (after_last turns (take n comm
 pub after_all : (turns : List ℕ) (commands : List Taken) (n : ℕ) → length commands ≤ n → turns_after turns (take n commands) ≡ turns_after turns commands
 after_all turns commands n all = ap (turns_after turns) (take_all n commands all)
 
--- what is not later than these turns isn't as late as the command
-pub says_it : (desk : List TableId) (places : List ClerkPlace) (turns : List ℕ) (taken : Taken) → IsNoted desk turns taken → IsSettled places turns
-    → Says (view_at places taken.command.terminal) taken.note.word (record { number = taken.command.number; body = taken.command.body })
-says_it desk places turns taken noted settled = let before = (settled taken.command.terminal).1 in let later = noted.later in (noted.in_range, (is_below _ _ (omega arith), noted.says))
-
 -- each command's terminal is one of the desk's
-pub below_one : (count : ℕ) (commands : List Taken) (n : ℕ) (d : Taken) → n < length commands → AreBelow count (commands_in commands) → (get_or commands n d).command.terminal < count
+below_one : (count : ℕ) (commands : List Taken) (n : ℕ) (d : Taken) → n < length commands → AreBelow count (commands_in commands) → (get_or commands n d).command.terminal < count
 below_one count [] n d inside below = absurd (omega arith)
 below_one count (t ∷ commands) zero d inside below = below.0
 below_one count (t ∷ commands) (suc n) d inside below = below_one count commands n d (omega arith) below.1
+
+-- what is not later than these turns isn't as late as the command behind them
+pub due_at : (desk : List TableId) (places : List ClerkPlace) (turns : List ℕ) (commands : List Taken) (n : ℕ) (d : Taken) → n < length commands → AreBelow (length desk) (commands_in commands)
+    → AreNoted desk turns commands → IsSettled places (turns_after turns (take n commands)) → IsDue desk places (get_or commands n d)
+due_at desk places turns commands n d inside below all settled =
+    let noted = noted_at desk turns commands n d inside all in
+    let later = noted.later in
+    let before = (settled (get_or commands n d).command.terminal).1 in
+    record { terminal = below_one (length desk) commands n d inside below; noted = noted.of_table; says = (noted.in_range, (is_below _ _ (omega arith), noted.says)) }
 
 -- as the clerk's seats are where it is split
 pub settled_first : (clerk : List ClerkPlace) → OwesNothing clerk → IsSettled clerk (turns_of (ahead_from clerk))

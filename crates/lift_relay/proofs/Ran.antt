@@ -12,11 +12,12 @@ use Rattle.lift_relay.specs.declared.pair.RunFault.{RunFault}
 use Rattle.lift_relay.specs.declared.pair.RunFault.TheVariants.{Keeper, Spawn}
 use Rattle.lift_parts.specs.Allocator.{AllocatorState}
 use Rattle.lift_parts.specs.Flusher.{FlusherState}
-use Rattle.lift_parts.specs.Turns.{AllocatorTurns, FlusherTurns, NoFlush, IsSameAllocator, IsSameFlusher}
-use Rattle.lift_relay.specs.Pair.{HaveRun, IsRun}
+use Rattle.lift_parts.specs.Turns.{AllocatorTurns, FlusherTurns, NoFlush}
+use Rattle.lift_parts.specs.Parts.{AreOfOne}
+use Rattle.lift_relay.specs.Pair.{HaveRun, IsRun, PartsStay}
 use Rattle.lift_clerk.specs.History.{History}
 use Rattle.lift_parts.specs.History.{GoesOnTo, TurnsGoOn, group_behind}
-use Rattle.lift_parts.specs.lemmas.Paired.{turns_joined, flushes_joined, same_allocator, same_flusher, faults_broken}
+use Rattle.lift_parts.specs.lemmas.Paired.{turns_joined, flushes_joined, same_allocator, same_flusher, still_of_one, faults_broken}
 
 abbrev pub fault_of : Option KeeperFault → Option RunFault
 fault_of first = option_map (λ (of : KeeperFault). Keeper of) first
@@ -52,25 +53,18 @@ module _ {D P : Type 0} (choice : Choice) (state : D → DiskState) (a b : Alloc
   broken_of (inl refused) of is = absurd (subst is_spawn (sym refused.0 ∙ is) tt)
   broken_of (inr run) of is = faults_broken state f g None run.first run.flusher (λ e none. absurd (cc)) of (keeper_of run.first of (sym run.is_first ∙ is))
 
-  pub allocator_of : IsRun choice state a b f g fault → IsSameAllocator a b
-  allocator_of (inl refused) = let same = refused.1.0 in record {
-    line = ap (λ (s : AllocatorState P). s.end.line) same;
-    desk = ap (λ (s : AllocatorState P). s.desk) same;
-    plan = ap (λ (s : AllocatorState P). s.plan) same;
-    policy = ap (λ (s : AllocatorState P). s.policy) same;
-    start = ap (λ (s : AllocatorState P). s.start) same;
-  }
-  allocator_of (inr run) = same_allocator choice a b run.allocator
-
-  pub flusher_of : IsRun choice state a b f g fault → IsSameFlusher f g
-  flusher_of (inl refused) = let same = refused.1.1 in record {
-    line = ap (λ (s : FlusherState D). s.end.line) same;
-    desk = ap (λ (s : FlusherState D). s.desk) same;
-    plan = ap (λ (s : FlusherState D). s.writer.plan) same;
-    half = ap (λ (s : FlusherState D). s.writer.half) same;
-    opened = ap (λ (s : FlusherState D). s.writer.opened) same;
-  }
-  flusher_of (inr run) = same_flusher state f g None run.first run.flusher
+  pub stay_of : IsRun choice state a b f g fault → AreOfOne a f → PartsStay a b f g
+  stay_of (inl refused) one =
+      let still : PartsStay a a f f = record {
+        same_allocator = record { line = refl; desk = refl; plan = refl; policy = refl; start = refl };
+        same_flusher = record { line = refl; desk = refl; plan = refl; half = refl; opened = refl };
+        of_one = one;
+      } in
+      subst (λ (p : AllocatorState P × FlusherState D). PartsStay a p.0 f p.1) (λ i. (sym refused.1.0 i, sym refused.1.1 i)) still
+  stay_of (inr run) one =
+      let allocator = same_allocator choice a b run.allocator in
+      let flusher = same_flusher state f g None run.first run.flusher in
+      record { same_allocator = allocator; same_flusher = flusher; of_one = still_of_one a b f g allocator flusher one }
 
 -- What a run adds to what has happened: nothing, if no thread could be made.
 pub goes_on : {D P : Type 0} (choice : Choice) (state : D → DiskState) (a b : AllocatorState P) (f g : FlusherState D) (fault : Option RunFault) → TurnsGoOn D state

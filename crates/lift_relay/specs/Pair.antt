@@ -9,9 +9,10 @@ use Rattle.lift_relay.specs.declared.pair.RunFault.{RunFault}
 use Rattle.lift_relay.specs.declared.pair.RunFault.TheVariants.{Keeper, Spawn}
 use Rattle.lift_relay.specs.declared.pair.Turned.{Turned}
 use Rattle.lift_relay.specs.declared.pair.Turned.TheVariants.{Refused, Done}
-use Rattle.lift_parts.specs.Turns.{AllocatorTurns, FlusherTurns}
+use Rattle.lift_parts.specs.Turns.{AllocatorTurns, FlusherTurns, IsSameAllocator, IsSameFlusher}
 use Rattle.lift_parts.specs.Allocator.{AllocatorState}
 use Rattle.lift_parts.specs.Flusher.{FlusherState}
+use Rattle.lift_parts.specs.Parts.{AreOfOne}
 
 -- the part as it was, or after its turns
 abbrev pub ComesFrom : {P : Type 0} → Choice → AllocatorState P → Allocating P → Type 0
@@ -46,6 +47,13 @@ pub record HaveRun {D P : Type 0} (choice : Choice) (state : D
   pub flusher : FlusherTurns state f None g first
   pub nothing_in_hand : b.hand ≡ []
   pub all_received : length b.end.sent ≡ length g.end.received
+
+-- The parts stay what they were: each is where it was and works for what it did, and both are of one.
+-- So they can be joined, or run again.
+pub record PartsStay {D P : Type 0} (a b : AllocatorState P) (f g : FlusherState D) : Type 0 where
+  pub same_allocator : IsSameAllocator a b
+  pub same_flusher : IsSameFlusher f g
+  pub of_one : AreOfOne b g
 
 -- No thread could be made, and both parts are as they were; or both have run.
 abbrev pub IsRun : {D P : Type 0} → Choice → (D → DiskState) → AllocatorState P → AllocatorState P

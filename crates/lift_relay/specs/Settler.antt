@@ -1,13 +1,14 @@
 -- The half of a flusher that never waits, as contracts see it.
-use Rattle.std.specs.Prelude.{◌≡◌, false, List, length, Result, Ok, is_ok}
+use Rattle.std.specs.Prelude.{◌≡◌, ◌<◌, false, List, length, Result, Ok, is_ok}
 use Rattle.atomic_table.specs.Seated.{TableId}
 use Rattle.lift_disk.specs.Disk.{DiskState}
-use Rattle.lift_desk.specs.Seats.{ClerkPlace, IsClerkOf}
+use Rattle.lift_desk.specs.Seats.{ClerkPlace, IsClerkOf, IsNoteOf, Says, view_at}
 use Rattle.lift_keeper.specs.Commits.{Commits}
 use Rattle.lift_keeper.specs.Writer.{WriterView}
 use Rattle.lift_keeper.specs.declared.fault.KeeperFault.{KeeperFault}
 use Rattle.lift_parts.specs.declared.counts.FlushCounts.{FlushCounts}
-use Rattle.lift_clerk.specs.Answered.{AreApart}
+use Rattle.lift_clerk.specs.Answered.{AreApart, ask_of}
+use Rattle.lift_parts.specs.declared.taken.Taken.{Taken}
 use Rattle.lift_parts.specs.Batch.{BatchState, IsDecided, AreBelow, commands_in, turns_behind}
 use Rattle.lift_parts.specs.Flusher.{Answered, IsSettled}
 
@@ -16,6 +17,13 @@ pub record SettlerState (D : Type 0) : Type 0 where
   -- the seats, which have the right to answer
   pub seat : List ClerkPlace
   pub writer : WriterView D
+
+-- The command is of a terminal of the desk, and its note says it: an ask there, behind all that these
+-- seats took.
+pub record IsDue (desk : List TableId) (seat : List ClerkPlace) (taken : Taken) : Type 0 where
+  pub terminal : taken.command.terminal < length desk
+  pub noted : IsNoteOf desk taken.command.terminal taken.note
+  pub says : Says (view_at seat taken.command.terminal) taken.note.word (ask_of taken.command)
 
 -- One batch: its entries were committed, a crash at any moment leaves what was safe before or that
 -- with the batch, and each of its commands, which its own look gave, was answered: with its reply

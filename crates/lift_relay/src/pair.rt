@@ -11,9 +11,8 @@ ghost use Rattle.lift_parts.specs.Parts.{AreOfOne};
 ghost use Rattle.lift_parts.specs.Turns.{AllocatorTurns, FlusherTurns, IsFlush, IsSending};
 ghost use Rattle.lift_parts.specs.Turns.{first_of};
 ghost use Rattle.lift_relay.specs.Pair.{ComesFrom};
-ghost use Rattle.lift_relay.specs.Pair.{HaveTurned, IfDone, IfRan, IsRun, HaveRun};
+ghost use Rattle.lift_relay.specs.Pair.{HaveTurned, IfDone, IfRan, IsRun, HaveRun, PartsStay};
 ghost use Rattle.lift_relay.specs.Heard.{FailureHeard};
-ghost use Rattle.lift_parts.specs.Turns.{IsSameAllocator, IsSameFlusher};
 ghost use Rattle.lift_clerk.specs.History.{History};
 ghost use Rattle.lift_parts.specs.History.{GoesOnTo, group_behind};
 
@@ -358,9 +357,8 @@ where
     ensures closed { result.1 ≢ Some (RunFault.Spawn tt) → G.closed gate.now }
     ensures broken { (fault : KeeperFault) → result.1 ≡ Some (RunFault.Keeper fault)
         → flusher.new.writer.is_broken ≡ true }
-    ensures same_allocator { IsSameAllocator allocator.old allocator.new }
-    ensures same_flusher { IsSameFlusher flusher.old flusher.new }
-    ensures of_one { AreOfOne allocator.new flusher.new }
+    // They can be joined, or run again.
+    ensures stay { PartsStay allocator.old allocator.new flusher.old flusher.new }
     // What was received, and then what the line holds, is what was sent; after a run it holds
     // nothing.
     ensures queued { Queued allocator.new.end flusher.new.end }

@@ -1,6 +1,6 @@
 //! One scan of the desk's terminals, ahead of the answers.
 
-ghost use Rattle.std.specs.Prelude.{◌≡◌, ◌<◌, ◌≤◌, ◌+◌, [], ◌∷◌, ◌++◌, length, IsSome, IfSome};
+ghost use Rattle.std.specs.Prelude.{◌≡◌, ◌<◌, ◌≤◌, ◌+◌, [], ◌∷◌, ◌++◌, length, IfSome};
 ghost use Rattle.std.specs.Option.{option_to_list};
 ghost use Rattle.lift_desk.specs.Seats.{IsClerkOf, IsNoteOf, view_at};
 ghost use Rattle.lift_desk.specs.Words.{last_of};
@@ -15,44 +15,35 @@ ghost use Rattle.lift_parts.specs.Scan.{ScansAhead, turns_in};
 use arrayvec::ArrayVec;
 use lift_base::{MOST_ENTRIES, Terminal};
 use lift_decider::Decider;
-use lift_desk::{Ask, Desk, Note, TakeSeat};
+use lift_desk::{Ask, Desk, TakeSeat};
 use lift_parts::Taken;
 use lift_policy::{Command, Policy, decisions_keep};
 
-/// A note of what a terminal was just found to ask, if it asked.
-fn note_of(desk: &Desk, seat: &mut TakeSeat, terminal: Terminal, ask: &Option<Ask>) -> Note
-    requires seated { IsClerkOf desk.now seat.old }
-    requires terminal { terminal < length desk.now }
-    ensures noted { IsSome ask.now
-        → IsNoteOf desk.now terminal result
-        × (result.word ≡ last_of (view_at seat.old terminal).taken) }
-    ensures same { seat.new ≡ seat.old }
-{
-    match ask {
-        Some(_) => desk.note(seat, terminal),
-        None => Note::default(),
-    }
-}
-
-/// What a terminal asked, decided, if it asked.
+/// What a terminal was just found to ask, with a note of that and decided, if it asked.
 fn decide<P: Policy>(
+    desk: &Desk,
+    seat: &mut TakeSeat,
     decider: &mut Decider<'_>,
     policy: &P,
     terminal: Terminal,
     ask: &Option<Ask>,
-    note: Note,
 ) -> Option<Taken>
+    requires seated { IsClerkOf desk.now seat.old }
+    requires terminal { terminal < length desk.now }
     requires room { length decider.old.state.batch < 63 }
     ensures command { commands_in (option_to_list result) ≡ command_at terminal ask.now }
-    ensures note { IfSome result (λ taken. taken.note ≡ note) }
+    ensures noted { IfSome result (λ taken. IsNoteOf desk.now terminal taken.note
+        × (taken.note.word ≡ last_of (view_at seat.old terminal).taken)) }
     ensures decides { Run decider.old.plan (P.chooses policy.now) decider.old.state
         (commands_in (option_to_list result))
         (replies_in (option_to_list result)) decider.new.state }
     ensures grows { length decider.new.state.batch ≤ length decider.old.state.batch + 1 }
     ensures plan { decider.new.plan ≡ decider.old.plan }
+    ensures same { seat.new ≡ seat.old }
 {
     match ask {
         Some(ask) => {
+            let note = desk.note(seat, terminal);
             let reply = decider.decide(terminal, ask.number, &ask.body, policy);
             let command = Command {
                 terminal,
@@ -112,8 +103,7 @@ pub fn scan<P: Policy>(
     for t in 0..desk.len() {
         let terminal = Terminal::new(t as u8).unwrap();
         let ask = desk.take(seat, terminal);
-        let note = note_of(desk, seat, terminal, &ask);
-        let decided = decide(decider, policy, terminal, &ask, note);
+        let decided = decide(desk, seat, decider, policy, terminal, &ask);
         keep(&mut taken, decided);
     }
     taken

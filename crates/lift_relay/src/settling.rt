@@ -2,7 +2,7 @@
 
 ghost use Rattle.std.specs.Prelude.{◌≡◌, ℕ, List, [], ◌<◌, ◌⊎◌, ◌↔◌, length, true, false, IfOk};
 ghost use Rattle.lift_desk.specs.Rule.{IsInOrder};
-ghost use Rattle.lift_desk.specs.Seats.{IsClerkOf, IsNoteOf, IsSeatOf, OwesNothing, Says, view_at};
+ghost use Rattle.lift_desk.specs.Seats.{IsClerkOf, IsSeatOf, OwesNothing, view_at};
 ghost use Rattle.lift_desk.specs.Seats.{seat_with, clerk_with};
 ghost use Rattle.lift_desk.specs.Steps.{with_told_answers, with_told_asks, lists_of};
 ghost use Rattle.lift_keeper.specs.Prelude.{Commits, CommitCalls};
@@ -10,7 +10,7 @@ ghost use Rattle.lift_clerk.specs.Visits.{Visit};
 ghost use Rattle.lift_parts.specs.Batch.{turns_behind, turns_with};
 ghost use Rattle.lift_parts.specs.Flusher.{AnswersOne, Answered, IsSettled};
 ghost use Rattle.lift_relay.specs.Heard.{FailureHeard};
-ghost use Rattle.lift_relay.specs.Settler.{SettlesBatch};
+ghost use Rattle.lift_relay.specs.Settler.{IsDue, SettlesBatch};
 
 use crate::batch::Batch;
 use crate::held::HeldClerk;
@@ -57,10 +57,7 @@ impl<'d, 'b, D: Disk, K> Model for Settler<'d, 'b, D, K> {
 /// with its reply where it is safe, else Unknown.
 fn answer(desk: &Desk, seat: &mut ClerkSeat, taken: Taken, is_safe: bool)
     requires seated { IsClerkOf desk.now seat.old }
-    requires terminal { taken.command.terminal < length desk.now }
-    requires noted { IsNoteOf desk.now taken.command.terminal taken.note }
-    requires says { Says (view_at seat.old taken.command.terminal) taken.note.word
-        (record { number = taken.command.number; body = taken.command.body }) }
+    requires due { IsDue desk.now seat.old taken }
     ensures answers { (visit : Visit) × AnswersOne is_safe seat.old taken visit seat.new }
     ensures settled { (turns : List ℕ) → IsSettled seat.old turns
         → taken.command.terminal < length turns → IsSettled seat.new (turns_with turns taken) }

@@ -25,7 +25,7 @@ use Rattle.lift_parts.specs.Flusher.{FlusherState, IsFlusher}
 use Rattle.lift_parts.specs.Keeping.{HaveKept, TurnsKeep}
 use Rattle.lift_parts.specs.History.{JoinedGoOn, group_behind}
 use Rattle.lift_parts.specs.Parts.{AreParts, AreOfOne}
-use Rattle.lift_parts.specs.Turns.{AllocatorTurns, NoMore, FlusherTurns, IsSameAllocator, NoFlush, OneFlush, first_of}
+use Rattle.lift_parts.specs.Turns.{AllocatorTurns, NoMore, FlusherTurns, NoFlush, OneFlush, first_of}
 use Rattle.lift_parts.specs.lemmas.Paired.{same_allocator, turns_joined, flushes_joined}
 use Rattle.lift_serve.specs.declared.serving.ServeFault.{ServeFault}
 use Rattle.lift_serve.specs.declared.serving.ServeFault.TheVariants.{Thread}
@@ -69,11 +69,6 @@ module _ {D P : Type 0} (choice : Choice) (state : D → DiskState) (before : Cl
   stays_broken old after of (Ok counts) once broken = absurd (let other = once.commits.is.broken.1 broken in cc)
   stays_broken old after of (Err fault) once broken = refl
 
-  stays : (fault : Option RunFault) → HaveRunOn choice state a b f g fault → IsSameAllocator a b
-  stays None run = same_allocator choice a b (run.ran no_fault).allocator
-  stays (Some (Keeper of)) run = same_allocator choice a b (run.ran (not_spawn of)).allocator
-  stays (Some (Spawn no_thread)) run = subst (λ (x : AllocatorState P). IsSameAllocator a x) (sym (run.refused refl).0) (record { line = refl; desk = refl; plan = refl; policy = refl; start = refl })
-
   breaks : (chooses : P → Choice) (fault : Option RunFault) (after : ClerkState D P) → HaveRunOn choice state a b f g fault → (last : IsLastTurn chooses state b g after)
       → after.keeper.writer.is_broken ≡ (has_failed fault || is_err last.result)
   breaks chooses None after run last = ends_broken last.joined after (chooses last.joined.policy) last.result last.turn
@@ -107,7 +102,7 @@ module _ {D P : Type 0} (chooses : P → Choice) (state : D → DiskState) (law 
         told = x.2;
         adds = x.3;
         advances = last.advances.goes_on x.0 x.1 x.2 x.3 base k.now_safe k.now_given
-            (joins last.joined g base k.now_safe k.now_given (r.desk ∙ sym run.of_one.desk) r.seat r.writer (r.state ∙ r.same_state) k.history);
+            (joins last.joined g base k.now_safe k.now_given (r.desk ∙ sym run.stay.of_one.desk) r.seat r.writer (r.state ∙ r.same_state) k.history);
       }
 
 -- the parts of a clerk are of one
@@ -131,8 +126,8 @@ relayed_on {D} {P} chooses state law joins before after a b f g fault parts spli
   ran = subst (λ (p : P). HaveRunOn (chooses p) state a b f g fault) parts.policy run;
   last = last;
   broken = breaks (chooses a.policy) state before a b f g chooses fault after run last;
-  desk = last.turn.kept.0 ∙ last.rejoined.desk ∙ (stays (chooses a.policy) state before a b f g fault run).desk ∙ parts.desks.0;
-  policy = last.turn.kept.1 ∙ last.rejoined.policy ∙ (stays (chooses a.policy) state before a b f g fault run).policy ∙ parts.policy;
+  desk = last.turn.kept.0 ∙ last.rejoined.desk ∙ run.stay.same_allocator.desk ∙ parts.desks.0;
+  policy = last.turn.kept.1 ∙ last.rejoined.policy ∙ run.stay.same_allocator.policy ∙ parts.policy;
   keeps = λ base safe given history. kept_relay chooses state law joins before a b f g base safe given (split base safe given history) fault after run last;
 }
 
@@ -143,7 +138,11 @@ not_run choice state a f of_one = record {
   ran = λ other. absurd (other refl);
   received = λ other. absurd (other refl);
   broken = λ of is. absurd (not_spawn of (sym is));
-  of_one = of_one;
+  stay = record {
+    same_allocator = record { line = refl; desk = refl; plan = refl; policy = refl; start = refl };
+    same_flusher = record { line = refl; desk = refl; plan = refl; half = refl; opened = refl };
+    of_one = of_one;
+  };
 }
 
 -- ---- who hears that the device fails

@@ -1,26 +1,16 @@
 use Rattle.std.proofs.Common.{sym, ap, ◌∙◌, subst}
 use Rattle.lift_parts.specs.Allocator.{AllocatorState}
 use Rattle.lift_parts.specs.Flusher.{FlusherState}
-use Rattle.lift_relay.specs.Pair.{HaveRun}
-use Rattle.lift_parts.specs.Turns.{IsSameAllocator, IsSameFlusher}
-use Rattle.lift_parts.specs.Parts.{AreOfOne}
+use Rattle.lift_relay.specs.Pair.{HaveRun, PartsStay}
 use Rattle.lift_relay.proofs.Queues.{all_received}
-use Rattle.lift_parts.specs.lemmas.Paired.{still_of_one}
 use Rattle.lift_parts.specs.History.{GoesOnTo}
-use Rattle.lift_relay.proofs.Ran.{refused_of, ran_of, broken_of, allocator_of, flusher_of, goes_on}
+use Rattle.lift_relay.proofs.Ran.{refused_of, ran_of, broken_of, stay_of, goes_on}
 use Rattle.lift_relay.proofs.pair.run.Goals as goal
 
 pub compare-requires : goal.compare-requires
-compare-requires g c =
-    let choice = g.P.Policy.chooses c.args.allocator.now.policy in
-    let state = g.D.Disk.state in
-    let ran = c.with_both-told.ensures.0 in
-    record {
-      of_one = still_of_one c.args.allocator.now c.with_both-told.new.a c.args.flusher.now c.with_both-told.new.b
-          (allocator_of choice state c.args.allocator.now c.with_both-told.new.a c.args.flusher.now c.with_both-told.new.b c.with_both-told.result.1 ran)
-          (flusher_of choice state c.args.allocator.now c.with_both-told.new.a c.args.flusher.now c.with_both-told.new.b c.with_both-told.result.1 ran)
-          c.requires.of_one;
-    }
+compare-requires g c = record {
+  of_one = (stay_of (g.P.Policy.chooses c.args.allocator.now.policy) g.D.Disk.state c.args.allocator.now c.with_both-told.new.a c.args.flusher.now c.with_both-told.new.b c.with_both-told.result.1 c.with_both-told.ensures.0 c.requires.of_one).of_one;
+}
 
 pub returns-clause-refused : goal.returns-clause-refused
 returns-clause-refused g c = λ spawn.
@@ -42,26 +32,11 @@ returns-clause-broken g c = λ of is.
     ap (λ (f : FlusherState g.row.D.Denot). f.writer.is_broken) c.compare.ensures.flusher
     ∙ broken_of (g.P.Policy.chooses c.args.allocator.now.policy) g.D.Disk.state c.args.allocator.now c.with_both-told.new.a c.args.flusher.now c.with_both-told.new.b c.with_both-told.result.1 c.with_both-told.ensures.0 of is
 
-pub returns-clause-same_allocator : goal.returns-clause-same_allocator
-returns-clause-same_allocator g c =
-    subst (λ (a : AllocatorState g.row.P.Denot). IsSameAllocator c.args.allocator.now a) (sym c.compare.ensures.allocator)
-    (allocator_of (g.P.Policy.chooses c.args.allocator.now.policy) g.D.Disk.state c.args.allocator.now c.with_both-told.new.a c.args.flusher.now c.with_both-told.new.b c.with_both-told.result.1 c.with_both-told.ensures.0)
-
-pub returns-clause-same_flusher : goal.returns-clause-same_flusher
-returns-clause-same_flusher g c =
-    subst (λ (f : FlusherState g.row.D.Denot). IsSameFlusher c.args.flusher.now f) (sym c.compare.ensures.flusher)
-    (flusher_of (g.P.Policy.chooses c.args.allocator.now.policy) g.D.Disk.state c.args.allocator.now c.with_both-told.new.a c.args.flusher.now c.with_both-told.new.b c.with_both-told.result.1 c.with_both-told.ensures.0)
-
-pub returns-clause-of_one : goal.returns-clause-of_one
-returns-clause-of_one g c =
-    let choice = g.P.Policy.chooses c.args.allocator.now.policy in
-    let state = g.D.Disk.state in
-    let ran = c.with_both-told.ensures.0 in
-    let before = still_of_one c.args.allocator.now c.with_both-told.new.a c.args.flusher.now c.with_both-told.new.b
-    (allocator_of choice state c.args.allocator.now c.with_both-told.new.a c.args.flusher.now c.with_both-told.new.b c.with_both-told.result.1 ran)
-    (flusher_of choice state c.args.allocator.now c.with_both-told.new.a c.args.flusher.now c.with_both-told.new.b c.with_both-told.result.1 ran)
-    c.requires.of_one in
-    subst (λ (p : AllocatorState g.row.P.Denot × FlusherState g.row.D.Denot). AreOfOne p.0 p.1) (λ i. (sym c.compare.ensures.allocator i, sym c.compare.ensures.flusher i)) before
+pub returns-clause-stay : goal.returns-clause-stay
+returns-clause-stay g c =
+    subst (λ (p : AllocatorState g.row.P.Denot × FlusherState g.row.D.Denot). PartsStay c.args.allocator.now p.0 c.args.flusher.now p.1)
+    (λ i. (sym c.compare.ensures.allocator i, sym c.compare.ensures.flusher i))
+    (stay_of (g.P.Policy.chooses c.args.allocator.now.policy) g.D.Disk.state c.args.allocator.now c.with_both-told.new.a c.args.flusher.now c.with_both-told.new.b c.with_both-told.result.1 c.with_both-told.ensures.0 c.requires.of_one)
 
 pub returns-clause-history : goal.returns-clause-history
 returns-clause-history g c = λ base safe given h.

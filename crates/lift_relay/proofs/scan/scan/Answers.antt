@@ -1,5 +1,5 @@
 use Rattle.std.proofs.Common.{◌≡◌, ◌+◌, List, length, ℕ, suc, Option, refl, sym, ap, ◌∙◌, subst, arith, length-append}
-use Rattle.std.specs.Prelude.{IfSome, IsSome}
+use Rattle.std.specs.Prelude.{IfSome}
 use Rattle.std.specs.Option.{option_to_list}
 use Rattle.std.proofs.lemmas.List.{length-map}
 use Rattle.lift_building.specs.Plan.{Plan}
@@ -38,16 +38,16 @@ loop-t-preserved g c =
     let same = subst (λ n. commands_in more ≡ command_at n found) terminal c.decide-decided.ensures.command in
     let decides = subst (λ (p : Plan). Run p choice c.loop-t.decider.state (commands_in more) (replies_in more) after) i.plan c.decide-decided.ensures.decides in
     let next : suc t ≡ t + 1 = omega arith in
-    let kept : c.take-ask.new.ahead ≡ c.note_of-note.new.seat = sym c.note_of-note.ensures.same in
-    let terminal_note = subst (λ n. IsSome found → IsNoteOf c.args.desk.now n c.note_of-note.result × (c.note_of-note.result.word ≡ last_of (view_at c.take-ask.new.ahead n).taken)) terminal c.note_of-note.ensures.noted in
+    let kept : c.take-ask.new.ahead ≡ c.decide-decided.new.seat = sym c.decide-decided.ensures.same in
+    let note = subst (λ n. IfSome c.decide-decided.result (λ (k : Taken). IsNoteOf c.args.desk.now n k.note × (k.note.word ≡ last_of (view_at c.take-ask.new.ahead n).taken))) terminal c.decide-decided.ensures.noted in
     let last = subst (λ n. IfSome found (λ (ask : Ask). last_of (view_at c.take-ask.new.ahead n).taken ≡ ask_word (turn_of (last_of (view_at c.take-ask.new.ahead n).taken)) ask.number ask.body)) terminal look.last in
-    let noted = noted_more c.args.desk.now (turns_of c.args.seat.now) c.loop-t.taken.items c.decide-decided.result c.loop-t.seat c.take-ask.new.ahead t look.looked.0 found c.note_of-note.result
-    (omega arith) looked.seat_is looked.takes look.in_range last terminal_note same c.decide-decided.ensures.note i.noted i.turns in
+    let noted = noted_more c.args.desk.now (turns_of c.args.seat.now) c.loop-t.taken.items c.decide-decided.result c.loop-t.seat c.take-ask.new.ahead t look.looked.0 found
+    (omega arith) looked.seat_is looked.takes look.in_range last note same i.noted i.turns in
     let scans = scans-more choice c.args.decider.now.plan c.args.seat.now c.loop-t.seat c.take-ask.new.ahead c.args.decider.now.state
     c.loop-t.decider.state after c.loop-t.taken.items more t look.looked.0 found c.decisions_keep.ensures.runs (omega arith) i.scans looked same noted.2 decides in
     let added : List Taken = c.keep.new.list.items in
     record {
-      scans = subst (λ n. ScansAhead choice c.args.decider.now.plan c.args.seat.now c.note_of-note.new.seat c.args.decider.now.state after added n) next
+      scans = subst (λ n. ScansAhead choice c.args.decider.now.plan c.args.seat.now c.decide-decided.new.seat c.args.decider.now.state after added n) next
           (subst (λ (p : List Taken × List ClerkPlace). ScansAhead choice c.args.decider.now.plan c.args.seat.now p.1 c.args.decider.now.state after p.0 (suc t)) (λ k. (sym c.keep.ensures k, kept k)) scans);
       noted = subst (AreNoted c.args.desk.now (turns_of c.args.seat.now)) (sym c.keep.ensures) noted.0;
       turns = ap (turns_after (turns_of c.args.seat.now)) c.keep.ensures ∙ noted.1 ∙ ap turns_of kept;

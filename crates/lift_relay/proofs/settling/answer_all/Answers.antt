@@ -5,11 +5,12 @@ use Rattle.lift_desk.specs.lemmas.Places.{refill_set}
 use Rattle.lift_parts.specs.declared.taken.Taken.{Taken}
 use Rattle.lift_parts.specs.Batch.{turns_after, IsNoted}
 use Rattle.lift_parts.specs.Flusher.{IsSettled}
-use Rattle.lift_relay.proofs.Flushed.{answered_more, below_one, noted_at, says_it, after_more}
+use Rattle.lift_relay.specs.Settler.{IsDue}
+use Rattle.lift_relay.proofs.Flushed.{answered_more, due_at, noted_at, after_more}
 use Rattle.lift_relay.proofs.settling.answer_all.Goals as goal
 
-pub answer-requires-clause-terminal : goal.answer-requires-clause-terminal
-answer-requires-clause-terminal c =
+pub answer-requires-clause-due : goal.answer-requires-clause-due
+answer-requires-clause-due c =
     let commands = c.args.batch.commands in
     let place = c.loop-place.place in
     let taken = c.take-taken.result in
@@ -17,43 +18,12 @@ answer-requires-clause-terminal c =
     let i = c.loop-place.invariant in
     let many = c.len-count.ensures.value in
     let below = c.loop-place-test.true in
-    let inside : place < length commands = omega (arith, ap length c.into_commands-commands.ensures.value) in
+    let all = c.into_commands-commands.ensures in
+    let inside : place < length commands = omega (arith, ap length all.value) in
     let is : taken ≡ get_or commands place taken = c.take-taken.ensures.value ∙ ap (λ (l : List Taken). get_or l place was) c.deref_mut.ensures.value
     ∙ i.rest place was (omega arith) ∙ ap (λ (d : Taken). get_or commands place d) (c.index-deref_mut-place.is ∙ sym c.take-taken.ensures.value) in
-    subst (λ (t : Taken). t.command.terminal < length c.args.desk.now) (sym is)
-    (subst (λ (d : List TableId). (get_or commands place taken).command.terminal < length d) c.requires.at_desk (below_one (length c.args.batch.desk) commands place taken inside c.into_commands-commands.ensures.at_desk))
-
-pub answer-requires-clause-noted : goal.answer-requires-clause-noted
-answer-requires-clause-noted c =
-    let commands = c.args.batch.commands in
-    let place = c.loop-place.place in
-    let taken = c.take-taken.result in
-    let was = c.index-deref_mut-place.result in
-    let i = c.loop-place.invariant in
-    let many = c.len-count.ensures.value in
-    let below = c.loop-place-test.true in
-    let inside : place < length commands = omega (arith, ap length c.into_commands-commands.ensures.value) in
-    let is : taken ≡ get_or commands place taken = c.take-taken.ensures.value ∙ ap (λ (l : List Taken). get_or l place was) c.deref_mut.ensures.value
-    ∙ i.rest place was (omega arith) ∙ ap (λ (d : Taken). get_or commands place d) (c.index-deref_mut-place.is ∙ sym c.take-taken.ensures.value) in
-    let noted : IsNoted c.args.desk.now (turns_after c.args.batch.turns (take place commands)) taken = subst (λ (p : List TableId × Taken). IsNoted p.0 (turns_after c.args.batch.turns (take place commands)) p.1) (λ k. (c.requires.at_desk k, sym is k))
-    (noted_at c.args.batch.desk c.args.batch.turns commands place taken inside c.into_commands-commands.ensures.noted) in
-    noted.of_table
-
-pub answer-requires-clause-says : goal.answer-requires-clause-says
-answer-requires-clause-says c =
-    let commands = c.args.batch.commands in
-    let place = c.loop-place.place in
-    let taken = c.take-taken.result in
-    let was = c.index-deref_mut-place.result in
-    let i = c.loop-place.invariant in
-    let many = c.len-count.ensures.value in
-    let below = c.loop-place-test.true in
-    let inside : place < length commands = omega (arith, ap length c.into_commands-commands.ensures.value) in
-    let is : taken ≡ get_or commands place taken = c.take-taken.ensures.value ∙ ap (λ (l : List Taken). get_or l place was) c.deref_mut.ensures.value
-    ∙ i.rest place was (omega arith) ∙ ap (λ (d : Taken). get_or commands place d) (c.index-deref_mut-place.is ∙ sym c.take-taken.ensures.value) in
-    let noted : IsNoted c.args.desk.now (turns_after c.args.batch.turns (take place commands)) taken = subst (λ (p : List TableId × Taken). IsNoted p.0 (turns_after c.args.batch.turns (take place commands)) p.1) (λ k. (c.requires.at_desk k, sym is k))
-    (noted_at c.args.batch.desk c.args.batch.turns commands place taken inside c.into_commands-commands.ensures.noted) in
-    says_it c.args.desk.now c.loop-place.seat (turns_after c.args.batch.turns (take place commands)) taken noted i.settled
+    subst (λ (d : List TableId). IsDue d c.loop-place.seat taken) c.requires.at_desk
+    (subst (IsDue c.args.batch.desk c.loop-place.seat) (sym is) (due_at c.args.batch.desk c.loop-place.seat c.args.batch.turns commands place taken inside all.at_desk all.noted i.settled))
 
 pub loop-place-preserved : goal.loop-place-preserved
 loop-place-preserved c =
@@ -67,7 +37,7 @@ loop-place-preserved c =
     let inside : place < length commands = omega (arith, ap length c.into_commands-commands.ensures.value) in
     let is : taken ≡ get_or commands place taken = c.take-taken.ensures.value ∙ ap (λ (l : List Taken). get_or l place was) c.deref_mut.ensures.value
     ∙ i.rest place was (omega arith) ∙ ap (λ (d : Taken). get_or commands place d) (c.index-deref_mut-place.is ∙ sym c.take-taken.ensures.value) in
-    let noted : IsNoted c.args.desk.now (turns_after c.args.batch.turns (take place commands)) taken = subst (λ (p : List TableId × Taken). IsNoted p.0 (turns_after c.args.batch.turns (take place commands)) p.1) (λ k. (c.requires.at_desk k, sym is k))
+    let noted = subst (IsNoted c.args.batch.desk (turns_after c.args.batch.turns (take place commands))) (sym is)
     (noted_at c.args.batch.desk c.args.batch.turns commands place taken inside c.into_commands-commands.ensures.noted) in
     let one = c.answer.ensures.answers in
     let items = c.loop-place.commands.items in
