@@ -10,7 +10,7 @@ use Rattle.lift_disk.specs.Outcomes.{IsLeftBy}
 use Rattle.lift_disk.specs.declared.outcome.Outcome.{Outcome}
 use Rattle.lift_disk.specs.declared.outcome.Outcome.TheVariants.{Keep, Lose, Fill}
 use Rattle.lift_journal.specs.Checkpoint.{sectors_for}
-use Rattle.lift_journal.specs.Layout.{bodies}
+use Rattle.lift_journal.specs.Layout.{body_size}
 use Rattle.lift_journal.specs.Told.{NoneFails, LastFails}
 use Rattle.lift_register.specs.Base.{base_records}
 use Rattle.lift_desk.specs.Steps.{with_told_answers, with_told_asks}
@@ -144,8 +144,8 @@ module _ (plan : Plan) (g : ScriptGroup) (s : Stopped) (old new : DiskState) (ho
   room_is true e = inl (ap (λ c. cond c 0 (sectors_for (length (base_records g.register)) + 4)) e)
   room_is false e = inr (ap (λ c. cond c 0 (sectors_for (length (base_records g.register)) + 4)) e)
 
-  all_calls : s.made ≤ room_for g s.batch + (bodies (length s.batch) + 4)
-  all_calls = subst (λ c. s.made ≤ cond c 0 (room_for g s.batch + (bodies (length s.batch) + 4))) (ne_eqb (length s.batch) 0 (λ z. omega (arith, z, some))) most
+  all_calls : s.made ≤ room_for g s.batch + (body_size (length s.batch) + 4)
+  all_calls = subst (λ c. s.made ≤ cond c 0 (room_for g s.batch + (body_size (length s.batch) + 4))) (ne_eqb (length s.batch) 0 (λ z. omega (arith, z, some))) most
 
   fold_left : (outcome : Outcome) (image : Image) → s.made ≤ room_for g s.batch → IsLeftBy outcome new image → MayLeave new image → IsFound plan (in_folding outcome g s.made) image
   fold_left outcome image early left may =
@@ -160,7 +160,7 @@ module _ (plan : Plan) (g : ScriptGroup) (s : Stopped) (old new : DiskState) (ho
       → IsFound plan (in_append outcome g s.batch (s.made - room_for g s.batch)) image
   append_left outcome image late left may =
       left_at_mark plan old new (with_room g (length s.batch)) (with_batch g s.batch) false
-      (room_for g s.batch) (bodies (length s.batch) + 2) (s.made - room_for g s.batch) (room_for g s.batch + (bodies (length s.batch) + 2)) honest refl
+      (room_for g s.batch) (body_size (length s.batch) + 2) (s.made - room_for g s.batch) (room_for g s.batch + (body_size (length s.batch) + 2)) honest refl
       (stops.adding (omega (arith, calls, late))) (omega (arith, calls, late)) (omega (arith, all_calls, late)) outcome image left may
 
   pub cut_as : (outcome : Outcome) (image : Image) → IsLeftBy outcome new image → MayLeave new image → IsFound plan (found_after_cut (Some s) outcome g) image

@@ -13,7 +13,7 @@ use Rattle.lift_building.specs.Plan.{Plan, kiosk_floor_of}
 use Rattle.lift_disk.specs.declared.outcome.Outcome.{Outcome}
 use Rattle.lift_disk.specs.declared.outcome.Outcome.TheVariants.{Keep, Lose, Fill}
 use Rattle.lift_journal.specs.Checkpoint.{sectors_for}
-use Rattle.lift_journal.specs.Layout.{bodies}
+use Rattle.lift_journal.specs.Layout.{body_size}
 use Rattle.lift_register.specs.Prelude.{RegisterState, empty, register_of, open_count}
 use Rattle.lift_register.specs.Base.{base_records}
 use Rattle.lift_policy.specs.declared.command.Command.{Command}
@@ -260,7 +260,7 @@ abbrev pub with_batch : ScriptGroup → List Entry → Found
 with_batch g batch = record {
   register = register_of g.register batch;
   is_second = room_second g.is_second g.used half (length batch);
-  used = room_used g.register g.used half (length batch) + (bodies (length batch) + 1);
+  used = room_used g.register g.used half (length batch) + (body_size (length batch) + 1);
 }
 
 -- within the checkpoint that the batch needs: the mark is the pick
@@ -274,7 +274,7 @@ in_folding outcome g made =
 -- after it, this many calls within the append: the mark is the batch's gate
 abbrev pub in_append : Outcome → ScriptGroup → List Entry → ℕ → Found
 in_append outcome g batch made =
-    at_mark outcome (bodies (length batch) + 2) made (with_room g (length batch))
+    at_mark outcome (body_size (length batch) + 2) made (with_room g (length batch))
     (with_batch g batch) (with_batch g batch) (with_room g (length batch))
 
 abbrev pub room_for : ScriptGroup → List Entry → ℕ
