@@ -49,7 +49,7 @@ fn bytes_of<B: TextOpener>(alloc: Global, reader: &mut Counted<B::Text>) -> Resu
     ensures few_calls { reader.new.calls ≤ 2097152 }
     ensures fault { IfErr result (IsFileFault OfBuilding) }
     // The file is refused where a call failed, which was the last, or where it held a byte too many;
-    // memory is wanting only where no call failed.
+    // it is out of memory only where no call failed.
     ensures no_text { result ≡ Err (Fault.File OfBuilding)
         → GivesNoText B.Text.remaining B.reads reader.old.reader reader.new.reader }
     ensures wanting { result ≡ Err (Fault.Memory tt) → reader.new.failed ≡ false }

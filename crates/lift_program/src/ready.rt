@@ -22,7 +22,7 @@ use itoa::Buffer;
 use lift_building::Building;
 use lift_disk::{BufferedFile, Disk, FileOpener};
 use lift_policy::Shipped;
-use lift_serve::{Listening, Prepared};
+use lift_serve::{Listening, PreparedGroup};
 use std::alloc::Global;
 use std::io::Write;
 
@@ -30,7 +30,7 @@ use std::io::Write;
 /// serves it tells an `E` that the device failed.
 pub(crate) struct Ready<'b, D: Disk + Drop, E> {
     pub(crate) port: u16,
-    pub(crate) prepared: Prepared<'b, D, Shipped, ImageKey<E>>,
+    pub(crate) prepared: PreparedGroup<'b, D, Shipped, ImageKey<E>>,
 }
 
 /// Says which port is served.
@@ -121,6 +121,6 @@ pub(crate) fn ready_for<'b, B: TextOpener, I: FileOpener, L: Listens, W: Outflow
     if let Err(fault) = say(port, writer) {
         return Err(Undone::Opened(fault, left_by(keeper)));
     }
-    let prepared = Prepared::new(listening, sessions, keeper, policy);
+    let prepared = PreparedGroup::new(listening, sessions, keeper, policy);
     Ok(Ready { port, prepared })
 }

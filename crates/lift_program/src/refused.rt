@@ -1,4 +1,4 @@
-//! What memory may be wanting for, and the evidence that none was left.
+//! What may be out of memory, and the evidence that none was left.
 
 ghost use Rattle.std.specs.Prelude.{◌≡◌, ◌≢◌, Ok, Err, Some, None, true, false, map};
 ghost use Rattle.std.specs.Prelude.{IfOk, IfErr, IfSome, IfNone, OnOk, OnErr};

@@ -17,7 +17,7 @@ use core::mem::replace_with;
 use lift_base::text::Watched;
 use lift_disk::Disk;
 use lift_policy::Shipped;
-use lift_serve::{NoWitness, Prepared, Refusal, Served, ServingEnd};
+use lift_serve::{NoWitness, PreparedGroup, Refusal, ServingEnd, ServingOutcome};
 use std::alloc::Global;
 use std::io::Write;
 use std::sync::Wait;
@@ -44,14 +44,14 @@ pub struct Serving<D> {
 
 /// What came of the serving.
 fn serving_of<D: Disk + Drop, E: Write + Drop>(
-    served: Served<'_, D, ImageKey<E>, NoWitness>,
+    served: ServingOutcome<'_, D, ImageKey<E>, NoWitness>,
 ) -> Serving<D>
     ensures fault { result.fault
         ≡ served_fault served.entry.keeper.writer.is_broken served.entry.end.fault }
     ensures left { result.left ≡ served.entry.keeper.writer.device }
     ensures end { result.end ≡ served.entry.end }
 {
-    let Served {
+    let ServingOutcome {
         keeper,
         end,
         witness: _,
@@ -68,9 +68,9 @@ fn serving_of<D: Disk + Drop, E: Write + Drop>(
 fn serve_owning<'b, R, D, E>(
     rt: &R,
     alloc: Global,
-    prepared: Prepared<'b, D, Shipped, ImageKey<E>>,
+    prepared: PreparedGroup<'b, D, Shipped, ImageKey<E>>,
     errors: Watched<E>,
-) -> (Watched<E>, Served<'b, D, ImageKey<E>, NoWitness>)
+) -> (Watched<E>, ServingOutcome<'b, D, ImageKey<E>, NoWitness>)
 where
     R: Threads + Wait + Clock + Sync,
     D: Disk + Drop,
@@ -85,13 +85,13 @@ where
 {
     let told = AtOnce { errors };
     let served = lift_serve::serve(rt, alloc, prepared, told);
-    let Served {
+    let ServingOutcome {
         keeper,
         end,
         witness,
     } = served;
     let AtOnce { errors } = witness;
-    let behind = Served {
+    let behind = ServingOutcome {
         keeper,
         end,
         witness: NoWitness,
@@ -104,9 +104,9 @@ where
 fn serve_telling<'b, R, D, E>(
     rt: &R,
     alloc: Global,
-    prepared: Prepared<'b, D, Shipped, ImageKey<E>>,
+    prepared: PreparedGroup<'b, D, Shipped, ImageKey<E>>,
     errors: &mut Watched<E>,
-) -> Served<'b, D, ImageKey<E>, NoWitness>
+) -> ServingOutcome<'b, D, ImageKey<E>, NoWitness>
 where
     R: Threads + Wait + Clock + Sync,
     D: Disk + Drop,
@@ -122,9 +122,9 @@ where
     replace_with(
         errors,
         prepared,
-        |errors: Watched<E>, prepared: Prepared<D, Shipped, ImageKey<E>>| -> (
+        |errors: Watched<E>, prepared: PreparedGroup<D, Shipped, ImageKey<E>>| -> (
             Watched<E>,
-            Served<D, ImageKey<E>, NoWitness>,
+            ServingOutcome<D, ImageKey<E>, NoWitness>,
         )
             ensures comes { ComesTo IsShipped D.state prepared.entry.policy prepared.entry.keeper
                 result.1.keeper result.1.end.fault }
@@ -144,7 +144,7 @@ where
 pub(crate) fn serve<R: Threads + Wait + Clock + Sync, D: Disk + Drop, E: Write + Drop>(
     rt: &R,
     alloc: Global,
-    prepared: Prepared<'_, D, Shipped, ImageKey<E>>,
+    prepared: PreparedGroup<'_, D, Shipped, ImageKey<E>>,
     errors: &mut Watched<E>,
 ) -> Serving<D>
     requires { prepared.keeper.writer.is_broken ≡ false }

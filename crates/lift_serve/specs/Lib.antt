@@ -5,6 +5,6 @@ pub mod Lobby
 pub mod Open
 pub mod Relaying
 pub mod Keeping
-pub mod Rung
+pub mod RingCount
 pub mod Visits
 pub mod lemmas

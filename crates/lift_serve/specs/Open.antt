@@ -6,13 +6,13 @@ use Rattle.lift_serve.specs.declared.serving.ServeFault.{ServeFault}
 use Rattle.lift_serve.specs.declared.serving.ServeFault.TheVariants.{Thread}
 
 -- the numbers of the open connections, the next number, how many have ended, whether all were given
--- up, and what was wanting first
+-- up, and the first shortage
 pub record OpenState : Type 0 where
   pub numbers : List ℕ
   pub next : ℕ
   pub ended : ℕ
   pub given_up : Option (Unit {0})
-  pub lacked : Option ServeFault
+  pub shortage : Option ServeFault
 
 -- at this socket, so many connections: as are to end, or have
 pub record EndedState : Type 0 where
@@ -48,10 +48,10 @@ ended_in (Err given_up) = None
 -- the first of two, if there is one
 abbrev pub first_told : {T : Type 0} → (before behind : Option T) → Option T
 first_told None behind = behind
-first_told (Some lack) behind = Some lack
+first_told (Some shortage) behind = Some shortage
 
 -- what is told of a serving whose accepting was over so: that no thread could be had for the serving
--- itself, and else what was wanting first
+-- itself, and else the first shortage
 abbrev pub told_behind : Result EndedState (Unit {0}) → (first : Option ServeFault) → Option ServeFault
 told_behind (Ok ended) first = first
 told_behind (Err given_up) first = Some Thread

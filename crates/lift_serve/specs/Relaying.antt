@@ -126,7 +126,7 @@ pub record IsServedKeeper {D P : Type 0} (chooses : P → Choice) (state : D
   pub tells : relayed.fault ≡ Some (Spawn tt) → fault ≡ Some Thread
   pub begun : fault ≢ Some Network
 
--- Nobody was served: the keeper is as it was, and that the socket failed or that memory was wanting
+-- Nobody was served: the keeper is as it was, and that the socket failed or that it was out of memory
 -- is told.
 pub record IsUnserved {D : Type 0} (keeper keeper' : KeeperView D)
     (fault : Option ServeFault) : Type 0 where

@@ -11,8 +11,8 @@ ghost use Rattle.lift_serve.specs.Lobby.{AskedState, IsSamePlace};
 
 use crate::connections::Ticket;
 use crate::first_line::terminal_of;
-use crate::held::Held;
-use crate::lobby::{Absent, Lobby, Missing, NoSeat, Returned, Vacancy};
+use crate::held::HeldSeat;
+use crate::lobby::{Lobby, NoSeat, SeatReturn, TakenSeat, UnknownSeat, Vacancy};
 use crate::pace::AskBell;
 use lift_base::Terminal;
 use lift_base::text::{Counted, Watched};
@@ -34,21 +34,21 @@ pub enum Outcome<'d> {
     /// Its first line names no terminal of the building.
     Bad,
     /// Another session has the seat of the terminal that it names: it was taken out of the lobby.
-    Busy(Absent<'d>),
+    Busy(TakenSeat<'d>),
     /// The lobby's desk hasn't the terminal that it names.
-    Unseated(Missing<'d>),
+    Unseated(UnknownSeat<'d>),
     /// There was a session of the terminal that it names, which ended so, and whose seat is back in
     /// the lobby.
-    Visited(Returned<'d>, End),
+    Visited(SeatReturn<'d>, End),
 }
 
 /// That a connection was attended to, and what came of it. Only `attend` makes one.
 #[derive(Drop)]
-pub struct Attended<'d> {
+pub struct Attendance<'d> {
     outcome: Outcome<'d>,
 }
 
-impl<'d> Model for Attended<'d> {
+impl<'d> Model for Attendance<'d> {
     ghost use Rattle.lift_serve.specs.declared.attending.Outcome.{Outcome};
 
     ghost Value = { Outcome };
@@ -56,12 +56,12 @@ impl<'d> Model for Attended<'d> {
     ghost view = { λ a. a.outcome };
 }
 
-impl<'d> Attended<'d> {
+impl<'d> Attendance<'d> {
     /// What came of the connection.
     pub fn outcome(self) -> Outcome<'d>
         ensures { result ≡ self.entry }
     {
-        let Attended { outcome } = self;
+        let Attendance { outcome } = self;
         outcome
     }
 }
@@ -87,7 +87,7 @@ fn take<'d>(
     lobby: &Mutex<Lobby<'d>>,
     ticket: Ticket,
     terminal: Terminal,
-) -> Result<(Held<'d>, Vacancy<'d>), NoSeat<'d>>
+) -> Result<(HeldSeat<'d>, Vacancy<'d>), NoSeat<'d>>
     ensures own { IfOk result (λ taken. taken.0.seat.terminal ≡ terminal) }
     ensures vacant { IfOk result (λ taken. taken.1 ≡ taken.0) }
     ensures out { (absent : AskedState) → result ≡ Err (NoSeat.Taken absent)
@@ -103,9 +103,9 @@ fn take<'d>(
 fn put_back<'d>(
     rt: &impl Wait,
     lobby: &Mutex<Lobby<'d>>,
-    held: Held<'d>,
+    held: HeldSeat<'d>,
     vacancy: Vacancy<'d>,
-) -> Returned<'d>
+) -> SeatReturn<'d>
     requires same { IsSamePlace vacancy held }
     ensures { result ≡ held.entry }
 {
@@ -175,7 +175,7 @@ pub fn attend<'d, R: Wait + Clock, I: Read + Drop, O: Write + Drop>(
     building: &Building,
     reader: &mut Counted<I>,
     writer: &mut Watched<O>,
-) -> Attended<'d>
+) -> Attendance<'d>
     ensures { Attends (length building.now.cars) (length building.now.kiosks) result
         (source_of I.remaining reader.old) (source_of I.remaining reader.new)
         (sink_of O.contents writer.old) (sink_of O.contents writer.new) }
@@ -190,5 +190,5 @@ pub fn attend<'d, R: Wait + Clock, I: Read + Drop, O: Write + Drop>(
         },
         Err(no_line) => Outcome::NoLine(no_line),
     };
-    Attended { outcome }
+    Attendance { outcome }
 }

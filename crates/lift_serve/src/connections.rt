@@ -1,16 +1,16 @@
 //! The connections that are open, and how many have ended. How many are to end is not kept with them:
-//! who asks has it of the serving's one `Bound`, so that what a lock holds can't be of another number.
+//! who asks has it of the serving's one `ServingTerms`, so that what a lock holds can't be of another number.
 
 ghost use Rattle.std.specs.Prelude.{◌≡◌, ◌≤◌, ℕ, ◌+◌, ◌%◌, ◌^◌, ◌∷◌, ◌++◌, [], None, Some};
 ghost use Rattle.std.specs.Prelude.{IfOk, IfErr, IfSome, IfNone, IsErr, IsSome, IsTrue, OnErr, ◌↔◌};
 ghost use Rattle.std.specs.Prelude.{not, ◌==◌, filter};
 ghost use Rattle.lift_serve.specs.Open.{AreOver, IsEndAt, first_told, one_more};
 
-use crate::attending::Attended;
-use crate::lacks::{GivenUp, Lacking, Lacks, push};
-use crate::prepared::{Bound, Untold};
+use crate::attending::Attendance;
+use crate::prepared::{DueReport, ServingTerms};
 use crate::serving::ServeFault;
 use crate::shared::Shared;
+use crate::shortages::{Abandonment, Shortage, Shortages, push};
 use crate::socket::{Arrival, Closer, ListeningCloser, Socket};
 use std::alloc::Global;
 use std::marker::Model;
@@ -80,8 +80,8 @@ impl Connection {
         rt: &R,
         alloc: Global,
         shared: Shared<'_, 'd>,
-    ) -> Result<Attended<'d>, Lacking>
-        ensures lack { IfErr result (λ lacking. lacking ≡ ServeFault.Memory) }
+    ) -> Result<Attendance<'d>, Shortage>
+        ensures lack { IfErr result (λ shortage. shortage ≡ ServeFault.Memory) }
     {
         let Connection { ticket, socket } = self;
         socket.attended(rt, alloc, shared, ticket)
@@ -90,11 +90,11 @@ impl Connection {
 
 /// That the end of a connection that was let in is to be counted. It can't be let go: a thread whose
 /// work returns that one was counted takes it, or the count itself. Only `enter` makes one.
-pub(crate) struct Awaited {
+pub(crate) struct DueEnd {
     number: u64,
 }
 
-impl Model for Awaited {
+impl Model for DueEnd {
     ghost use Rattle.std.specs.Prelude.{ℕ};
 
     ghost Value = { ℕ };
@@ -102,7 +102,7 @@ impl Model for Awaited {
     ghost view = { λ a. a.number };
 }
 
-impl Awaited {
+impl DueEnd {
     /// The connection's number.
     pub(crate) fn number(&self) -> u64
         ensures { result ≡ self.now }
@@ -110,28 +110,28 @@ impl Awaited {
         self.number
     }
 
-    /// The work of this thread counts the end: it returns a `Left`.
-    pub(crate) fn counted_by(self, thread: JoinHandle<Left>) {
-        let Awaited { number: _ } = self;
+    /// The work of this thread counts the end: it returns a `CountedEnd`.
+    pub(crate) fn counted_by(self, thread: JoinHandle<CountedEnd>) {
+        let DueEnd { number: _ } = self;
         let _runs_on = thread;
     }
 
     /// The end was counted.
-    pub(crate) fn counted(self, left: Left)
+    pub(crate) fn counted(self, left: CountedEnd)
         requires { left ≡ self }
     {
-        let Awaited { number: _ } = self;
+        let DueEnd { number: _ } = self;
         let _used = left;
     }
 }
 
 /// That the end of the connection of this number was counted. Only `leave` makes one.
 #[derive(Drop)]
-pub(crate) struct Left {
+pub(crate) struct CountedEnd {
     number: u64,
 }
 
-impl Model for Left {
+impl Model for CountedEnd {
     ghost use Rattle.std.specs.Prelude.{ℕ};
 
     ghost Value = { ℕ };
@@ -142,13 +142,13 @@ impl Model for Left {
 /// That all connections have ended that were to end in a serving that is bound so. Only `Connections`
 /// makes one, which has counted them.
 #[derive(Drop)]
-pub struct Ended {
+pub struct LastEnd {
     connections: Snapshot<Connections>,
-    bound: Snapshot<Bound>,
+    bound: Snapshot<ServingTerms>,
     ghost counted: { bound.value.sessions ≤ connections.value.ended },
 }
 
-impl Model for Ended {
+impl Model for LastEnd {
     ghost use Rattle.lift_serve.specs.Open.{EndedState};
 
     ghost Value = { EndedState };
@@ -157,7 +157,7 @@ impl Model for Ended {
 }
 
 /// That no more connections are accepted: all have ended that were to end, or all were given up.
-pub(crate) type Over = Result<Ended, GivenUp>;
+pub(crate) type Over = Result<LastEnd, Abandonment>;
 
 /// Whether connections are still read. Only `Connections` ends that, after the last end that counts.
 #[derive(Drop)]
@@ -179,15 +179,15 @@ impl Reading {
     }
 }
 
-/// The connections that are open, how many have ended, and what was wanting first. Contracts see the
+/// The connections that are open, how many have ended, and the first shortage. Contracts see the
 /// numbers of those that are open, the next number, how many have ended, whether all were given up,
-/// and what was wanting. They can't be let go: what comes of the serving tells it.
+/// and the first shortage. They can't be let go: what comes of the serving tells it.
 pub struct Connections {
     open: Vec<Open>,
     next: u64,
     ended: u32,
-    given_up: Option<GivenUp>,
-    lacks: Lacks,
+    given_up: Option<Abandonment>,
+    shortages: Shortages,
     listening: ListeningCloser,
 }
 
@@ -202,19 +202,19 @@ impl Model for Connections {
       next = c.next;
       ended = c.ended;
       given_up = c.given_up;
-      lacked = c.lacks;
+      shortage = c.shortages;
     } };
 }
 
 impl Connections {
     /// None is open, and none has ended: those of one serving.
-    pub(crate) fn new(alloc: Global, listening: ListeningCloser, untold: Untold) -> Self
+    pub(crate) fn new(alloc: Global, listening: ListeningCloser, untold: DueReport) -> Self
         ensures { result ≡ record {
           numbers = [];
           next = 0;
           ended = 0;
           given_up = None;
-          lacked = None;
+          shortage = None;
         } }
     {
         Connections {
@@ -222,13 +222,13 @@ impl Connections {
             next: 0,
             ended: 0,
             given_up: None,
-            lacks: Lacks::new(untold),
+            shortages: Shortages::new(untold),
             listening,
         }
     }
 
     /// Whether all have ended that were to end, or all were given up.
-    pub(crate) fn is_over(&self, bound: &Bound) -> Option<Over>
+    pub(crate) fn is_over(&self, bound: &ServingTerms) -> Option<Over>
         ensures over { IsSome result ↔ AreOver bound.now.sessions self.now }
         ensures ended { IfSome result (IsEndAt bound.now) }
     {
@@ -242,11 +242,11 @@ impl Connections {
     }
 
     /// All have ended that were to end.
-    fn all_ended(&self, bound: &Bound) -> Ended
+    fn all_ended(&self, bound: &ServingTerms) -> LastEnd
         requires { bound.now.sessions ≤ self.now.ended }
         ensures { result ≡ bound.now }
     {
-        Ended {
+        LastEnd {
             connections: Snapshot::of(self),
             bound: Snapshot::of(bound),
         }
@@ -260,14 +260,14 @@ impl Connections {
     }
 
     /// Somebody who came is let in: a connection is open from now on, by the number of its ticket.
-    /// Nobody is where all have ended that were to end, or all were given up; and where memory is wanting for it,
+    /// Nobody is where all have ended that were to end, or all were given up; and where there is no memory for it,
     /// that is noted, and the connection has ended.
     pub(crate) fn enter(
         &mut self,
         alloc: Global,
-        bound: &Bound,
+        bound: &ServingTerms,
         arrival: Arrival,
-    ) -> Result<Option<(Connection, Awaited)>, Over>
+    ) -> Result<Option<(Connection, DueEnd)>, Over>
         ensures over { IsErr result ↔ AreOver bound.now.sessions self.old }
         ensures left_out { OnErr result (self.new ≡ self.old) }
         ensures ended { IfErr result (IsEndAt bound.now) }
@@ -278,7 +278,7 @@ impl Connections {
             }))) }
         ensures refused { IfOk result (λ entered. IfNone entered (self.new ≡ record self.old {
           ended = one_more bound.now.sessions self.old.ended;
-          lacked = first_told self.old.lacked (Some ServeFault.Memory);
+          shortage = first_told self.old.shortage (Some ServeFault.Memory);
         })) }
     {
         if let Some(over) = self.is_over(bound) {
@@ -287,8 +287,8 @@ impl Connections {
         }
         match self.admit(alloc, arrival) {
             Ok(entered) => Ok(Some(entered)),
-            Err(lacking) => {
-                self.lacks.note(lacking);
+            Err(shortage) => {
+                self.shortages.note(shortage);
                 self.ended(bound);
                 Ok(None)
             }
@@ -296,7 +296,7 @@ impl Connections {
     }
 
     /// Whoever came has a connection from now on.
-    fn admit(&mut self, alloc: Global, arrival: Arrival) -> Result<(Connection, Awaited), Lacking>
+    fn admit(&mut self, alloc: Global, arrival: Arrival) -> Result<(Connection, DueEnd), Shortage>
         ensures let_in { IfOk result (λ came. (came.0 ≡ self.old.next)
             × (self.new ≡ record self.old {
               numbers = self.old.numbers ++ came.0 ∷ [];
@@ -304,18 +304,23 @@ impl Connections {
             })) }
         ensures awaited { IfOk result (λ came. came.1 ≡ came.0) }
         ensures unchanged { OnErr result (self.new ≡ self.old) }
-        ensures lack { IfErr result (λ lacking. lacking ≡ ServeFault.Memory) }
+        ensures lack { IfErr result (λ shortage. shortage ≡ ServeFault.Memory) }
     {
         let number = self.next;
         let ticket = Ticket { number };
         let (socket, closer) = arrival.open(alloc, &ticket)?;
         push(&mut self.open, Open { number, closer })?;
         self.next = number.wrapping_add(1);
-        Ok((Connection { ticket, socket }, Awaited { number }))
+        Ok((Connection { ticket, socket }, DueEnd { number }))
     }
 
     /// The connection of this number has ended, which was attended to.
-    pub(crate) fn leave(&mut self, bound: &Bound, number: u64, attended: Attended<'_>) -> Left
+    pub(crate) fn leave(
+        &mut self,
+        bound: &ServingTerms,
+        number: u64,
+        attended: Attendance<'_>,
+    ) -> CountedEnd
         ensures left { self.new ≡ record self.old {
           numbers = filter (λ n.
               not (n == number)) self.old.numbers;
@@ -327,22 +332,27 @@ impl Connections {
         self.remove(bound, number)
     }
 
-    /// The connection of this number has ended, for which this was wanting.
-    pub(crate) fn leave_unattended(&mut self, bound: &Bound, number: u64, lacking: Lacking) -> Left
+    /// The connection of this number has ended, because of this shortage.
+    pub(crate) fn leave_unattended(
+        &mut self,
+        bound: &ServingTerms,
+        number: u64,
+        shortage: Shortage,
+    ) -> CountedEnd
         ensures left { self.new ≡ record self.old {
           numbers = filter (λ n.
               not (n == number)) self.old.numbers;
           ended = one_more bound.now.sessions self.old.ended;
-          lacked = first_told self.old.lacked (Some lacking);
+          shortage = first_told self.old.shortage (Some shortage);
         } }
         ensures number { result ≡ number }
     {
-        self.lacks.note(lacking);
+        self.shortages.note(shortage);
         self.remove(bound, number)
     }
 
     /// The connection of this number is open no more, and its end is counted.
-    fn remove(&mut self, bound: &Bound, number: u64) -> Left
+    fn remove(&mut self, bound: &ServingTerms, number: u64) -> CountedEnd
         ensures left { self.new ≡ record self.old {
           numbers = filter (λ n.
               not (n == number)) self.old.numbers;
@@ -352,12 +362,12 @@ impl Connections {
     {
         self.open.retain(|open| open.number != number);
         self.ended(bound);
-        Left { number }
+        CountedEnd { number }
     }
 
     /// One connection more has ended. After the last one that is to end no more are accepted, and
     /// nothing more is read from the others.
-    fn ended(&mut self, bound: &Bound)
+    fn ended(&mut self, bound: &ServingTerms)
         ensures { self.new ≡ record self.old { ended = one_more bound.now.sessions self.old.ended } }
     {
         if self.ended >= bound.sessions() {
@@ -371,7 +381,7 @@ impl Connections {
     }
 
     /// No more are to end: as after the last one that was to.
-    pub(crate) fn give_up(&mut self, bound: &Bound, given_up: GivenUp)
+    pub(crate) fn give_up(&mut self, bound: &ServingTerms, given_up: Abandonment)
         ensures { self.new ≡ record self.old { given_up = Some given_up } }
     {
         self.given_up = Some(given_up);
@@ -380,7 +390,7 @@ impl Connections {
 
     /// No more are accepted, and nothing more is read from those that are open: who waits for a line
     /// finds the end, and the others look at this before each read.
-    fn turn_away(&self, bound: &Bound, over: &Over) {
+    fn turn_away(&self, bound: &ServingTerms, over: &Over) {
         bound.reading().is_over.store(true, Ordering::SeqCst);
         self.shut(Shutdown::Read);
         self.listening.shut(over);
@@ -398,18 +408,18 @@ impl Connections {
         self.shut(Shutdown::Both);
     }
 
-    /// What was wanting.
-    pub(crate) fn into_lacks(self) -> Lacks
-        ensures { result ≡ self.lacked }
+    /// The first shortage, if there was one.
+    pub(crate) fn into_shortages(self) -> Shortages
+        ensures { result ≡ self.shortage }
     {
         let Connections {
             open: _,
             next: _,
             ended: _,
             given_up: _,
-            lacks,
+            shortages,
             listening: _,
         } = self;
-        lacks
+        shortages
     }
 }

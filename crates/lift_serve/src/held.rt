@@ -54,7 +54,7 @@ fn session_of<I: Read + Drop, O: Write + Drop, P: Port>(
 /// that the recovery found. One session at a time has it. What is known came from what was found by
 /// sessions, each of which began where the one before ended.
 #[derive(Drop)]
-pub struct Held<'d> {
+pub struct HeldSeat<'d> {
     desk: &'d Desk,
     pager: &'d Pager,
     seat: Seat,
@@ -62,7 +62,7 @@ pub struct Held<'d> {
     found: LastLetter,
 }
 
-impl<'d> Model for Held<'d> {
+impl<'d> Model for HeldSeat<'d> {
     ghost use Rattle.lift_serve.specs.HeldInside.{IsHeldSeat, seen};
     ghost use Rattle.lift_serve.specs.Visits.{HeldState};
 
@@ -73,7 +73,7 @@ impl<'d> Model for Held<'d> {
     ghost invariant = { IsHeldSeat };
 }
 
-impl<'d> Held<'d> {
+impl<'d> HeldSeat<'d> {
     /// A new seat's, of which the recovery found this, with its terminal's pager.
     pub fn new(desk: &'d Desk, pager: &'d Pager, seat: Seat, found: LastLetter) -> Self
         requires seated { IsSeatOf desk.now seat }
@@ -82,7 +82,7 @@ impl<'d> Held<'d> {
         ensures { result ≡ record { desk = desk.now; seat = seat; last = found; found = found } }
     {
         let known = found;
-        Held {
+        HeldSeat {
             desk,
             pager,
             seat,
@@ -105,12 +105,12 @@ impl<'d> Held<'d> {
         bell: &AskBell,
         reader: &mut Counted<I>,
         writer: &mut Watched<O>,
-    ) -> (Held<'d>, End)
+    ) -> (HeldSeat<'d>, End)
         ensures { Visits self.entry result.1 result.0 (source_of I.remaining reader.old)
             (source_of I.remaining reader.new)
             (sink_of O.contents writer.old) (sink_of O.contents writer.new) }
     {
-        let Held {
+        let HeldSeat {
             desk,
             pager,
             seat,
@@ -122,7 +122,7 @@ impl<'d> Held<'d> {
         let end = session_of(terminal, reader, writer, &mut port, &mut last);
         let seat = port.into_port().into_seat();
         (
-            Held {
+            HeldSeat {
                 desk,
                 pager,
                 seat,

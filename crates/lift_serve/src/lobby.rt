@@ -5,7 +5,7 @@ ghost use Rattle.std.specs.Prelude.{slice_set};
 ghost use Rattle.lift_serve.specs.Lobby.{AskedState, IsLobbyOf, IsSamePlace, IsTakenOut, IsUnknown};
 
 use crate::connections::Ticket;
-use crate::held::Held;
+use crate::held::HeldSeat;
 use arrayvec::ArrayVec;
 use lift_base::{MOST_TERMINALS, Terminal};
 use lift_desk::Desk;
@@ -17,7 +17,7 @@ use std::snapshot::Snapshot;
 #[derive(Drop)]
 pub struct Lobby<'d> {
     desk: &'d Desk,
-    places: ArrayVec<Option<Held<'d>>, MOST_TERMINALS>,
+    places: ArrayVec<Option<HeldSeat<'d>>, MOST_TERMINALS>,
 }
 
 impl<'d> Model for Lobby<'d> {
@@ -33,7 +33,7 @@ impl<'d> Model for Lobby<'d> {
 /// That the seat of this place was taken out of a lobby. It can't be let go: only `put_back` ends
 /// it, so a seat that was taken out is put back. Only `take` makes one.
 pub struct Vacancy<'d> {
-    held: Snapshot<Held<'d>>,
+    held: Snapshot<HeldSeat<'d>>,
 }
 
 impl<'d> Model for Vacancy<'d> {
@@ -46,12 +46,12 @@ impl<'d> Model for Vacancy<'d> {
 
 /// That a lobby was asked for a terminal's seat, which was taken out. Only `take` makes one.
 #[derive(Drop)]
-pub struct Absent<'d> {
+pub struct TakenSeat<'d> {
     desk: &'d Desk,
     terminal: Terminal,
 }
 
-impl<'d> Model for Absent<'d> {
+impl<'d> Model for TakenSeat<'d> {
     ghost use Rattle.lift_serve.specs.Lobby.{AskedState};
 
     ghost Value = { AskedState };
@@ -61,12 +61,12 @@ impl<'d> Model for Absent<'d> {
 
 /// That a lobby was asked for the seat of a terminal that its desk hasn't. Only `take` makes one.
 #[derive(Drop)]
-pub struct Missing<'d> {
+pub struct UnknownSeat<'d> {
     desk: &'d Desk,
     terminal: Terminal,
 }
 
-impl<'d> Model for Missing<'d> {
+impl<'d> Model for UnknownSeat<'d> {
     ghost use Rattle.lift_serve.specs.Lobby.{AskedState};
 
     ghost Value = { AskedState };
@@ -78,19 +78,19 @@ impl<'d> Model for Missing<'d> {
 #[derive(Drop)]
 pub enum NoSeat<'d> {
     /// A session has it.
-    Taken(Absent<'d>),
+    Taken(TakenSeat<'d>),
     /// The desk hasn't the terminal.
-    Unknown(Missing<'d>),
+    Unknown(UnknownSeat<'d>),
 }
 
 /// That this place of a terminal, with its seat and what is known of it, was put back into a lobby.
 /// Only `put_back` makes one.
 #[derive(Drop)]
-pub struct Returned<'d> {
-    held: Snapshot<Held<'d>>,
+pub struct SeatReturn<'d> {
+    held: Snapshot<HeldSeat<'d>>,
 }
 
-impl<'d> Model for Returned<'d> {
+impl<'d> Model for SeatReturn<'d> {
     ghost use Rattle.lift_serve.specs.Visits.{HeldState};
 
     ghost Value = { HeldState };
@@ -100,7 +100,7 @@ impl<'d> Model for Returned<'d> {
 
 impl<'d> Lobby<'d> {
     /// Of a desk, with these places of its terminals.
-    pub fn new(desk: &'d Desk, places: ArrayVec<Option<Held<'d>>, MOST_TERMINALS>) -> Self
+    pub fn new(desk: &'d Desk, places: ArrayVec<Option<HeldSeat<'d>>, MOST_TERMINALS>) -> Self
         requires { IsLobbyOf desk.now places.items }
         ensures { result ≡ record { desk = desk.now; places = places.entry.items } }
     {
@@ -110,7 +110,7 @@ impl<'d> Lobby<'d> {
     /// What is at a terminal's place, which is vacant then; none where the desk hasn't the
     /// terminal.
     #[tactic(auto, using(crate::proofs::Places::vacant_place))]
-    fn vacate(&mut self, terminal: Terminal) -> Option<Option<Held<'d>>>
+    fn vacate(&mut self, terminal: Terminal) -> Option<Option<HeldSeat<'d>>>
         ensures found { result ≡ slice_get self.old.places terminal }
         ensures vacant { IfSome result (λ _.
             self.new ≡ record self.old { places = slice_set self.old.places terminal None }) }
@@ -130,7 +130,7 @@ impl<'d> Lobby<'d> {
         &mut self,
         ticket: Ticket,
         terminal: Terminal,
-    ) -> Result<(Held<'d>, Vacancy<'d>), NoSeat<'d>>
+    ) -> Result<(HeldSeat<'d>, Vacancy<'d>), NoSeat<'d>>
         ensures own { IfOk result (λ taken. taken.0.seat.terminal ≡ terminal) }
         ensures there { IfOk result (λ taken.
             slice_get self.old.places terminal ≡ Some (Some taken.0)) }
@@ -152,14 +152,14 @@ impl<'d> Lobby<'d> {
                 };
                 Ok((held, vacancy))
             }
-            Some(None) => Err(NoSeat::Taken(Absent { desk, terminal })),
-            None => Err(NoSeat::Unknown(Missing { desk, terminal })),
+            Some(None) => Err(NoSeat::Taken(TakenSeat { desk, terminal })),
+            None => Err(NoSeat::Unknown(UnknownSeat { desk, terminal })),
         }
     }
 
     /// Its next session may have the seat that was taken out.
     #[tactic(auto, using(crate::proofs::Places::own_place))]
-    pub fn put_back(&mut self, held: Held<'d>, vacancy: Vacancy<'d>) -> Returned<'d>
+    pub fn put_back(&mut self, held: HeldSeat<'d>, vacancy: Vacancy<'d>) -> SeatReturn<'d>
         requires same { IsSamePlace vacancy held }
         ensures put { self.new ≡ record self.old {
           places = slice_set self.old.places
@@ -170,7 +170,7 @@ impl<'d> Lobby<'d> {
         let Vacancy { held: _ } = vacancy;
         let terminal = held.terminal();
         let at = usize::from(terminal.get());
-        let returned = Returned {
+        let returned = SeatReturn {
             held: Snapshot::of(&held),
         };
         if at < self.places.len() {

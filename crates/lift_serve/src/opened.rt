@@ -4,18 +4,18 @@ ghost use Rattle.std.specs.Prelude.{◌≡◌, ◌≤◌, ◌⊎◌, IfOk, IfErr
 ghost use Rattle.lift_desk.specs.Seats.{AreSeatsOf, IsClerkOf, OwesNothing, clerk_of, seats_from};
 ghost use Rattle.lift_serve.specs.Lobby.{AreInOrder};
 
-use crate::lacks::{Hindrance, closer_of, open_desk};
 use crate::pager::Pager;
-use crate::prepared::Bound;
+use crate::prepared::ServingTerms;
 use crate::seating::new_pagers;
 use crate::serving::ServeFault;
+use crate::shortages::{Hindrance, closer_of, open_desk};
 use crate::socket::ListeningCloser;
 use lift_desk::{ClerkSeat, Desk, DeskParts, Seat};
 use std::alloc::Global;
 
 /// A desk with all its seats, a pager for each terminal that there can be, and what shuts the socket
 /// down.
-pub(crate) struct Opened {
+pub(crate) struct OpenedDesk {
     pub(crate) desk: Desk,
     pub(crate) seats: Vec<Seat>,
     pub(crate) clerk: ClerkSeat,
@@ -25,7 +25,11 @@ pub(crate) struct Opened {
 
 /// A desk of so many terminals and what belongs to it, and what shuts down the socket of a serving that
 /// is bound so.
-pub(crate) fn open(alloc: Global, bound: &Bound, terminals: usize) -> Result<Opened, Hindrance>
+pub(crate) fn open(
+    alloc: Global,
+    bound: &ServingTerms,
+    terminals: usize,
+) -> Result<OpenedDesk, Hindrance>
     requires { (1 ≤ terminals) × (terminals ≤ 63) }
     ensures count { IfOk result (λ opened. length opened.desk ≡ terminals) }
     ensures seats { IfOk result (λ opened. opened.seats.items ≡ seats_from 0 opened.desk) }
@@ -40,14 +44,14 @@ pub(crate) fn open(alloc: Global, bound: &Bound, terminals: usize) -> Result<Ope
 {
     let DeskParts { desk, seats, clerk } = match open_desk(alloc, terminals) {
         Ok(parts) => parts,
-        Err(lacking) => return Err(lacking.hinders()),
+        Err(shortage) => return Err(shortage.hinders()),
     };
     let pagers = match new_pagers(alloc) {
         Ok(pagers) => pagers,
-        Err(lacking) => return Err(lacking.hinders()),
+        Err(shortage) => return Err(shortage.hinders()),
     };
     let closer = closer_of(bound.listening())?;
-    Ok(Opened {
+    Ok(OpenedDesk {
         desk,
         seats,
         clerk,

@@ -3,7 +3,7 @@
 ghost use Rattle.std.specs.Prelude.{◌≡◌};
 
 use crate::connections::Over;
-use crate::pager::{Pager, Told};
+use crate::pager::{AskNotice, Pager};
 use lift_relay::Gate;
 use std::marker::Model;
 use std::sync::Wait;
@@ -32,11 +32,11 @@ pub struct AskBell {
 
 /// That the bell was rung for the asks of which a pager was told. Only `ring` makes one.
 #[derive(Drop)]
-pub struct Rang<'d> {
-    told: Told<'d>,
+pub struct Ring<'d> {
+    told: AskNotice<'d>,
 }
 
-impl<'d> Model for Rang<'d> {
+impl<'d> Model for Ring<'d> {
     ghost use Rattle.std.specs.Prelude.{ℕ};
 
     ghost Value = { ℕ };
@@ -55,14 +55,14 @@ impl AskBell {
     }
 
     /// A terminal's ask is stored, of which its pager was told before.
-    pub fn ring<'d>(&self, told: Told<'d>) -> Rang<'d>
+    pub fn ring<'d>(&self, told: AskNotice<'d>) -> Ring<'d>
         ensures { result ≡ told.entry }
     {
         let asked = self.asked.fetch_add(1, Ordering::SeqCst).saturating_add(1);
         if asked >= self.enough.load(Ordering::SeqCst) {
             self.parker.unpark();
         }
-        Rang { told }
+        Ring { told }
     }
 
     /// What was asked before is found by a scan.

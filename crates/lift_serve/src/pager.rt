@@ -1,7 +1,7 @@
 //! What tells a resting session that its terminal's answer is stored.
 
 ghost use Rattle.std.specs.Prelude.{◌≡◌};
-ghost use Rattle.lift_serve.specs.Rung.{asks_at};
+ghost use Rattle.lift_serve.specs.RingCount.{asks_at};
 
 use lift_base::Terminal;
 use lift_kiosk::DeskPort;
@@ -50,13 +50,13 @@ impl Model for Pager {
 /// That a pager was told of the asks that are stored at a terminal's port, which only proofs read.
 /// Only `asked` makes one.
 #[derive(Drop)]
-pub struct Told<'d> {
+pub struct AskNotice<'d> {
     port: Snapshot<DeskPort<'d>>,
 }
 
-impl<'d> Model for Told<'d> {
+impl<'d> Model for AskNotice<'d> {
     ghost use Rattle.std.specs.Prelude.{ℕ};
-    ghost use Rattle.lift_serve.specs.Rung.{asks_at};
+    ghost use Rattle.lift_serve.specs.RingCount.{asks_at};
 
     ghost Value = { ℕ };
 
@@ -76,11 +76,11 @@ impl Pager {
     }
 
     /// The terminal's last ask is stored at this port.
-    pub fn asked<'d>(&self, port: &DeskPort<'d>) -> Told<'d>
+    pub fn asked<'d>(&self, port: &DeskPort<'d>) -> AskNotice<'d>
         ensures { result ≡ asks_at port.now }
     {
         self.stage.store(ASKED, Ordering::SeqCst);
-        Told {
+        AskNotice {
             port: Snapshot::of(port),
         }
     }

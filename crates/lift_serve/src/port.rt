@@ -3,11 +3,11 @@
 ghost use Rattle.std.specs.Prelude.{◌≡◌, ◌≢◌, ◌↔◌, ◌+◌, OnOk, OnErr, None, Err, true};
 ghost use Rattle.lift_kiosk.specs.Desk.{place_of};
 ghost use Rattle.lift_kiosk.specs.Port.{AsksOne};
-ghost use Rattle.lift_serve.specs.Rung.{asks_at, port_view_after};
+ghost use Rattle.lift_serve.specs.RingCount.{asks_at, port_view_after};
 
 use crate::pace::AskBell;
 use crate::pager::Pager;
-use crate::rung::Rung;
+use crate::rung::RingCount;
 use lift_base::{Body, Number, Reply};
 use lift_desk::AskRefusal;
 use lift_kiosk::{DeskPort, Port, Rest, Rests};
@@ -33,7 +33,7 @@ impl<'r, R: Wait + Clock> Rest for Sleep<'r, R> {
 pub struct RestingPort<'d, 'r, R: Wait + Clock> {
     port: DeskPort<'d>,
     rests: Rests<Sleep<'r, R>>,
-    rung: Rung<'d>,
+    rung: RingCount<'d>,
     bell: &'r AskBell,
     pager: &'r Pager,
     ghost rung_for_each: { rung.asks ≡ asks_at port },
@@ -45,7 +45,7 @@ impl<'d, 'r, R: Wait + Clock> RestingPort<'d, 'r, R> {
         ensures port { result.port ≡ port.entry }
         ensures rests { result.rests ≡ 0 }
     {
-        let rung = Rung::of(&port);
+        let rung = RingCount::of(&port);
         RestingPort {
             port,
             rests: Rests::new(Sleep { rt, pager }),

@@ -11,7 +11,7 @@ use std::marker::Model;
 /// A group that is to be served. It can't be let go or taken apart: `serve` alone takes it. So whoever
 /// waits with it can serve at its socket no other group, with no other policy, and no other number of
 /// connections.
-pub struct Prepared<'b, D: Disk + Drop, P, K: Drop> {
+pub struct PreparedGroup<'b, D: Disk + Drop, P, K: Drop> {
     listening: Listening,
     sessions: u32,
     keeper: HeldKeeper<'b, D, K>,
@@ -19,7 +19,7 @@ pub struct Prepared<'b, D: Disk + Drop, P, K: Drop> {
     ghost settled: { keeper.state.batch ≡ [] },
 }
 
-impl<'b, D: Disk + Drop, P, K: Drop> Prepared<'b, D, P, K> {
+impl<'b, D: Disk + Drop, P, K: Drop> PreparedGroup<'b, D, P, K> {
     /// The keeper's building is to be served with this policy at this socket, until so many
     /// connections have ended.
     ///
@@ -32,7 +32,7 @@ impl<'b, D: Disk + Drop, P, K: Drop> Prepared<'b, D, P, K> {
         ensures keeper { result.keeper ≡ keeper.entry }
         ensures policy { result.policy ≡ policy }
     {
-        Prepared {
+        PreparedGroup {
             listening,
             sessions,
             keeper,
@@ -42,7 +42,7 @@ impl<'b, D: Disk + Drop, P, K: Drop> Prepared<'b, D, P, K> {
 
     /// Its serving begins. It stays a call too.
     #[inline(never)]
-    pub(crate) fn begun(self) -> Begun<'b, D, P, K>
+    pub(crate) fn begun(self) -> ServingStart<'b, D, P, K>
         ensures bound { result.bound ≡ record {
           listener = self.entry.listening;
           sessions = self.entry.sessions;
@@ -51,19 +51,19 @@ impl<'b, D: Disk + Drop, P, K: Drop> Prepared<'b, D, P, K> {
         ensures settled { result.keeper.state.batch ≡ [] }
         ensures policy { result.policy ≡ self.entry.policy }
     {
-        let Prepared {
+        let PreparedGroup {
             listening,
             sessions,
             keeper,
             policy,
         } = self;
-        Begun {
-            bound: Bound {
+        ServingStart {
+            bound: ServingTerms {
                 listening,
                 sessions,
                 reading: Reading::new(),
             },
-            untold: Untold { made: () },
+            untold: DueReport { made: () },
             keeper,
             policy,
         }
@@ -71,9 +71,9 @@ impl<'b, D: Disk + Drop, P, K: Drop> Prepared<'b, D, P, K> {
 }
 
 /// What a serving begins with.
-pub(crate) struct Begun<'b, D: Disk + Drop, P, K: Drop> {
-    pub(crate) bound: Bound,
-    pub(crate) untold: Untold,
+pub(crate) struct ServingStart<'b, D: Disk + Drop, P, K: Drop> {
+    pub(crate) bound: ServingTerms,
+    pub(crate) untold: DueReport,
     pub(crate) keeper: HeldKeeper<'b, D, K>,
     pub(crate) policy: P,
 }
@@ -82,13 +82,13 @@ pub(crate) struct Begun<'b, D: Disk + Drop, P, K: Drop> {
 /// are still read. Each serving has one, which nobody copies or makes another of. So whoever asks
 /// whether it is over, or counts an end, does so by that socket and that number.
 #[derive(Drop)]
-pub struct Bound {
+pub struct ServingTerms {
     listening: Listening,
     sessions: u32,
     reading: Reading,
 }
 
-impl Model for Bound {
+impl Model for ServingTerms {
     ghost use Rattle.lift_serve.specs.Open.{EndedState};
 
     ghost Value = { EndedState };
@@ -96,7 +96,7 @@ impl Model for Bound {
     ghost view = { λ b. record { listener = b.listening; sessions = b.sessions } };
 }
 
-impl Bound {
+impl ServingTerms {
     /// The socket.
     pub(crate) fn listening(&self) -> &Listening {
         &self.listening
@@ -115,9 +115,9 @@ impl Bound {
     }
 }
 
-/// That nothing is told yet of what was wanting to a serving. Each serving has one: who uses it up keeps
-/// what is wanting, or tells why nobody is served.
+/// That nothing is told yet of a serving's shortages. Each serving has one: who uses it up keeps
+/// the shortages, or tells why nobody is served.
 #[derive(Drop)]
-pub struct Untold {
+pub struct DueReport {
     made: (),
 }

@@ -12,8 +12,8 @@ ghost use Rattle.lift_parts.specs.Parts.{AreOfOne, AreParts};
 ghost use Rattle.lift_relay.specs.Heard.{FailureHeard};
 ghost use Rattle.lift_serve.specs.Relaying.{ComeOf, HaveRunOn, IsLastTurn};
 
-use crate::lacks::{Lacking, part};
 use crate::serving::ServeFault;
+use crate::shortages::{Shortage, part};
 use lift_disk::Disk;
 use lift_policy::Policy;
 use lift_relay::{
@@ -51,13 +51,13 @@ impl<'d, 'b, D: Disk + Drop, P: Policy + Drop, K: Drop, V: Witness + Drop> Parts
     V,
 > {
     /// Those of a clerk that has taken and answered nothing at its desk. It comes back as it was where
-    /// memory was wanting for them.
+    /// there was no memory for them.
     #[tactic(auto, using(crate::proofs::Relayings::of_one, crate::proofs::Relayings::come_first))]
     pub(crate) fn of(
         alloc: Global,
         clerk: HeldClerk<'d, 'b, D, P, K>,
         witness: V,
-    ) -> Result<Self, (HeldClerk<'d, 'b, D, P, K>, Lacking, V)>
+    ) -> Result<Self, (HeldClerk<'d, 'b, D, P, K>, Shortage, V)>
         requires unused { clerk.seat ≡ clerk_of clerk.desk }
         ensures clerk { IfOk result (λ parts. parts.clerk.value ≡ clerk.entry) }
         ensures parts { IfOk result (λ parts. AreParts clerk.entry parts.allocator parts.flusher) }
@@ -78,7 +78,7 @@ impl<'d, 'b, D: Disk + Drop, P: Policy + Drop, K: Drop, V: Witness + Drop> Parts
                 fault: None,
                 witness,
             }),
-            Err((clerk, lacking)) => Err((clerk, lacking, witness)),
+            Err((clerk, shortage)) => Err((clerk, shortage, witness)),
         }
     }
 }

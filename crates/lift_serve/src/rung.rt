@@ -1,9 +1,9 @@
 //! For how many of a terminal's asks the clerk's bell was rung, and how often.
 
 ghost use Rattle.std.specs.Prelude.{◌≡◌, ◌+◌};
-ghost use Rattle.lift_serve.specs.Rung.{asks_at};
+ghost use Rattle.lift_serve.specs.RingCount.{asks_at};
 
-use crate::pace::{AskBell, Rang};
+use crate::pace::{AskBell, Ring};
 use crate::pager::Pager;
 use lift_base::ProofCount;
 use lift_kiosk::DeskPort;
@@ -13,14 +13,14 @@ use std::snapshot::Snapshot;
 /// How many asks of a terminal's port the bell was rung for, with those that the port began with,
 /// and how often. Only proofs read it. To ring for an ask takes the port at which it is stored.
 #[derive(Drop)]
-pub(crate) struct Rung<'d> {
+pub(crate) struct RingCount<'d> {
     begun: Snapshot<DeskPort<'d>>,
-    last: Option<Rang<'d>>,
+    last: Option<Ring<'d>>,
     times: ProofCount,
 }
 
-impl<'d> Model for Rung<'d> {
-    ghost use Rattle.lift_serve.specs.Rung.{RungState, asks_at, rung_last};
+impl<'d> Model for RingCount<'d> {
+    ghost use Rattle.lift_serve.specs.RingCount.{RungState, asks_at, rung_last};
 
     ghost Value = { RungState };
 
@@ -31,7 +31,7 @@ impl<'d> Model for Rung<'d> {
     } };
 }
 
-impl<'d> Rung<'d> {
+impl<'d> RingCount<'d> {
     /// Those of the sessions before, at a port that is made anew.
     pub(crate) fn of(port: &DeskPort<'d>) -> Self
         ensures { result ≡ record {
@@ -40,7 +40,7 @@ impl<'d> Rung<'d> {
           times = 0;
         } }
     {
-        Rung {
+        RingCount {
             begun: Snapshot::of(port),
             last: None,
             times: ProofCount::new(),

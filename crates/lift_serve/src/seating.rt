@@ -6,11 +6,11 @@ ghost use Rattle.lift_register.specs.Register.{last_of as last_in};
 ghost use Rattle.lift_serve.specs.Lobby.{AreInOrder, found_seats, found_at};
 ghost use Rattle.lift_serve.specs.Visits.{AreAsFound, IsNewSeat, known_of, letter_in as letter_of};
 
-use crate::held::Held;
-use crate::lacks::{Lacking, push, room_for_pagers};
+use crate::held::HeldSeat;
 use crate::lobby::Lobby;
 use crate::pager::Pager;
 use crate::serving::ServeFault;
+use crate::shortages::{Shortage, push, room_for_pagers};
 use arrayvec::ArrayVec;
 use lift_base::{Content, Letter, MOST_TERMINALS, Number, Terminal};
 use lift_desk::{Desk, Seat};
@@ -49,10 +49,10 @@ fn last_of(register: &Register, terminal: Terminal) -> LastLetter
 
 /// A pager for each terminal that there can be.
 #[tactic(auto, using(crate::proofs::Pagers::none_in_order, crate::proofs::Pagers::one_pager_more))]
-pub(crate) fn new_pagers(alloc: Global) -> Result<Vec<Pager>, Lacking>
+pub(crate) fn new_pagers(alloc: Global) -> Result<Vec<Pager>, Shortage>
     ensures count { IfOk result (λ pagers. length pagers.items ≡ 63) }
     ensures in_order { IfOk result (λ pagers. AreInOrder pagers.items) }
-    ensures lack { IfErr result (λ lacking. lacking ≡ ServeFault.Memory) }
+    ensures lack { IfErr result (λ shortage. shortage ≡ ServeFault.Memory) }
 {
     let mut pagers = room_for_pagers(alloc)?;
     for index in 0..MOST_TERMINALS {
@@ -64,7 +64,7 @@ pub(crate) fn new_pagers(alloc: Global) -> Result<Vec<Pager>, Lacking>
 
 /// A new seat's place, with what a register knows of its terminal.
 #[tactic(auto, using(crate::proofs::Pagers::own_pager))]
-fn held_of<'d>(desk: &'d Desk, pagers: &'d [Pager], seat: Seat, register: &Register) -> Held<'d>
+fn held_of<'d>(desk: &'d Desk, pagers: &'d [Pager], seat: Seat, register: &Register) -> HeldSeat<'d>
     requires pagers { 63 ≤ length pagers.now }
     requires in_order { AreInOrder pagers.now }
     requires new { IsNewSeat seat }
@@ -74,11 +74,11 @@ fn held_of<'d>(desk: &'d Desk, pagers: &'d [Pager], seat: Seat, register: &Regis
     let terminal = seat.terminal();
     let pager = &pagers[usize::from(terminal.get())];
     let found = last_of(register, terminal);
-    Held::new(desk, pager, seat, found)
+    HeldSeat::new(desk, pager, seat, found)
 }
 
 /// The place of the next terminal.
-fn add<'d>(places: &mut ArrayVec<Option<Held<'d>>, MOST_TERMINALS>, held: Held<'d>)
+fn add<'d>(places: &mut ArrayVec<Option<HeldSeat<'d>>, MOST_TERMINALS>, held: HeldSeat<'d>)
     requires next { held.seat.terminal ≡ length places.old.items }
     ensures { places.new.items ≡ places.old.items ++ Some held.entry ∷ [] }
 {

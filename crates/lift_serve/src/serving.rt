@@ -16,15 +16,17 @@ ghost use Rattle.lift_relay.specs.declared.pair.RunFault.{RunFault as Fault};
 ghost use Rattle.lift_serve.specs.Open.{AreEndedAt, EndedState, IsEndAt};
 ghost use Rattle.lift_serve.specs.Relaying.{ComesTo, HaveRunOn, Relayed};
 
-use crate::connections::{Connection, Connections, Left, Over};
-use crate::lacks::{EndAt, GivenUp, ServingEnd, start_accepting, start_session, unserved};
+use crate::connections::{Connection, Connections, CountedEnd, Over};
 use crate::lobby::Lobby;
-use crate::opened::{Opened, open};
+use crate::opened::{OpenedDesk, open};
 use crate::pace::{Bells, Closing, Pace};
-use crate::prepared::{Begun, Prepared};
+use crate::prepared::{PreparedGroup, ServingStart};
 use crate::relaying::{Parts, run_parts, turn_rejoined, unrun};
 use crate::seating::lobby_of;
 use crate::shared::Shared;
+use crate::shortages::{
+    Abandonment, PromisedEnd, ServingEnd, start_accepting, start_session, unserved,
+};
 use crate::socket::Arrival;
 use lift_base::MOST_CARS;
 use lift_disk::Disk;
@@ -50,7 +52,7 @@ pub enum ServeFault {
 
 /// What came of the serving.
 #[derive(Drop)]
-pub struct Served<'b, D: Disk + Drop, K: Drop, V: Witness + Drop> {
+pub struct ServingOutcome<'b, D: Disk + Drop, K: Drop, V: Witness + Drop> {
     /// The keeper behind the last turn, or as it was where none was made. It is broken where a call
     /// of the device failed.
     pub keeper: HeldKeeper<'b, D, K>,
@@ -65,19 +67,19 @@ pub struct Served<'b, D: Disk + Drop, K: Drop, V: Witness + Drop> {
 const REST_MS: u64 = 10;
 
 /// A connection's thread, behind which the connection is counted as ended: it was attended to, or
-/// what was wanting for that is noted.
+/// the shortage at that is noted.
 fn attend_connection<R: Wait + Clock>(
     rt: &R,
     alloc: Global,
     shared: Shared<'_, '_>,
     connection: Connection,
-) -> Left
+) -> CountedEnd
     ensures { result ≡ connection }
 {
     let number = connection.number();
     match connection.attended(rt, alloc, shared) {
         Ok(attended) => shared.leave(rt, number, attended),
-        Err(lacking) => shared.leave_unattended(rt, number, lacking),
+        Err(shortage) => shared.leave_unattended(rt, number, shortage),
     }
 }
 
@@ -104,9 +106,9 @@ fn accept_all<'s, 'd: 's, E, R: Threads + Wait + Clock + Sync>(
             Err(over) => return over,
         };
         let work = move || attend_connection(rt, alloc, shared, connection);
-        if let Err((awaited, lacking)) = start_session(scope, awaited, work) {
+        if let Err((awaited, shortage)) = start_session(scope, awaited, work) {
             let number = awaited.number();
-            awaited.counted(shared.leave_unattended(rt, number, lacking));
+            awaited.counted(shared.leave_unattended(rt, number, shortage));
         }
     }
     unreachable!()
@@ -134,7 +136,7 @@ fn welcome<R: Threads + Wait + Clock + Sync>(rt: &R, alloc: Global, shared: Shar
 }
 
 /// How a serving is over whose accepting was over so: given up, where it was.
-fn over_behind(given_up: Option<GivenUp>, over: Over) -> Over
+fn over_behind(given_up: Option<Abandonment>, over: Over) -> Over
     ensures given_up { IsSome given_up → IsErr result }
     ensures ended { (bound : EndedState) → IsEndAt bound over → IsEndAt bound result }
 {
@@ -182,7 +184,7 @@ where
                 result.0.flusher.writer.is_broken parts.entry.witness result.0.witness }
             ensures over { IsEndAt shared.entry.bound.now result.1 }
         {
-            let promise = EndAt::new(shared.bound);
+            let promise = PromisedEnd::new(shared.bound);
             let work = move || -> Over
                 ensures { IsEndAt shared.entry.bound.now result }
             { welcome(rt, alloc, shared) };
@@ -191,7 +193,7 @@ where
                 Err(given_up) => return (unrun(parts), Err(given_up)),
             };
             let ran = run_parts(rt, gate, parts);
-            let given_up = GivenUp::by(ran.fault);
+            let given_up = Abandonment::by(ran.fault);
             if let Some(given_up) = given_up {
                 shared.give_up(rt, given_up);
             }
@@ -252,9 +254,9 @@ where
 pub fn serve<'b, R, D, P, K, V>(
     rt: &R,
     alloc: Global,
-    prepared: Prepared<'b, D, P, K>,
+    prepared: PreparedGroup<'b, D, P, K>,
     witness: V,
-) -> Served<'b, D, K, V>
+) -> ServingOutcome<'b, D, K, V>
 where
     R: Threads + Wait + Clock + Sync,
     D: Disk + Drop,
@@ -274,14 +276,14 @@ where
     ensures ended { IfSome result.end.ended (AreEndedAt prepared.entry.listening prepared.entry.sessions) }
     ensures counted { result.end.fault ≡ None → IsSome result.end.ended }
 {
-    let Begun {
+    let ServingStart {
         bound,
         untold,
         keeper,
         policy,
     } = prepared.begun();
     let terminals = MOST_CARS + usize::from(keeper.keeper().building().kiosks());
-    let Opened {
+    let OpenedDesk {
         desk,
         seats,
         clerk,
@@ -296,8 +298,8 @@ where
     let lobby = Mutex::new(lobby_of(&clerk, &pagers, seats));
     let parts = match Parts::of(alloc, clerk, witness) {
         Ok(parts) => parts,
-        Err((clerk, lacking, witness)) => {
-            return unserved(untold, lacking.hinders(), clerk.leave(), witness);
+        Err((clerk, shortage, witness)) => {
+            return unserved(untold, shortage.hinders(), clerk.leave(), witness);
         }
     };
     let connections = Mutex::new(Connections::new(alloc, closer, untold));
@@ -312,6 +314,6 @@ where
         connections: &connections,
     };
     let (clerk, over, witness) = run(rt, alloc, shared, parts);
-    let lacks = connections.into_inner().into_lacks();
-    lacks.behind(over, clerk.leave(), witness)
+    let shortages = connections.into_inner().into_shortages();
+    shortages.behind(over, clerk.leave(), witness)
 }

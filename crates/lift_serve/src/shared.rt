@@ -3,12 +3,12 @@
 ghost use Rattle.std.specs.Prelude.{◌≡◌, IfOk, IfErr, IfSome};
 ghost use Rattle.lift_serve.specs.Open.{IsEndAt};
 
-use crate::attending::Attended;
-use crate::connections::{Awaited, Connection, Connections, Left, Over};
-use crate::lacks::{GivenUp, Lacking};
+use crate::attending::Attendance;
+use crate::connections::{Connection, Connections, CountedEnd, DueEnd, Over};
 use crate::lobby::Lobby;
 use crate::pace::{Bells, Closing};
-use crate::prepared::Bound;
+use crate::prepared::ServingTerms;
+use crate::shortages::{Abandonment, Shortage};
 use crate::socket::Arrival;
 use lift_building::Building;
 use std::alloc::Global;
@@ -24,7 +24,7 @@ const FAREWELL_MS: u64 = 1_000;
 #[derive(Clone, Copy)]
 pub(crate) struct Shared<'a, 'd> {
     pub(crate) building: &'a Building,
-    pub(crate) bound: &'a Bound,
+    pub(crate) bound: &'a ServingTerms,
     pub(crate) lobby: &'a Mutex<Lobby<'d>>,
     pub(crate) bells: &'a Bells<'a>,
     pub(crate) closing: &'a Closing,
@@ -50,14 +50,14 @@ impl<'a, 'd> Shared<'a, 'd> {
         unreachable!()
     }
 
-    /// Nobody is let in where all connections have ended that were to end, or memory is wanting for
+    /// Nobody is let in where all connections have ended that were to end, or there is no memory for
     /// it: the connection has ended then.
     pub(crate) fn enter<R: Wait>(
         self,
         rt: &R,
         alloc: Global,
         arrival: Arrival,
-    ) -> Result<Option<(Connection, Awaited)>, Over>
+    ) -> Result<Option<(Connection, DueEnd)>, Over>
         ensures awaited { IfOk result (λ entered. IfSome entered (λ came. came.1 ≡ came.0)) }
         ensures over { IfErr result (IsEndAt self.entry.bound.now) }
     {
@@ -65,12 +65,12 @@ impl<'a, 'd> Shared<'a, 'd> {
     }
 
     /// No connection is served any more.
-    pub(crate) fn give_up<R: Wait>(self, rt: &R, given_up: GivenUp) {
+    pub(crate) fn give_up<R: Wait>(self, rt: &R, given_up: Abandonment) {
         self.connections.lock(rt).give_up(self.bound, given_up);
     }
 
     /// The connection of this number has ended, which was attended to.
-    pub(crate) fn leave<R: Wait>(self, rt: &R, number: u64, attended: Attended<'d>) -> Left
+    pub(crate) fn leave<R: Wait>(self, rt: &R, number: u64, attended: Attendance<'d>) -> CountedEnd
         ensures { result ≡ number }
     {
         self.connections
@@ -78,13 +78,18 @@ impl<'a, 'd> Shared<'a, 'd> {
             .leave(self.bound, number, attended)
     }
 
-    /// The connection of this number has ended, for which this was wanting.
-    pub(crate) fn leave_unattended<R: Wait>(self, rt: &R, number: u64, lacking: Lacking) -> Left
+    /// The connection of this number has ended, because of this shortage.
+    pub(crate) fn leave_unattended<R: Wait>(
+        self,
+        rt: &R,
+        number: u64,
+        shortage: Shortage,
+    ) -> CountedEnd
         ensures { result ≡ number }
     {
         self.connections
             .lock(rt)
-            .leave_unattended(self.bound, number, lacking)
+            .leave_unattended(self.bound, number, shortage)
     }
 
     fn is_empty<R: Wait>(self, rt: &R) -> bool {

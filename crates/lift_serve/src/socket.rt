@@ -4,12 +4,12 @@
 ghost use Rattle.std.specs.Prelude.{◌≡◌, IfErr};
 ghost use Rattle.std.specs.declared.net.tcp.TcpListener.{TcpListener as Listener};
 
-use crate::attending::Attended;
+use crate::attending::Attendance;
 use crate::connections::{Over, Ticket};
-use crate::lacks::{Lacking, read_ahead, share};
-use crate::prepared::Bound;
+use crate::prepared::ServingTerms;
 use crate::serving::ServeFault;
 use crate::shared::Shared;
+use crate::shortages::{Shortage, read_ahead, share};
 use crate::speaking::speak;
 use lift_system::watch;
 use std::alloc::Global;
@@ -65,7 +65,7 @@ impl ListeningCloser {
     }
 }
 
-/// That a connection was accepted. It can't be let go: it is let in, or memory was wanting for that,
+/// That a connection was accepted. It can't be let go: it is let in, or there was no memory for that,
 /// or no more are.
 pub(crate) struct Arrival {
     stream: TcpStream,
@@ -73,14 +73,14 @@ pub(crate) struct Arrival {
 
 impl Arrival {
     /// The next one at the socket of a serving that is bound so.
-    pub(crate) fn at(bound: &Bound) -> io::Result<Arrival> {
+    pub(crate) fn at(bound: &ServingTerms) -> io::Result<Arrival> {
         let (stream, _address) = bound.listening().listener.accept()?;
         Ok(Arrival { stream })
     }
 
     /// Its socket, and what shuts that down: it is let in with this ticket.
-    pub(crate) fn open(self, alloc: Global, _ticket: &Ticket) -> Result<(Socket, Closer), Lacking>
-        ensures lack { IfErr result (λ lacking. lacking ≡ ServeFault.Memory) }
+    pub(crate) fn open(self, alloc: Global, _ticket: &Ticket) -> Result<(Socket, Closer), Shortage>
+        ensures lack { IfErr result (λ shortage. shortage ≡ ServeFault.Memory) }
     {
         let Arrival { stream } = self;
         let (stream, theirs) = share(alloc, stream)?;
@@ -120,8 +120,8 @@ impl Socket {
         alloc: Global,
         shared: Shared<'_, 'd>,
         ticket: Ticket,
-    ) -> Result<Attended<'d>, Lacking>
-        ensures lack { IfErr result (λ lacking. lacking ≡ ServeFault.Memory) }
+    ) -> Result<Attendance<'d>, Shortage>
+        ensures lack { IfErr result (λ shortage. shortage ≡ ServeFault.Memory) }
     {
         let Socket { stream } = self;
         let _quick = stream.set_nodelay(true);
@@ -139,8 +139,8 @@ fn speak_over<'d, R: Wait + Clock>(
     shared: Shared<'_, 'd>,
     ticket: Ticket,
     stream: &TcpStream,
-) -> Result<Attended<'d>, Lacking>
-    ensures lack { IfErr result (λ lacking. lacking ≡ ServeFault.Memory) }
+) -> Result<Attendance<'d>, Shortage>
+    ensures lack { IfErr result (λ shortage. shortage ≡ ServeFault.Memory) }
 {
     let reader = read_ahead(alloc, stream)?;
     Ok(speak(rt, shared, ticket, reader, stream).0)

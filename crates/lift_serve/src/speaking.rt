@@ -5,7 +5,7 @@ ghost use Rattle.lift_base.specs.Output.{sink_of};
 ghost use Rattle.lift_kiosk.specs.Lines.{source_of};
 ghost use Rattle.lift_serve.specs.Connections.{Attends, new_sink, new_source};
 
-use crate::attending::{Attended, attend};
+use crate::attending::{Attendance, attend};
 use crate::connections::Ticket;
 use crate::reading::OpenReader;
 use crate::shared::Shared;
@@ -24,7 +24,7 @@ pub(crate) fn speak<'d, 's, R: Wait + Clock, I: Read + Drop, O: Write + Drop>(
     reader: I,
     writer: O,
 ) -> (
-    Attended<'d>,
+    Attendance<'d>,
     Counted<OpenReader<'s, I>>,
     Watched<WakingWriter<'s, O>>,
 )

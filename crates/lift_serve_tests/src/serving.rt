@@ -5,7 +5,7 @@ ghost use Rattle.std.specs.Thread.{IsSync};
 use lift_disk::Disk;
 use lift_keeper::Keeper;
 use lift_policy::Policy;
-use lift_serve::{HeardBy, HeldKeeper, Listening, NoWitness, Prepared, serve};
+use lift_serve::{HeardBy, HeldKeeper, Listening, NoWitness, PreparedGroup, serve};
 use std::alloc::Global;
 use std::process::Abort;
 use std::sync::Wait;
@@ -73,7 +73,7 @@ where
                 return None;
             }
             let held = HeldKeeper::new(keeper);
-            let prepared = Prepared::new(listening, sessions, held, policy);
+            let prepared = PreparedGroup::new(listening, sessions, held, policy);
             let served = serve(rt, alloc, prepared, NoWitness);
             ended.store(1, Ordering::SeqCst);
             if served.end.fault().is_some() {

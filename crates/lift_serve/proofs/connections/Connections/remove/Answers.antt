@@ -14,5 +14,5 @@ returns-clause-left c =
     let same : map (λ (o : Open). o.number) c.retain.new.self.items ≡ filter (λ (n : ℕ). not (n == c.args.number)) (map (λ (o : Open). o.number) inside.open.items) =
     ap (map (λ (o : Open). o.number)) kept ∙ kept_numbers c.args.number inside.open.items in
     c.ended.ensures
-    ∙ (ap (λ (numbers : List ℕ). record { numbers = numbers; next = inside.next; ended = one_more c.args.bound.now.sessions inside.ended; given_up = inside.given_up; lacked = inside.lacks }) same
-    ∙ ap (λ (s : OpenState). record { numbers = filter (λ (n : ℕ). not (n == c.args.number)) s.numbers; next = s.next; ended = one_more c.args.bound.now.sessions s.ended; given_up = s.given_up; lacked = s.lacked }) c.self.view_is)
+    ∙ (ap (λ (numbers : List ℕ). record { numbers = numbers; next = inside.next; ended = one_more c.args.bound.now.sessions inside.ended; given_up = inside.given_up; shortage = inside.shortages }) same
+    ∙ ap (λ (s : OpenState). record { numbers = filter (λ (n : ℕ). not (n == c.args.number)) s.numbers; next = s.next; ended = one_more c.args.bound.now.sessions s.ended; given_up = s.given_up; shortage = s.shortage }) c.self.view_is)

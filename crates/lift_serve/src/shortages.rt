@@ -1,4 +1,4 @@
-//! What is wanting in a serving: it is known only from the call that was refused it.
+//! What a serving runs short of: it is known only from the call that was refused it.
 
 ghost use Rattle.std.specs.Prelude.{◌≡◌, ◌≢◌, ◌≤◌, ◌++◌, ◌∷◌, [], None, Some, OnOk, OnErr};
 ghost use Rattle.std.specs.Prelude.{IfOk, IfErr, IsSome, List, Result, length, ◌↔◌};
@@ -16,11 +16,11 @@ ghost use Rattle.lift_serve.specs.declared.serving.ServeFault.{ServeFault};
 ghost use Rattle.lift_serve.specs.Open.{EndedState, IsEndAt, ServingEndState, ended_in};
 ghost use Rattle.lift_serve.specs.Open.{first_told, told_behind};
 
-use crate::connections::{Awaited, Ended, Left, Over};
+use crate::connections::{CountedEnd, DueEnd, LastEnd, Over};
 use crate::pager::Pager;
-use crate::prepared::{Bound, Untold};
+use crate::prepared::{DueReport, ServingTerms};
 use crate::relaying::Parts;
-use crate::serving::{ServeFault, Served};
+use crate::serving::{ServeFault, ServingOutcome};
 use crate::socket::{Listening, ListeningCloser};
 use lift_base::{MOST_TERMINALS, two_owners};
 use lift_desk::{Desk, DeskParts};
@@ -63,15 +63,15 @@ impl Refusal {
     }
 }
 
-/// That a thread or memory is wanting. Only the calls below that were refused it make one, of which
+/// That a thread or memory was refused. Only the calls below that were refused it make one, of which
 /// none asks for more than the serving has a use for. It can't be let go: it is noted, or nobody is
 /// served for it.
-pub struct Lacking {
+pub struct Shortage {
     refusal: Refusal,
     ghost begun: { refusal ≢ ServeFault.Network },
 }
 
-impl Model for Lacking {
+impl Model for Shortage {
     ghost use Rattle.lift_serve.specs.declared.serving.ServeFault.{ServeFault};
 
     ghost Value = { ServeFault };
@@ -79,17 +79,17 @@ impl Model for Lacking {
     ghost view = { λ l. l.refusal };
 }
 
-impl Lacking {
+impl Shortage {
     /// Nobody can be served for it.
     pub(crate) fn hinders(self) -> Hindrance
         ensures { result ≡ self }
     {
-        let Lacking { refusal } = self;
+        let Shortage { refusal } = self;
         Hindrance { refusal }
     }
 }
 
-/// Why nobody can be served: memory is wanting, or the socket failed. Only the calls below that were
+/// Why nobody can be served: out of memory, or the socket failed. Only the calls below that were
 /// refused it make one. It can't be let go: it is told, and nobody is served.
 pub struct Hindrance {
     refusal: Refusal,
@@ -104,10 +104,10 @@ impl Model for Hindrance {
 }
 
 /// A growth was refused.
-fn no_memory() -> Lacking
+fn no_memory() -> Shortage
     ensures { result ≡ ServeFault.Memory }
 {
-    Lacking {
+    Shortage {
         refusal: Refusal {
             fault: ServeFault::Memory,
         },
@@ -115,10 +115,10 @@ fn no_memory() -> Lacking
 }
 
 /// A thread was refused.
-fn no_thread() -> Lacking
+fn no_thread() -> Shortage
     ensures { result ≡ ServeFault.Thread }
 {
-    Lacking {
+    Shortage {
         refusal: Refusal {
             fault: ServeFault::Thread,
         },
@@ -128,11 +128,11 @@ fn no_thread() -> Lacking
 /// That the serving itself was refused a thread, for the accepting or for the allocator: so all
 /// connections are given up. Only the calls below that were refused that thread make one.
 #[derive(Clone, Copy)]
-pub struct GivenUp {
+pub struct Abandonment {
     made: (),
 }
 
-impl Model for GivenUp {
+impl Model for Abandonment {
     ghost Value = { Unit {0} };
 
     ghost view = { λ _. tt };
@@ -140,13 +140,13 @@ impl Model for GivenUp {
     ghost inverse = { λ _. record { made = tt } };
 }
 
-impl GivenUp {
+impl Abandonment {
     /// What a run of both parts is given up for: that the allocator had no thread.
     pub(crate) fn by(fault: Option<RunFault>) -> Option<Self>
         ensures { IsSome result ↔ (fault ≡ Some (RunFault.Spawn tt)) }
     {
         match fault {
-            Some(RunFault::Spawn(_)) => Some(GivenUp { made: () }),
+            Some(RunFault::Spawn(_)) => Some(Abandonment { made: () }),
             Some(RunFault::Keeper(_)) => None,
             None => None,
         }
@@ -154,12 +154,12 @@ impl GivenUp {
 }
 
 /// How a serving ended: what it was refused, if anything was, and that so many connections have ended,
-/// unless they haven't. Only `Lacks` make one, of which each serving has one, which end by it; or
+/// unless they haven't. Only `Shortages` make one, of which each serving has one, which end by it; or
 /// `unserved`, where there are none: so nobody hides what was refused it, or tells more.
 #[derive(Drop)]
 pub struct ServingEnd {
     fault: Option<Refusal>,
-    ended: Option<Ended>,
+    ended: Option<LastEnd>,
 }
 
 impl Model for ServingEnd {
@@ -180,14 +180,14 @@ impl ServingEnd {
     }
 }
 
-/// The first of what was wanting to a serving, if anything was. Each serving has one. Only `note` adds
+/// The first shortage of a serving, if it had one. Each serving has one. Only `note` adds
 /// to it. It can't be let go: what comes of the serving ends it, which takes the keeper and tells it.
-pub struct Lacks {
+pub struct Shortages {
     first: Option<Refusal>,
     ghost begun: { first ≢ Some ServeFault.Network },
 }
 
-impl Model for Lacks {
+impl Model for Shortages {
     ghost use Rattle.std.specs.Prelude.{Option};
     ghost use Rattle.lift_serve.specs.declared.serving.ServeFault.{ServeFault};
 
@@ -196,49 +196,49 @@ impl Model for Lacks {
     ghost view = { λ l. l.first };
 }
 
-impl Lacks {
-    /// Nothing was wanting.
-    pub(crate) fn new(untold: Untold) -> Self
+impl Shortages {
+    /// There is none yet.
+    pub(crate) fn new(untold: DueReport) -> Self
         ensures { result ≡ None }
     {
         let _used = untold;
-        Lacks { first: None }
+        Shortages { first: None }
     }
 
     /// Keeps the first in mind.
-    pub(crate) fn note(&mut self, lacking: Lacking)
-        ensures { self.new ≡ first_told self.old (Some lacking) }
+    pub(crate) fn note(&mut self, shortage: Shortage)
+        ensures { self.new ≡ first_told self.old (Some shortage) }
     {
-        let Lacking { refusal } = lacking;
+        let Shortage { refusal } = shortage;
         if self.first.is_none() {
             self.first = Some(refusal);
         }
     }
 
     /// What came of a serving with this keeper, whose accepting was over so. Told is that all were
-    /// given up, and else the first that was wanting. Where nothing was, all have ended that were to
+    /// given up, and else the first shortage. Where there was none, all have ended that were to
     /// end.
     pub(crate) fn behind<'b, D: Disk + Drop, K: Drop, V: Witness + Drop>(
         self,
         over: Over,
         keeper: HeldKeeper<'b, D, K>,
         witness: V,
-    ) -> Served<'b, D, K, V>
+    ) -> ServingOutcome<'b, D, K, V>
         ensures keeper { result.keeper ≡ keeper.entry }
         ensures witness { result.witness ≡ witness }
         ensures fault { result.end.fault ≡ told_behind over self }
         ensures begun { result.end.fault ≢ Some ServeFault.Network }
         ensures ended { result.end.ended ≡ ended_in over }
     {
-        let Lacks { first } = self;
+        let Shortages { first } = self;
         let (ended, fault) = match over {
             Ok(ended) => (Some(ended), first),
             Err(_) => {
-                let Lacking { refusal } = no_thread();
+                let Shortage { refusal } = no_thread();
                 (None, Some(refusal))
             }
         };
-        Served {
+        ServingOutcome {
             keeper,
             end: ServingEnd { fault, ended },
             witness,
@@ -247,14 +247,14 @@ impl Lacks {
 }
 
 /// Nobody was served, for this: the keeper and the witness as they are. Only a serving that has no
-/// `Connections` yet, and so let nobody in, has its `Untold` still.
+/// `Connections` yet, and so let nobody in, has its `DueReport` still.
 #[tactic(auto, using(lift_relay::specs::lemmas::Heard::heard_none))]
 pub(crate) fn unserved<'b, D: Disk + Drop, K: Drop, V: Witness + Drop>(
-    untold: Untold,
+    untold: DueReport,
     hindrance: Hindrance,
     keeper: HeldKeeper<'b, D, K>,
     witness: V,
-) -> Served<'b, D, K, V>
+) -> ServingOutcome<'b, D, K, V>
     ensures keeper { result.keeper ≡ keeper.entry }
     ensures heard { FailureHeard V.hears keeper.entry.writer.is_broken
         result.keeper.writer.is_broken witness result.witness }
@@ -263,7 +263,7 @@ pub(crate) fn unserved<'b, D: Disk + Drop, K: Drop, V: Witness + Drop>(
 {
     let _used = untold;
     let Hindrance { refusal } = hindrance;
-    Served {
+    ServingOutcome {
         keeper,
         end: ServingEnd {
             fault: Some(refusal),
@@ -277,8 +277,8 @@ pub(crate) fn unserved<'b, D: Disk + Drop, K: Drop, V: Witness + Drop>(
 pub(crate) fn share(
     alloc: Global,
     stream: TcpStream,
-) -> Result<(Arc<TcpStream>, Arc<TcpStream>), Lacking>
-    ensures lack { IfErr result (λ lacking. lacking ≡ ServeFault.Memory) }
+) -> Result<(Arc<TcpStream>, Arc<TcpStream>), Shortage>
+    ensures lack { IfErr result (λ shortage. shortage ≡ ServeFault.Memory) }
 {
     match two_owners(alloc, stream) {
         Ok(both) => Ok(both),
@@ -287,8 +287,8 @@ pub(crate) fn share(
 }
 
 /// A reader that reads 512 bytes at once.
-pub(crate) fn read_ahead<I: Read + Drop>(alloc: Global, reader: I) -> Result<BufReader<I>, Lacking>
-    ensures lack { IfErr result (λ lacking. lacking ≡ ServeFault.Memory) }
+pub(crate) fn read_ahead<I: Read + Drop>(alloc: Global, reader: I) -> Result<BufReader<I>, Shortage>
+    ensures lack { IfErr result (λ shortage. shortage ≡ ServeFault.Memory) }
 {
     match BufReader::with_capacity(alloc, AHEAD, reader) {
         Ok(ahead) => Ok(ahead),
@@ -297,9 +297,9 @@ pub(crate) fn read_ahead<I: Read + Drop>(alloc: Global, reader: I) -> Result<Buf
 }
 
 /// A vector with room for a pager for each terminal that there can be.
-pub(crate) fn room_for_pagers(alloc: Global) -> Result<Vec<Pager>, Lacking>
+pub(crate) fn room_for_pagers(alloc: Global) -> Result<Vec<Pager>, Shortage>
     ensures none { IfOk result (λ pagers. pagers.items ≡ []) }
-    ensures lack { IfErr result (λ lacking. lacking ≡ ServeFault.Memory) }
+    ensures lack { IfErr result (λ shortage. shortage ≡ ServeFault.Memory) }
 {
     match Vec::with_capacity(alloc, MOST_TERMINALS) {
         Ok(pagers) => Ok(pagers),
@@ -308,10 +308,10 @@ pub(crate) fn room_for_pagers(alloc: Global) -> Result<Vec<Pager>, Lacking>
 }
 
 /// One value more.
-pub(crate) fn push<T: Drop>(values: &mut Vec<T>, value: T) -> Result<(), Lacking>
+pub(crate) fn push<T: Drop>(values: &mut Vec<T>, value: T) -> Result<(), Shortage>
     ensures pushed { OnOk result (values.new.items ≡ values.old.items ++ value ∷ []) }
     ensures unchanged { OnErr result (values.new.items ≡ values.old.items) }
-    ensures lack { IfErr result (λ lacking. lacking ≡ ServeFault.Memory) }
+    ensures lack { IfErr result (λ shortage. shortage ≡ ServeFault.Memory) }
 {
     match values.push(value) {
         Ok(()) => Ok(()),
@@ -322,21 +322,21 @@ pub(crate) fn push<T: Drop>(values: &mut Vec<T>, value: T) -> Result<(), Lacking
 /// What a thread for the accepting promises: that it returns once all connections have ended that are
 /// to end in a serving that is bound so, or all were given up.
 #[derive(Drop)]
-pub(crate) struct EndAt {
-    bound: Snapshot<Bound>,
+pub(crate) struct PromisedEnd {
+    bound: Snapshot<ServingTerms>,
 }
 
-impl EndAt {
-    pub(crate) fn new(bound: &Bound) -> Self
+impl PromisedEnd {
+    pub(crate) fn new(bound: &ServingTerms) -> Self
         ensures { result.bound.value ≡ bound.now }
     {
-        EndAt {
+        PromisedEnd {
             bound: Snapshot::of(bound),
         }
     }
 }
 
-impl Promise<Over> for EndAt {
+impl Promise<Over> for PromisedEnd {
     ghost use Rattle.lift_serve.specs.Open.{IsEndAt};
 
     ghost kept_by = { λ p over. IsEndAt p.bound.value over };
@@ -347,9 +347,9 @@ impl Promise<Over> for EndAt {
 pub(crate) fn start_accepting<'s, E, F, D, P, K, V>(
     scope: &Scope<'s, E>,
     _parts: &Parts<'_, '_, D, P, K, V>,
-    promise: EndAt,
+    promise: PromisedEnd,
     work: F,
-) -> Result<PromisedHandle<Over, EndAt>, GivenUp>
+) -> Result<PromisedHandle<Over, PromisedEnd>, Abandonment>
 where
     F: FnOnce() -> Over + Send + Drop + 's,
     D: Disk + Drop,
@@ -363,16 +363,16 @@ where
 {
     match scope.spawn_with(promise, work) {
         Ok(child) => Ok(child),
-        Err(_) => Err(GivenUp { made: () }),
+        Err(_) => Err(Abandonment { made: () }),
     }
 }
 
 /// A thread of a scope for a connection that was let in, which returns once its end is counted.
-pub(crate) fn start_session<'s, E, F: FnOnce() -> Left + Send + Drop + 's>(
+pub(crate) fn start_session<'s, E, F: FnOnce() -> CountedEnd + Send + Drop + 's>(
     scope: &Scope<'s, E>,
-    awaited: Awaited,
+    awaited: DueEnd,
     work: F,
-) -> Result<(), (Awaited, Lacking)>
+) -> Result<(), (DueEnd, Shortage)>
     requires { F.pre work }
     ensures back { IfErr result (λ refused. refused.0 ≡ awaited) }
     ensures lack { IfErr result (λ refused. refused.1 ≡ ServeFault.Thread) }
@@ -399,7 +399,7 @@ pub(crate) fn closer_of(listening: &Listening) -> Result<ListeningCloser, Hindra
 }
 
 /// A desk of so many terminals, with all its seats.
-pub(crate) fn open_desk(alloc: Global, terminals: usize) -> Result<DeskParts, Lacking>
+pub(crate) fn open_desk(alloc: Global, terminals: usize) -> Result<DeskParts, Shortage>
     requires { (1 ≤ terminals) × (terminals ≤ 63) }
     ensures count { IfOk result (λ parts. length parts.desk ≡ terminals) }
     ensures seats { IfOk result (λ parts. parts.seats.items ≡ seats_from 0 parts.desk) }
@@ -407,7 +407,7 @@ pub(crate) fn open_desk(alloc: Global, terminals: usize) -> Result<DeskParts, La
     ensures clerk { IfOk result (λ parts. parts.clerk ≡ clerk_of parts.desk) }
     ensures clerk_at { IfOk result (λ parts. IsClerkOf parts.desk parts.clerk) }
     ensures owes { IfOk result (λ parts. OwesNothing parts.clerk) }
-    ensures lack { IfErr result (λ lacking. lacking ≡ ServeFault.Memory) }
+    ensures lack { IfErr result (λ shortage. shortage ≡ ServeFault.Memory) }
 {
     match Desk::open(alloc, terminals) {
         Ok(parts) => Ok(parts),
@@ -415,11 +415,11 @@ pub(crate) fn open_desk(alloc: Global, terminals: usize) -> Result<DeskParts, La
     }
 }
 
-/// Both parts of a clerk, which comes back where memory was wanting for them.
+/// Both parts of a clerk, which comes back where there was no memory for them.
 pub(crate) fn part<'d, 'b, D: Disk, P: Policy + Drop, K: Drop>(
     alloc: Global,
     clerk: HeldClerk<'d, 'b, D, P, K>,
-) -> Result<(Allocator<'d, 'b, P>, Flusher<'d, 'b, D, K>), (HeldClerk<'d, 'b, D, P, K>, Lacking)>
+) -> Result<(Allocator<'d, 'b, P>, Flusher<'d, 'b, D, K>), (HeldClerk<'d, 'b, D, P, K>, Shortage)>
     ensures parts { IfOk result (λ parts. AreParts clerk.entry parts.0 parts.1) }
     ensures flusher { IfOk result (λ parts. IsFlusher parts.1) }
     // What has happened to the clerk's group goes on behind the flusher.
