@@ -22,7 +22,7 @@ use Rattle.lift_parts.specs.declared.taken.Taken.{Taken}
 use Rattle.lift_parts.specs.Batch.{AreBelow, commands_in, turns_of, turns_with, turns_after, IsNoted, AreNoted}
 use Rattle.lift_parts.specs.Flusher.{AnswersOne, Answered, IsSettled}
 use Rattle.lift_parts.specs.lemmas.Used.{is_below}
-use Rattle.lift_relay.specs.Settler.{IsDue}
+use Rattle.lift_relay.specs.Settler.{IsToBeAnswered}
 
 finds : (places next : List ClerkPlace) (n word : ℕ) (found : Option Ask) → Looked places next n word found → FindsAt (get_or places n no_place) (record { word = word; found = found })
 finds places next n word found look = finds-at (get_or places n no_place) word found look.takes look.even look.number look.in_range look.known look.told
@@ -153,7 +153,7 @@ below_one count (t ∷ commands) (suc n) d inside below = below_one count comman
 
 -- what is not later than these turns isn't as late as the command behind them
 pub due_at : (desk : List TableId) (places : List ClerkPlace) (turns : List ℕ) (commands : List Taken) (n : ℕ) (d : Taken) → n < length commands → AreBelow (length desk) (commands_in commands)
-    → AreNoted desk turns commands → IsSettled places (turns_after turns (take n commands)) → IsDue desk places (get_or commands n d)
+    → AreNoted desk turns commands → IsSettled places (turns_after turns (take n commands)) → IsToBeAnswered desk places (get_or commands n d)
 due_at desk places turns commands n d inside below all settled =
     let noted = noted_at desk turns commands n d inside all in
     let later = noted.later in

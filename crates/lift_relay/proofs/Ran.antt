@@ -14,7 +14,7 @@ use Rattle.lift_parts.specs.Allocator.{AllocatorState}
 use Rattle.lift_parts.specs.Flusher.{FlusherState}
 use Rattle.lift_parts.specs.Turns.{AllocatorTurns, FlusherTurns, NoFlush}
 use Rattle.lift_parts.specs.Parts.{AreOfOne}
-use Rattle.lift_relay.specs.Pair.{HaveRun, IsRun, PartsStay}
+use Rattle.lift_relay.specs.Pair.{HaveRun, IsRun, AreSameParts}
 use Rattle.lift_clerk.specs.History.{History}
 use Rattle.lift_parts.specs.History.{GoesOnTo, TurnsGoOn, group_behind}
 use Rattle.lift_parts.specs.lemmas.Paired.{turns_joined, flushes_joined, same_allocator, same_flusher, still_of_one, faults_broken}
@@ -53,14 +53,14 @@ module _ {D P : Type 0} (choice : Choice) (state : D → DiskState) (a b : Alloc
   broken_of (inl refused) of is = absurd (subst is_spawn (sym refused.0 ∙ is) tt)
   broken_of (inr run) of is = faults_broken state f g None run.first run.flusher (λ e none. absurd (cc)) of (keeper_of run.first of (sym run.is_first ∙ is))
 
-  pub stay_of : IsRun choice state a b f g fault → AreOfOne a f → PartsStay a b f g
+  pub stay_of : IsRun choice state a b f g fault → AreOfOne a f → AreSameParts a b f g
   stay_of (inl refused) one =
-      let still : PartsStay a a f f = record {
+      let still : AreSameParts a a f f = record {
         same_allocator = record { line = refl; desk = refl; plan = refl; policy = refl; start = refl };
         same_flusher = record { line = refl; desk = refl; plan = refl; half = refl; opened = refl };
         of_one = one;
       } in
-      subst (λ (p : AllocatorState P × FlusherState D). PartsStay a p.0 f p.1) (λ i. (sym refused.1.0 i, sym refused.1.1 i)) still
+      subst (λ (p : AllocatorState P × FlusherState D). AreSameParts a p.0 f p.1) (λ i. (sym refused.1.0 i, sym refused.1.1 i)) still
   stay_of (inr run) one =
       let allocator = same_allocator choice a b run.allocator in
       let flusher = same_flusher state f g None run.first run.flusher in

@@ -50,7 +50,7 @@ pub record HaveRun {D P : Type 0} (choice : Choice) (state : D
 
 -- The parts stay what they were: each is where it was and works for what it did, and both are of one.
 -- So they can be joined, or run again.
-pub record PartsStay {D P : Type 0} (a b : AllocatorState P) (f g : FlusherState D) : Type 0 where
+pub record AreSameParts {D P : Type 0} (a b : AllocatorState P) (f g : FlusherState D) : Type 0 where
   pub same_allocator : IsSameAllocator a b
   pub same_flusher : IsSameFlusher f g
   pub of_one : AreOfOne b g

@@ -20,7 +20,7 @@ pub record SettlerState (D : Type 0) : Type 0 where
 
 -- The command is of a terminal of the desk, and its note says it: an ask there, behind all that these
 -- seats took.
-pub record IsDue (desk : List TableId) (seat : List ClerkPlace) (taken : Taken) : Type 0 where
+pub record IsToBeAnswered (desk : List TableId) (seat : List ClerkPlace) (taken : Taken) : Type 0 where
   pub terminal : taken.command.terminal < length desk
   pub noted : IsNoteOf desk taken.command.terminal taken.note
   pub says : Says (view_at seat taken.command.terminal) taken.note.word (ask_of taken.command)

@@ -11,7 +11,7 @@ ghost use Rattle.lift_parts.specs.Parts.{AreOfOne};
 ghost use Rattle.lift_parts.specs.Turns.{AllocatorTurns, FlusherTurns, IsFlush, IsSending};
 ghost use Rattle.lift_parts.specs.Turns.{first_of};
 ghost use Rattle.lift_relay.specs.Pair.{ComesFrom};
-ghost use Rattle.lift_relay.specs.Pair.{HaveTurned, IfDone, IfRan, IsRun, HaveRun, PartsStay};
+ghost use Rattle.lift_relay.specs.Pair.{HaveTurned, IfDone, IfRan, IsRun, HaveRun, AreSameParts};
 ghost use Rattle.lift_relay.specs.Heard.{FailureHeard};
 ghost use Rattle.lift_clerk.specs.History.{History};
 ghost use Rattle.lift_parts.specs.History.{GoesOnTo, group_behind};
@@ -358,7 +358,7 @@ where
     ensures broken { (fault : KeeperFault) → result.1 ≡ Some (RunFault.Keeper fault)
         → flusher.new.writer.is_broken ≡ true }
     // They can be joined, or run again.
-    ensures stay { PartsStay allocator.old allocator.new flusher.old flusher.new }
+    ensures stay { AreSameParts allocator.old allocator.new flusher.old flusher.new }
     // What was received, and then what the line holds, is what was sent; after a run it holds
     // nothing.
     ensures queued { Queued allocator.new.end flusher.new.end }

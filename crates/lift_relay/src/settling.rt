@@ -10,7 +10,7 @@ ghost use Rattle.lift_clerk.specs.Visits.{Visit};
 ghost use Rattle.lift_parts.specs.Batch.{turns_behind, turns_with};
 ghost use Rattle.lift_parts.specs.Flusher.{AnswersOne, Answered, IsSettled};
 ghost use Rattle.lift_relay.specs.Heard.{FailureHeard};
-ghost use Rattle.lift_relay.specs.Settler.{IsDue, SettlesBatch};
+ghost use Rattle.lift_relay.specs.Settler.{IsToBeAnswered, SettlesBatch};
 
 use crate::batch::Batch;
 use crate::held::HeldClerk;
@@ -57,7 +57,7 @@ impl<'d, 'b, D: Disk, K> Model for Settler<'d, 'b, D, K> {
 /// with its reply where it is safe, else Unknown.
 fn answer(desk: &Desk, seat: &mut ClerkSeat, taken: Taken, is_safe: bool)
     requires seated { IsClerkOf desk.now seat.old }
-    requires due { IsDue desk.now seat.old taken }
+    requires due { IsToBeAnswered desk.now seat.old taken }
     ensures answers { (visit : Visit) × AnswersOne is_safe seat.old taken visit seat.new }
     ensures settled { (turns : List ℕ) → IsSettled seat.old turns
         → taken.command.terminal < length turns → IsSettled seat.new (turns_with turns taken) }

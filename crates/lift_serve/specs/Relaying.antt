@@ -19,7 +19,7 @@ use Rattle.lift_relay.specs.declared.pair.RunFault.{RunFault}
 use Rattle.lift_relay.specs.declared.pair.RunFault.TheVariants.{Keeper, Spawn}
 use Rattle.lift_parts.specs.Allocator.{AllocatorState}
 use Rattle.lift_parts.specs.Flusher.{FlusherState, IsFlusher}
-use Rattle.lift_relay.specs.Pair.{HaveRun, PartsStay}
+use Rattle.lift_relay.specs.Pair.{HaveRun, AreSameParts}
 use Rattle.lift_parts.specs.Turns.{AllocatorTurns, FlusherTurns}
 use Rattle.lift_parts.specs.Keeping.{HaveKept}
 use Rattle.lift_parts.specs.Parts.{AreParts, IsRejoined}
@@ -48,7 +48,7 @@ pub record HaveRunOn {D P : Type 0} (choice : Choice) (state : D
   pub ran : fault ≢ Some (Spawn tt) → HaveRun choice state a b f g fault
   pub received : fault ≢ Some (Spawn tt) → b.end.sent ≡ g.end.received
   pub broken : (of : KeeperFault) → fault ≡ Some (Keeper of) → g.writer.is_broken ≡ true
-  pub stay : PartsStay a b f g
+  pub stay : AreSameParts a b f g
 
 -- The clerk of both parts, behind one turn more, by which its group's history goes on and all that
 -- was answered is kept.

@@ -1,7 +1,7 @@
 use Rattle.std.proofs.Common.{sym, ap, ◌∙◌, subst}
 use Rattle.lift_parts.specs.Allocator.{AllocatorState}
 use Rattle.lift_parts.specs.Flusher.{FlusherState}
-use Rattle.lift_relay.specs.Pair.{HaveRun, PartsStay}
+use Rattle.lift_relay.specs.Pair.{HaveRun, AreSameParts}
 use Rattle.lift_relay.proofs.Queues.{all_received}
 use Rattle.lift_parts.specs.History.{GoesOnTo}
 use Rattle.lift_relay.proofs.Ran.{refused_of, ran_of, broken_of, stay_of, goes_on}
@@ -34,7 +34,7 @@ returns-clause-broken g c = λ of is.
 
 pub returns-clause-stay : goal.returns-clause-stay
 returns-clause-stay g c =
-    subst (λ (p : AllocatorState g.row.P.Denot × FlusherState g.row.D.Denot). PartsStay c.args.allocator.now p.0 c.args.flusher.now p.1)
+    subst (λ (p : AllocatorState g.row.P.Denot × FlusherState g.row.D.Denot). AreSameParts c.args.allocator.now p.0 c.args.flusher.now p.1)
     (λ i. (sym c.compare.ensures.allocator i, sym c.compare.ensures.flusher i))
     (stay_of (g.P.Policy.chooses c.args.allocator.now.policy) g.D.Disk.state c.args.allocator.now c.with_both-told.new.a c.args.flusher.now c.with_both-told.new.b c.with_both-told.result.1 c.with_both-told.ensures.0 c.requires.of_one)
 

@@ -5,7 +5,7 @@ use Rattle.lift_desk.specs.lemmas.Places.{refill_set}
 use Rattle.lift_parts.specs.declared.taken.Taken.{Taken}
 use Rattle.lift_parts.specs.Batch.{turns_after, IsNoted}
 use Rattle.lift_parts.specs.Flusher.{IsSettled}
-use Rattle.lift_relay.specs.Settler.{IsDue}
+use Rattle.lift_relay.specs.Settler.{IsToBeAnswered}
 use Rattle.lift_relay.proofs.Flushed.{answered_more, due_at, noted_at, after_more}
 use Rattle.lift_relay.proofs.settling.answer_all.Goals as goal
 
@@ -22,8 +22,8 @@ answer-requires-clause-due c =
     let inside : place < length commands = omega (arith, ap length all.value) in
     let is : taken ≡ get_or commands place taken = c.take-taken.ensures.value ∙ ap (λ (l : List Taken). get_or l place was) c.deref_mut.ensures.value
     ∙ i.rest place was (omega arith) ∙ ap (λ (d : Taken). get_or commands place d) (c.index-deref_mut-place.is ∙ sym c.take-taken.ensures.value) in
-    subst (λ (d : List TableId). IsDue d c.loop-place.seat taken) c.requires.at_desk
-    (subst (IsDue c.args.batch.desk c.loop-place.seat) (sym is) (due_at c.args.batch.desk c.loop-place.seat c.args.batch.turns commands place taken inside all.at_desk all.noted i.settled))
+    subst (λ (d : List TableId). IsToBeAnswered d c.loop-place.seat taken) c.requires.at_desk
+    (subst (IsToBeAnswered c.args.batch.desk c.loop-place.seat) (sym is) (due_at c.args.batch.desk c.loop-place.seat c.args.batch.turns commands place taken inside all.at_desk all.noted i.settled))
 
 pub loop-place-preserved : goal.loop-place-preserved
 loop-place-preserved c =
