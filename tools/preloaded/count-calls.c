@@ -7,10 +7,12 @@
  * At the program's end the file that COUNT_CALLS names holds one line: the reads, the writes and
  * the syncs, and how many of these were of the folder that COUNT_FOLDER names, if it names one.
  * Calls on connections and streams, which have no offset, are not counted. COUNT_FAIL is the number
- * of a sync that fails, counted from 1.
+ * of a sync that fails, counted from 1. To the file that COUNT_OPENED names a line is added for each
+ * file that is opened: the flags in octal, a space, the path.
  */
 #include <errno.h>
 #include <fcntl.h>
+#include <stdarg.h>
 #include <stdio.h>
 #include <stdlib.h>
 #include <sys/stat.h>
@@ -75,4 +77,28 @@ int fsync(int fd) {
 
 int fdatasync(int fd) {
     return does_fail() ? -1 : (int)syscall(SYS_fdatasync, fd);
+}
+
+int open(const char *path, int flags, ...) {
+    const char *listed = getenv("COUNT_OPENED");
+    char told[4200];
+    va_list rest;
+    va_start(rest, flags);
+    int mode = flags & O_CREAT ? va_arg(rest, int) : 0;
+    va_end(rest);
+    int file = listed ? (int)syscall(SYS_openat, AT_FDCWD, listed, O_WRONLY | O_CREAT | O_APPEND, 0666) : -1;
+    if (file >= 0) {
+        int length = snprintf(told, sizeof told, "%o %s\n", (unsigned)flags, path);
+        syscall(SYS_write, file, told, (size_t)length);
+        syscall(SYS_close, file);
+    }
+    return (int)syscall(SYS_openat, AT_FDCWD, path, flags, mode);
+}
+
+int open64(const char *path, int flags, ...) {
+    va_list rest;
+    va_start(rest, flags);
+    int mode = flags & O_CREAT ? va_arg(rest, int) : 0;
+    va_end(rest);
+    return open(path, flags, mode);
 }
