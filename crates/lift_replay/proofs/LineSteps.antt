@@ -8,11 +8,9 @@ use Rattle.lift_base.specs.declared.command.Body.{Body}
 use Rattle.lift_base.specs.declared.command.Body.TheVariants.{Call as Calls, Stop as Stopping, Place as Placing}
 use Rattle.lift_building.specs.Plan.{Plan, kiosk_floor_of}
 use Rattle.lift_desk.specs.declared.words.Ask.{Ask}
-use Rattle.lift_desk.specs.declared.view.TerminalView.{TerminalView}
-use Rattle.lift_desk.specs.declared.view.ClerkView.{ClerkView}
 use Rattle.lift_desk.specs.Words.{ask_word}
 use Rattle.lift_desk.specs.Steps.{with_told_asks}
-use Rattle.lift_desk.specs.Seats.{TerminalSeat, ClerkPlace, Waits, view_at, no_place}
+use Rattle.lift_desk.specs.Seats.{TerminalSeat, ClerkPlace, view_at, no_place}
 use Rattle.lift_disk.specs.Faults.{FusedDisk}
 use Rattle.lift_policy.specs.Choices.{IsEtdChoice}
 use Rattle.lift_policy.specs.Decision.{etd_pick}
@@ -36,19 +34,9 @@ use Rattle.lift_replay.specs.Shown.{stops_text, costs_text, unless_broken}
 use Rattle.lift_replay.specs.Terminals.{no_seat, seat_at, told_seat, having_asked}
 use Rattle.lift_replay.specs.Told.{ScriptClerk, Asks, HasAsked, IsArmed, KeepsKeeper, ScriptRests, Tells, LineTells, device_of, end_of}
 use Rattle.lift_replay.specs.Shows.{WaitsFor, IsInStep, AreInStep, IsFound, Stands, IsKeeperOf, Shows}
+use Rattle.lift_replay.proofs.InStep.{waits_not, waits_so}
 use Rattle.lift_replay.proofs.Groups.{turn_shows, with_terminals, left_as}
 use Rattle.lift_replay.proofs.Recovered.{left_unchanged, may_unchanged}
-
--- a terminal waits just where an ask of it does
-waits_not : (a : Asking) (seat : TerminalView) (place : ClerkView) → IsInStep a seat place → a.waiting ≡ None → ¬ Waits seat
-waits_not a seat place step none = λ waits.
-    let same = subst (λ w. WaitsFor w seat place) none step.waits in
-    omega (arith, waits, ap length step.heard, step.even, ap length same)
-
-waits_so : (a : Asking) (seat : TerminalView) (place : ClerkView) (ask : Ask) → IsInStep a seat place → a.waiting ≡ Some ask → Waits seat
-waits_so a seat place ask step some =
-    let more = subst (λ w. WaitsFor w seat place) some step.waits in
-    omega (arith, ap length step.heard, step.even, ap length more.1, length-append place.taken (ask_word (suc (length place.taken)) ask.number ask.body ∷ []))
 
 -- one terminal has changed
 step_at : (terminals : List Asking) (seats after : List TerminalSeat) (places known : List ClerkPlace) (t : ℕ) (a : Asking) → AreInStep terminals seats places → t < length terminals

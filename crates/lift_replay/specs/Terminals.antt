@@ -1,11 +1,12 @@
 -- The seats of a desk's terminals, what they ask, and what they hear.
-use Rattle.std.specs.Prelude.{ℕ, suc, ◌≡◌, ◌<◌, ◌≤◌, ◌⊎◌, List, [], ◌∷◌, ◌++◌, length}
-use Rattle.std.specs.Prelude.{slice_index_or, Option, Some, None}
+use Rattle.std.specs.Prelude.{ℕ, suc, ◌≡◌, ◌+◌, ◌<◌, ◌≤◌, ◌⊎◌, List, [], ◌∷◌, ◌++◌, length}
+use Rattle.std.specs.Prelude.{slice_index_or, Option, Some, None, nat_lt, if◌then◌else◌}
 use Rattle.atomic_table.specs.Seated.{TableId}
 use Rattle.lift_base.specs.declared.command.Body.{Body}
 use Rattle.lift_base.specs.declared.command.Reply.{Reply}
 use Rattle.lift_desk.specs.Words.{ask_word, number_of, last_of}
 use Rattle.lift_desk.specs.declared.view.ClerkView.{ClerkView}
+use Rattle.lift_desk.specs.declared.view.TerminalView.{TerminalView}
 use Rattle.lift_desk.specs.Rule.{no_asks, IsInOrder}
 use Rattle.lift_desk.specs.Steps.{with_ask, with_hearing, with_told_answers, with_told_asks}
 use Rattle.lift_desk.specs.Steps.{lists_of}
@@ -41,17 +42,56 @@ having_asked seat number body =
 abbrev pub told_seat : TerminalSeat → ClerkView → TerminalSeat
 told_seat seat view = seat_with seat (with_told_answers seat.view view.answered)
 
--- The clerk was told what each terminal asked, and each terminal what was answered there; what they
--- have stored fits together.
-pub record AreTold (seats told : List TerminalSeat) (places known : List ClerkPlace) : Type 0 where
+-- one that waits counts as one
+abbrev pub one_waiting : TerminalView → ℕ
+one_waiting v = if nat_lt (length v.heard) (length v.asked) then 1 else 0
+
+-- how many of these terminals wait for an answer
+abbrev pub count_waiting : List TerminalSeat → ℕ
+count_waiting [] = 0
+count_waiting (seat ∷ seats) = one_waiting seat.view + count_waiting seats
+
+-- The clerk was told what a terminal asked, and the terminal what was answered there; what they have
+-- stored fits together.
+pub record BothTold (seat told : TerminalSeat) (place known : ClerkView) : Type 0 where
+  pub hears : told ≡ told_seat seat place
+  pub knows : known ≡ with_told_asks place seat.view.asked
+  pub in_order : IsInOrder (lists_of seat.view place)
+
+-- a terminal that doesn't wait, of which nothing is told
+pub record IsLeftOut (seat told : TerminalSeat) (place known : ClerkView) : Type 0 where
+  pub rests : ¬ Waits seat.view
+  pub hears : told ≡ seat
+  pub knows : known ≡ place
+
+-- a terminal is told, unless it doesn't wait
+abbrev pub IsToldIfWaiting : (seat told : TerminalSeat) → (place known : ClerkView) → Type 0
+IsToldIfWaiting seat told place known =
+    BothTold seat told place known ⊎ IsLeftOut seat told place known
+
+-- this is so of each terminal
+pub record AreToldSo (So : TerminalSeat → TerminalSeat → ClerkView → ClerkView → Type 0)
+    (seats told : List TerminalSeat) (places known : List ClerkPlace) : Type 0 where
   pub count : length told ≡ length seats
   pub place_count : length known ≡ length places
-  pub seat : (i : ℕ) → i < length seats
-      → seat_at told i ≡ told_seat (seat_at seats i) (view_at places i)
-  pub place : (i : ℕ) → i < length seats
-      → view_at known i ≡ with_told_asks (view_at places i) (seat_at seats i).view.asked
-  pub in_order : (i : ℕ) → i < length seats
-      → IsInOrder (lists_of (seat_at seats i).view (view_at places i))
+  pub each : (i : ℕ) → i < length seats
+      → So (seat_at seats i) (seat_at told i) (view_at places i) (view_at known i)
+
+abbrev pub AreTold : (seats told : List TerminalSeat) → (places known : List ClerkPlace) → Type 0
+AreTold seats told places known = AreToldSo BothTold seats told places known
+
+abbrev pub WaitingAreTold : (seats told : List TerminalSeat) → (places known : List ClerkPlace)
+    → Type 0
+WaitingAreTold seats told places known = AreToldSo IsToldIfWaiting seats told places known
+
+-- After a turn that took so many commands, or failed: all terminals are told, or those that wait,
+-- where they are as many.
+abbrev pub AreToldBehind : Option ℕ → (seats told : List TerminalSeat)
+    → (places known : List ClerkPlace) → Type 0
+AreToldBehind None seats told places known = AreTold seats told places known
+AreToldBehind (Some taken) seats told places known =
+    AreTold seats told places known
+    ⊎ ((taken ≡ count_waiting seats) × WaitingAreTold seats told places known)
 
 -- what the report shows of what a terminal hears
 abbrev pub heard_line : TerminalSeat → Option Reply → List ℕ

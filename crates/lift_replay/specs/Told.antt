@@ -30,7 +30,7 @@ use Rattle.lift_replay.specs.Report.{waiting_text, spent_text, turn_text, fault_
 use Rattle.lift_replay.specs.Report.{bad_text}
 use Rattle.lift_replay.specs.Script.{IsBadLine}
 use Rattle.lift_replay.specs.Shown.{stops_text, costs_text, unless_broken}
-use Rattle.lift_replay.specs.Terminals.{seat_at, having_asked, told_seat, AreTold, AllHear}
+use Rattle.lift_replay.specs.Terminals.{seat_at, having_asked, told_seat, AreToldBehind, AllHear}
 
 -- the clerk of a script
 abbrev pub ScriptClerk : Type 0
@@ -101,14 +101,14 @@ pub record WasStopped (old new : ScriptClerk) : Type 0 where
   pub last_fails : LastFails (device_of old) (device_of new)
 
 -- What a turn took and accepted, or fault 1 where the device failed it, or fault 5 while the
--- journal is broken.
-abbrev pub TurnTells : (old new : ScriptClerk) → List ℕ → Type 0
-TurnTells old new text =
+-- journal is broken. How many commands it took is known where it did not fail.
+abbrev pub TurnTells : (old new : ScriptClerk) → Option ℕ → List ℕ → Type 0
+TurnTells old new taken text =
     ((counts : Counts) × IsTurn IsEtdChoice old new counts × HasCommitted old new counts.accepted
-    × (text ≡ turn_text counts.taken counts.accepted))
-    ⊎ ((IsFailedTurn IsEtdChoice old new × WasStopped old new
+    × (taken ≡ Some counts.taken) × (text ≡ turn_text counts.taken counts.accepted))
+    ⊎ ((IsFailedTurn IsEtdChoice old new × WasStopped old new × (taken ≡ None)
     × (text ≡ fault_text (codes "turn") 1))
-    ⊎ ((old.keeper.writer.is_broken ≡ true) × IsBrokenTurn old new
+    ⊎ ((old.keeper.writer.is_broken ≡ true) × IsBrokenTurn old new × (taken ≡ None)
     × (text ≡ fault_text (codes "turn") 5)))
 
 -- what a turn leaves as it was
@@ -118,17 +118,18 @@ pub record KeepsPlace (old new : ScriptClerk) : Type 0 where
   pub fuse : (call : ℕ) → (device_of new).calls < call → (device_of new).fails_at call
       ↔ (device_of old).fails_at call
 
--- what a turn tells, and below it what each terminal hears, by rising terminal: all are told before
+-- what a turn tells, and below it what each terminal hears, by rising terminal: they are told before
 -- what was answered
 pub record OutcomeTells (old new : ScriptClerk) (seats after : List TerminalSeat)
     (text : List ℕ) : Type 0 where
   pub turned : ScriptClerk
+  pub taken : Option ℕ
   pub told : List TerminalSeat
   pub head : List ℕ
   pub heard : List ℕ
-  pub tells : TurnTells old turned head
+  pub tells : TurnTells old turned taken head
   pub place : KeepsPlace old turned
-  pub knows : AreTold seats told turned.seat new.seat
+  pub knows : AreToldBehind taken seats told turned.seat new.seat
   pub rest : KeepsKeeper turned new
   pub hear : AllHear told after heard
   pub shown : text ≡ head ++ heard

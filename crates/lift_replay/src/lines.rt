@@ -72,9 +72,13 @@ fn push_ask(
     }
 }
 
-/// One turn, and what it took and added, or its fault.
-fn push_taken(report: &mut String, clerk: &mut Clerk<'_, '_, FuseDisk, Etd>) -> Result<(), NoMemory>
-    ensures tells { OnOk result ((told : List ℕ) × TurnTells clerk.old clerk.new told
+/// One turn, and what it took and added, or its fault. The answer is how many commands it took, if
+/// it didn't fail.
+fn push_taken(
+    report: &mut String,
+    clerk: &mut Clerk<'_, '_, FuseDisk, Etd>,
+) -> Result<Option<usize>, NoMemory>
+    ensures tells { IfOk result (λ taken. (told : List ℕ) × TurnTells clerk.old clerk.new taken told
         × (string_bytes report.new ≡ string_bytes report.old ++ told)) }
     ensures desk { clerk.new.desk ≡ clerk.old.desk }
     ensures plan { clerk.new.keeper.writer.plan ≡ clerk.old.keeper.writer.plan }
@@ -82,8 +86,14 @@ fn push_taken(report: &mut String, clerk: &mut Clerk<'_, '_, FuseDisk, Etd>) -> 
     ensures seated { IsClerkOf clerk.new.desk clerk.new.seat }
 {
     match clerk.turn() {
-        Ok(counts) => push_turn(report, counts.taken, counts.accepted),
-        Err(fault) => push_fault(report, "turn", fault.number()),
+        Ok(counts) => {
+            push_turn(report, counts.taken, counts.accepted)?;
+            Ok(Some(counts.taken))
+        }
+        Err(fault) => {
+            push_fault(report, "turn", fault.number())?;
+            Ok(None)
+        }
     }
 }
 
@@ -95,8 +105,8 @@ fn push_turn_of(report: &mut String, station: &mut Station) -> Result<(), NoMemo
         × (string_bytes report.new ≡ string_bytes report.old ++ told)) }
     ensures building { station.new.building ≡ station.old.building }
 {
-    push_taken(report, &mut station.clerk)?;
-    station.terminals.tell_all(&mut station.clerk);
+    let taken = push_taken(report, &mut station.clerk)?;
+    station.terminals.tell_behind(&mut station.clerk, taken);
     station.terminals.push_all_heard(report)
 }
 

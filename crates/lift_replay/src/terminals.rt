@@ -1,14 +1,15 @@
 //! The terminals' seats at a desk: what they ask, and what they hear.
 
 ghost use Rattle.std.specs.Prelude.{◌≡◌, ◌<◌, ◌++◌, ◌↔◌, List, ℕ, length, slice_set, string_bytes};
-ghost use Rattle.std.specs.Prelude.{true, OnOk, OnErr, IfOk};
+ghost use Rattle.std.specs.Prelude.{true, IsTrue, OnOk, OnErr, IfOk};
 ghost use Rattle.lift_desk.specs.Rule.{IsInOrder};
 ghost use Rattle.lift_desk.specs.Seats.{AreSeatsOf, IsClerkOf, Waits, seats_from, view_at};
 ghost use Rattle.lift_desk.specs.Spelled.{IsAsk};
 ghost use Rattle.lift_desk.specs.Steps.{lists_of};
 ghost use Rattle.lift_clerk.specs.Clerk.{IsToldAt};
 ghost use Rattle.lift_replay.specs.Terminals.{AreTerminalsOf, IsSpanned, AllHear, AreTold, Hears};
-ghost use Rattle.lift_replay.specs.Terminals.{having_asked, seat_at, told_seat};
+ghost use Rattle.lift_replay.specs.Terminals.{having_asked, seat_at, told_seat, count_waiting};
+ghost use Rattle.lift_replay.specs.Terminals.{AreToldBehind, WaitingAreTold};
 
 use crate::refused::NoMemory;
 use crate::report::push_heard;
@@ -91,7 +92,7 @@ impl<'d> Terminals<'d> {
 
     /// Tells the clerk what each terminal has asked so far, and each terminal what was answered
     /// there so far.
-    pub fn tell_all(&mut self, clerk: &mut Clerk<'_, '_, FuseDisk, Etd>)
+    fn tell_all(&mut self, clerk: &mut Clerk<'_, '_, FuseDisk, Etd>)
         requires desk { clerk.old.desk ≡ self.old.desk.now }
         requires places { length clerk.old.seat ≡ length self.old.seats.items }
         ensures told { AreTold self.old.seats.items self.new.seats.items clerk.old.seat
@@ -101,6 +102,52 @@ impl<'d> Terminals<'d> {
     {
         for index in 0..self.desk.len() {
             self.tell(clerk, index as u8);
+        }
+    }
+
+    /// Whether the terminal's last ask has not been heard.
+    fn waits(&self, index: u8) -> bool
+        requires { index < length self.now.seats.items }
+        ensures { IsTrue result ↔ Waits (seat_at self.now.seats.items index).view }
+    {
+        self.seats[usize::from(index)].pending().is_some()
+    }
+
+    /// Tells the clerk what each terminal that waits has asked, and it what was answered there so
+    /// far. The answer is how many wait.
+    fn tell_waiting(&mut self, clerk: &mut Clerk<'_, '_, FuseDisk, Etd>) -> usize
+        requires desk { clerk.old.desk ≡ self.old.desk.now }
+        requires places { length clerk.old.seat ≡ length self.old.seats.items }
+        ensures told { WaitingAreTold self.old.seats.items self.new.seats.items clerk.old.seat
+            clerk.new.seat }
+        ensures count { result ≡ count_waiting self.old.seats.items }
+        ensures rest { clerk.new ≡ record clerk.old { seat = clerk.new.seat } }
+        ensures desk { self.new.desk ≡ self.old.desk }
+    {
+        let mut waiting = 0;
+        for terminal in self.first..self.end {
+            if self.waits(terminal) {
+                self.tell(clerk, terminal);
+                waiting += 1;
+            }
+        }
+        waiting
+    }
+
+    /// Tells clerk and terminals after a turn that took so many commands, or failed. As many as
+    /// wait are theirs, and then the others have nothing new.
+    pub fn tell_behind(&mut self, clerk: &mut Clerk<'_, '_, FuseDisk, Etd>, taken: Option<usize>)
+        requires desk { clerk.old.desk ≡ self.old.desk.now }
+        requires places { length clerk.old.seat ≡ length self.old.seats.items }
+        ensures told { AreToldBehind taken self.old.seats.items self.new.seats.items clerk.old.seat
+            clerk.new.seat }
+        ensures rest { clerk.new ≡ record clerk.old { seat = clerk.new.seat } }
+        ensures desk { self.new.desk ≡ self.old.desk }
+    {
+        let waiting = self.tell_waiting(clerk);
+        match taken {
+            Some(taken) if taken == waiting => {}
+            _ => self.tell_all(clerk),
         }
     }
 

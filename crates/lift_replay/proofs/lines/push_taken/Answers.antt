@@ -7,11 +7,11 @@ use Rattle.lift_keeper.specs.Calls.{FailsBy}
 use Rattle.lift_keeper.specs.lemmas.Committed.{safe_register}
 use Rattle.lift_replay.specs.Told.{HasCommitted, device_of}
 use Rattle.lift_replay.specs.Report.{fault_text, turn_text}
-use Rattle.lift_replay.proofs.Told.{on_ok, fault_tells, is_whole}
+use Rattle.lift_replay.proofs.Told.{fault_tells, is_whole}
 use Rattle.lift_replay.proofs.lines.push_taken.Goals as goal
 
-pub returns-in-Ok-clause-tells : goal.returns-in-Ok-clause-tells
-returns-in-Ok-clause-tells c =
+pub returns-in_ok-push_turn-in-Ok-clause-tells : goal.returns-in_ok-push_turn-in-Ok-clause-tells
+returns-in_ok-push_turn-in-Ok-clause-tells c =
     let before = c.args.clerk.now in
     let after = c.turn.new.self in
     let old = before.keeper.writer in
@@ -27,10 +27,10 @@ returns-in-Ok-clause-tells c =
       second = made.second;
       none_fails = made.told_ok;
     } in
-    on_ok c.push_turn.result (λ told. (turn_text counts.taken counts.accepted, inl (counts, c.in-Ok.ensures.turns, committed, refl), told)) c.push_turn.ensures
+    (turn_text counts.taken counts.accepted, inl (counts, c.in-Ok.ensures.turns, committed, refl, refl), c.in_ok-push_turn-in-Ok.ensures)
 
-pub returns-in-Err-clause-tells : goal.returns-in-Err-clause-tells
-returns-in-Err-clause-tells c =
+pub returns-in_ok-push_fault-in-Err-clause-tells : goal.returns-in_ok-push_fault-in-Err-clause-tells
+returns-in_ok-push_fault-in-Err-clause-tells c =
     let before = c.args.clerk.now in
     let after = c.turn.new.self in
     let old = before.keeper.writer in
@@ -49,4 +49,4 @@ returns-in-Err-clause-tells c =
       last_fails = subst (λ f. FailsBy f (device_of before) (device_of after)) disk c.in-Err.ensures.calls.told;
     })
     (λ broken. t.is.broken.0 (c.in-Err.is ∙ ap Err broken)) c.turn.ensures.rests in
-    on_ok c.push_fault.result (λ told. (fault_text (codes "turn") c.number.result, tells, told)) c.push_fault.ensures
+    (fault_text (codes "turn") c.number.result, tells, c.in_ok-push_fault-in-Err.ensures)
