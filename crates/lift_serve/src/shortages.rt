@@ -1,7 +1,8 @@
 //! What a serving runs short of: it is known only from the call that was refused it.
 
 ghost use Rattle.std.specs.Prelude.{◌≡◌, ◌≢◌, ◌≤◌, ◌++◌, ◌∷◌, [], None, Some, OnOk, OnErr};
-ghost use Rattle.std.specs.Prelude.{IfOk, IfErr, IsSome, List, Result, length, ◌↔◌};
+ghost use Rattle.std.specs.Prelude.{IfOk, IfErr, IsSome, List, Result, length, vec_len, vec_capacity};
+ghost use Rattle.std.specs.Prelude.{◌↔◌};
 ghost use Rattle.lift_desk.specs.Seats.{AreSeatsOf, IsClerkOf, OwesNothing, clerk_of, seats_from};
 ghost use Rattle.lift_base.specs.declared.history.Entry.{Entry};
 ghost use Rattle.lift_register.specs.Register.{RegisterState};
@@ -299,6 +300,7 @@ pub(crate) fn read_ahead<I: Read + Drop>(alloc: Global, reader: I) -> Result<Buf
 /// A vector with room for a pager for each terminal that there can be.
 pub(crate) fn room_for_pagers(alloc: Global) -> Result<Vec<Pager>, Shortage>
     ensures none { IfOk result (λ pagers. pagers.items ≡ []) }
+    ensures room { IfOk result (λ pagers. vec_capacity pagers ≡ 63) }
     ensures lack { IfErr result (λ shortage. shortage ≡ ServeFault.Memory) }
 {
     match Vec::with_capacity(alloc, MOST_TERMINALS) {
@@ -307,10 +309,11 @@ pub(crate) fn room_for_pagers(alloc: Global) -> Result<Vec<Pager>, Shortage>
     }
 }
 
-/// One value more.
+/// One value more. It is refused only where there is no room for it.
 pub(crate) fn push<T: Drop>(values: &mut Vec<T>, value: T) -> Result<(), Shortage>
     ensures pushed { OnOk result (values.new.items ≡ values.old.items ++ value ∷ []) }
     ensures unchanged { OnErr result (values.new.items ≡ values.old.items) }
+    ensures full { OnErr result (vec_capacity values.old ≤ vec_len values.old) }
     ensures lack { IfErr result (λ shortage. shortage ≡ ServeFault.Memory) }
 {
     match values.push(value) {
