@@ -30,6 +30,7 @@ use Rattle.lift_program.specs.declared.fault.Fault.TheVariants.{Building, Journa
 use Rattle.lift_program.specs.declared.fault.Fault.TheVariants.{Network, Thread}
 use Rattle.lift_program.specs.declared.left.Undone.{Undone}
 use Rattle.lift_program.specs.declared.left.Undone.TheVariants.{NoBuilding, NoImage, Opened}
+use Rattle.lift_program.specs.declared.fault.Role.{Role}
 use Rattle.lift_program.specs.declared.fault.Role.TheVariants.{Building as OfBuilding}
 use Rattle.lift_program.specs.declared.fault.Role.TheVariants.{Image as OfImage, Input, Output}
 
@@ -157,17 +158,23 @@ IsBuildingFault is_text is_no_text (Memory no_memory) = Unit {0}
 IsBuildingFault is_text is_no_text Network = ⊥
 IsBuildingFault is_text is_no_text Thread = ⊥
 
--- what the system's refusal comes to: want of memory where it said so, else the image's file
-abbrev pub IsSystemFault : Error → Fault → Type 0
-IsSystemFault error fault = (error_kind error ≡ OutOfMemory → fault ≡ Memory tt)
-    × (error_kind error ≢ OutOfMemory → fault ≡ File OfImage)
+-- what the system's refusal of a file in this role comes to: want of memory where it said so, else
+-- the file
+abbrev pub IsSystemFault : Role → Error → Fault → Type 0
+IsSystemFault role error fault = (error_kind error ≡ OutOfMemory → fault ≡ Memory tt)
+    × (error_kind error ≢ OutOfMemory → fault ≡ File role)
+
+-- the system refused this, and it comes to that
+abbrev pub IsRefusedBySystem : Role → (refuses : Error → Type 0) → Fault → Type 0
+IsRefusedBySystem role refuses fault = (error : Error) × refuses error
+    × IsSystemFault role error fault
 
 -- what a refused image comes to
 abbrev pub IsImageFault : {F O : Type 0} → FileFault F O → Fault → Type 0
-IsImageFault (Untold error opener) fault = IsSystemFault error fault
+IsImageFault (Untold error opener) fault = IsSystemFault OfImage error fault
 IsImageFault (NotAFile opener) fault = fault ≡ File OfImage
-IsImageFault (Unopened error) fault = IsSystemFault error fault
-IsImageFault (Stopped stopped) fault = IsSystemFault stopped.error fault
+IsImageFault (Unopened error) fault = IsSystemFault OfImage error fault
+IsImageFault (Stopped stopped) fault = IsSystemFault OfImage stopped.error fault
 
 -- No image was had: that is told as its file, or as want of memory where the system told that.
 pub record HasNoImage {F O : Type 0} (is_refused : FileFault F O → Type 0) (fault : Fault)

@@ -201,7 +201,9 @@ impl<'w, B: TextOpener, I: FileOpener, L: Listens, S: AsStr, R: Read + Drop, E: 
             (IsFlushed W.gives W.flushes writer.old writer.new)
             (WriterHasFailed W.gives W.flushes writer.old writer.new) (W.contents writer.old)
             (W.contents writer.new) }
-        // A good script was read to its end,
+        // Nothing is read behind what a script took.
+        ensures few_calls { result.0.calls ≤ 2097152 }
+        // A good one was read to its end,
         ensures good { result.1 ≡ Err (End.Replayed Good self.entry.files.image)
             → result.0.ended ≡ true }
         // one that is undone for the standard input could not be read,

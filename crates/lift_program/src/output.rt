@@ -1,6 +1,7 @@
 //! What is written to the standard output, and where no more can be done if it fails.
 
 ghost use Rattle.std.specs.Prelude.{ℕ, Bool, true, false, OnOk, OnErr, IfErr, take, ⊤};
+ghost use Rattle.std.specs.declared.io.Error.{Error};
 ghost use Rattle.std.specs.Io.KnownBytes.{Appends, Keeps};
 ghost use Rattle.lift_program.specs.Ends.{IsFileFault};
 ghost use Rattle.lift_program.specs.Output.{IsOutputSettled, IsWrittenOrFailed};
@@ -17,15 +18,21 @@ use std::io::Write;
 pub trait Outflow: Outlet {
     ghost flushes: { Self → Bool → Self → Type 0 };
 
+    /// A flush was refused by this error.
+    ghost refuses: { Self → Error → Self → Type 0 };
+
     /// One flush of the writer.
     fn settle(&mut self) -> io::Result<()>
         ensures flushed { OnOk result (flushes self.old true self.new) }
         ensures failed { OnErr result (flushes self.old false self.new) }
+        ensures refused { IfErr result (λ error. refuses self.old error self.new) }
         ensures bytes { Keeps (Self.contents self.old) (Self.contents self.new) };
 }
 
 impl<W: Write> Outflow for W {
     ghost flushes = { λ _ _ _. ⊤ };
+
+    ghost refuses = { λ _ _ _. ⊤ };
 
     fn settle(&mut self) -> io::Result<()> {
         self.flush()

@@ -6,7 +6,7 @@ ghost use Rattle.std.specs.Io.KnownBytes.{Keeps};
 ghost use Rattle.std.specs.IoError.{error_kind};
 ghost use Rattle.lift_program.specs.Ends.{IsFileFault};
 ghost use Rattle.lift_program.specs.Faults.{served_fault};
-ghost use Rattle.lift_program.specs.Stages.{IsImageFault, IsTextRefused};
+ghost use Rattle.lift_program.specs.Stages.{IsImageFault, IsRefusedBySystem, IsTextRefused};
 ghost use Rattle.lift_program.specs.Words.{AreMatchesOf, AskForRequest, AsksNothing};
 ghost use Rattle.lift_program.specs.declared.fault.Fault.TheVariants.{Memory as Wanting};
 ghost use Rattle.lift_program.specs.declared.fault.Role.TheVariants.{Building as OfBuilding};
@@ -114,6 +114,9 @@ pub(crate) fn text_in<B: TextOpener>(opener: B, path: &str) -> Result<B::Text, F
     ensures opened { IfOk result (λ text. B.opens opener path.now (Ok text)) }
     ensures refused { result ≡ Err (Fault.File OfBuilding) → IsTextRefused (B.opens opener path.now) }
     ensures fault { IfErr result (IsFileFault OfBuilding) }
+    // Memory is told just where the system said so.
+    ensures told { IfErr result
+        (IsRefusedBySystem OfBuilding (λ error. B.opens opener path.now (Err error))) }
 {
     match opener.open_text(path) {
         Ok(text) => Ok(text),
@@ -127,6 +130,9 @@ pub(crate) fn pass_on<W: Outflow>(writer: &mut W) -> Result<(), Fault>
     ensures failed { OnErr result (W.flushes writer.old false writer.new) }
     ensures bytes { Keeps (W.contents writer.old) (W.contents writer.new) }
     ensures fault { IfErr result (IsFileFault Output) }
+    // Memory is told just where the system said so.
+    ensures told { IfErr result
+        (IsRefusedBySystem Output (λ error. W.refuses writer.old error writer.new)) }
 {
     match writer.settle() {
         Ok(()) => Ok(()),

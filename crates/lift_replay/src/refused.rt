@@ -1,7 +1,8 @@
 //! What takes memory, and the evidence that none was left.
 
 ghost use Rattle.std.specs.Prelude.{◌≡◌, ◌≤◌, ◌<◌, ◌+◌, ◌++◌, ◌∷◌, [], length, vec_len, string_bytes};
-ghost use Rattle.std.specs.Prelude.{is_ok, if◌then◌else◌, IfOk, OnOk};
+ghost use Rattle.std.specs.Prelude.{is_ok, if◌then◌else◌, IfOk, OnOk, OnErr, vec_capacity};
+ghost use Rattle.std.specs.String.{string_capacity};
 ghost use Rattle.lift_desk.specs.Seats.{AreSeatsOf, IsClerkOf, OwesNothing, clerk_of, seats_from};
 ghost use Rattle.lift_disk.specs.Blank.{IsBlankDisk};
 ghost use Rattle.lift_disk.specs.Outcomes.{state_of};
@@ -36,10 +37,12 @@ impl NoMemory {
 /// than 20,000 bytes, goes beyond what a piece is written at.
 const ROOM_BYTES: usize = 65_536;
 
-/// Adds a text to another.
+/// Adds a text to another. It is refused only where there is no room for it.
 pub(crate) fn add(text: &mut String, more: &str) -> Result<(), NoMemory>
-    ensures { string_bytes text.new ≡ (if is_ok result
+    ensures bytes { string_bytes text.new ≡ (if is_ok result
         then string_bytes text.old ++ more.now else string_bytes text.old) }
+    ensures full { OnErr result (string_capacity text.old
+        < length (string_bytes text.old) + length more.now) }
 {
     match text.push_str(more) {
         Ok(()) => Ok(()),
@@ -47,10 +50,11 @@ pub(crate) fn add(text: &mut String, more: &str) -> Result<(), NoMemory>
     }
 }
 
-/// Adds a letter, a digit or a sign to a text.
+/// Adds a letter, a digit or a sign to a text. It is refused only where there is no room for it.
 pub(crate) fn add_char(text: &mut String, letter: char) -> Result<(), NoMemory>
     requires { letter < 128 }
-    ensures { OnOk result (string_bytes text.new ≡ string_bytes text.old ++ letter ∷ []) }
+    ensures bytes { OnOk result (string_bytes text.new ≡ string_bytes text.old ++ letter ∷ []) }
+    ensures full { OnErr result (string_capacity text.old ≤ length (string_bytes text.old)) }
 {
     match text.push(letter) {
         Ok(()) => Ok(()),
@@ -58,10 +62,11 @@ pub(crate) fn add_char(text: &mut String, letter: char) -> Result<(), NoMemory>
     }
 }
 
-/// Adds bytes to others.
+/// Adds bytes to others. They are refused only where there is no room for them.
 pub(crate) fn add_bytes(bytes: &mut Vec<u8>, more: &[u8]) -> Result<(), NoMemory>
     ensures items { OnOk result (bytes.new.items ≡ bytes.old.items ++ more.now) }
     ensures len { OnOk result (vec_len bytes.new ≡ vec_len bytes.old + length more.now) }
+    ensures full { OnErr result (vec_capacity bytes.old < vec_len bytes.old + length more.now) }
 {
     match bytes.extend_from_slice(more) {
         Ok(()) => Ok(()),

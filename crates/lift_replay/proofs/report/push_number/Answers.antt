@@ -4,4 +4,4 @@ use Rattle.lift_replay.proofs.report.push_number.Goals as goal
 
 pub returns-then-number-lt10 : goal.returns-then-number-lt10
 returns-then-number-lt10 c =
-    digit_pushed c.add_char.result _ _ c.args.number _ c.if-number-lt10.true c.add_char.ensures (omega arith)
+    digit_pushed c.add_char.result _ _ c.args.number _ c.if-number-lt10.true c.add_char.ensures.bytes (omega arith)

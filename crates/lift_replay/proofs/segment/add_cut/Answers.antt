@@ -7,7 +7,7 @@ use Rattle.lift_replay.proofs.segment.add_cut.Goals as goal
 pub returns-in_err-put_large_piece-clause-front : goal.returns-in_err-put_large_piece-clause-front
 returns-in_err-put_large_piece-clause-front g c =
     let told_is : c.deref.result.now ≡ cut_text c.args.calls = c.deref.ensures ∙ c.in_ok-push_cut.ensures ∙ ap (λ bytes. bytes ++ cut_text c.args.calls) c.new-report.ensures.bytes in
-    let piece_is : string_bytes c.add.new.text ≡ string_bytes c.args.piece.now ++ cut_text c.args.calls = c.in_ok-add.ensures ∙ ap (λ bytes. string_bytes c.args.piece.now ++ bytes) told_is in
+    let piece_is : string_bytes c.add.new.text ≡ string_bytes c.args.piece.now ++ cut_text c.args.calls = c.in_ok-add.ensures.bytes ∙ ap (λ bytes. string_bytes c.args.piece.now ++ bytes) told_is in
     err_so c.from_residual-in_err-put_large_piece.result
     (torn_told _ _ _ (string_bytes c.args.piece.now) (string_bytes c.add.new.text) (string_bytes c.put_large_piece.new.piece) (cut_text c.args.calls) piece_is
     c.in_err-put_large_piece.ensures.front c.in_err-put_large_piece.ensures.emptied)
