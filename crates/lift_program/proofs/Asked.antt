@@ -4,12 +4,14 @@ use Rattle.std.specs.Prelude.{Result, Ok, Err, IfErr}
 use Rattle.std.specs.declared.net.tcp.TcpListener.{TcpListener as Listener}
 use Rattle.clap.specs.Words.{Text}
 use Rattle.lift_keeper.specs.Keeper.{KeeperView}
+use Rattle.lift_base.specs.Input.{InputState}
+use Rattle.lift_replay.specs.Reading.{IsInputRead}
 use Rattle.lift_policy.specs.Choices.{IsShipped}
 use Rattle.lift_policy.specs.declared.shipped.Shipped.{Shipped}
 use Rattle.lift_serve.specs.Open.{ServingEndState}
 use Rattle.lift_serve.specs.lemmas.Opened.{keeps_over}
 use Rattle.lift_program.proofs.Writing.{said_front}
-use Rattle.lift_program.specs.Ends.{AreReadyFor, EndOver, IsEndFor, IsEndOf, SaysFront, WritesFor}
+use Rattle.lift_program.specs.Ends.{AreReadyFor, EndOver, IsEndFor, IsEndOf, IsInputLeft, SaysFront, WritesFor}
 use Rattle.lift_program.specs.Serving.{IsServedOver, IsServing}
 use Rattle.lift_program.specs.declared.fault.Fault.{Fault}
 use Rattle.lift_program.specs.declared.words.Request.TheVariants.{Replay, Format, Show, Serve}
@@ -49,6 +51,19 @@ output_of_replay {T} files gives before after (Format image building half) resul
 output_of_replay {T} files gives before after (Show image building) result unused P is holds same = absurd (subst (λ (r : Result T (EndOver files)). IfErr r (IsEndFor files gives (Show image building) before after)) same is).0
 output_of_replay {T} files gives before after (Serve image building port sessions policy) result unused P is holds same =
     absurd (subst (λ (r : Result T (EndOver files)). IfErr r (IsEndFor files gives (Serve image building port sessions policy) before after)) same is).0
+
+-- so it is left as the words ask
+pub asked_left : {T R : Type 0} (files : CommandFiles) (gives : ℕ → Option Listener → Type 0) (remaining : R → Option (List ℕ)) (words : List Text) (before after : Option (List ℕ)) (request : Request) (result : Result T (EndOver files)) (old new : InputState R) → AskForRequest words request
+    → IfErr result (IsEndFor files gives request before after) → IsInputLeft remaining (request ≡ Replay) files.image.opener result old new
+    → IsInputLeft remaining (AskForRequest words Replay) files.image.opener result old new
+asked_left files gives remaining words before after request result old new asks is left = record {
+  unasked = λ none. left.unasked (λ same. none (subst (AskForRequest words) same asks));
+  unwaiting = left.unwaiting;
+  good = left.good;
+  unread = left.unread;
+  read = λ replays. output_of_replay files gives before after request result files.image.opener (IsInputRead remaining old new) is left.read;
+  few_calls = left.few_calls;
+}
 
 -- what is ready was read by a keeper that is whole
 pub ready_whole : (files : CommandFiles) (gives : ℕ → Option Listener → Type 0) (words : List Text) (before after : Option (List ℕ)) (keeper : KeeperView files.image.Served) (listener : Listener) (port sessions : ℕ) (policy : Shipped)

@@ -1,6 +1,6 @@
 -- How the program ends, and what it says of it.
 use Rattle.std.specs.Prelude.{ℕ, ◌≡◌, ◌⊎◌, ◌<◌, ◌+◌, ◌*◌, List, [], ◌∷◌, ◌++◌, Option, Some, None}
-use Rattle.std.specs.Prelude.{Result, Ok, Err, true, false, codes, take}
+use Rattle.std.specs.Prelude.{◌≤◌, Result, Ok, Err, OnOk, true, false, codes, take}
 use Rattle.std.specs.Fmt.{decimal}
 use Rattle.std.specs.Io.KnownBytes.{Appends}
 use Rattle.std.specs.declared.net.tcp.TcpListener.{TcpListener as Listener}
@@ -19,6 +19,7 @@ use Rattle.lift_register.specs.Register.{empty}
 use Rattle.lift_clerk.specs.Keeping.{KeepsFront}
 use Rattle.lift_replay.specs.declared.lines.Verdict.{Verdict}
 use Rattle.lift_replay.specs.declared.lines.Verdict.TheVariants.{Good, Bad}
+use Rattle.lift_replay.specs.Reading.{IsInputRead}
 use Rattle.lift_replay.specs.Replaying.{ReportsFront, ReportsInput}
 use Rattle.lift_serve.specs.Open.{ServingEndState}
 use Rattle.lift_program.specs.Faults.{fault_text, help_text, usage_text}
@@ -257,6 +258,18 @@ ReportsAll input before after (Err fault) = ReportsFront input before after
 -- found.
 abbrev pub IsUnread : {R : Type 0} → InputState R → Type 0
 IsUnread new = (new.failed ≡ true) ⊎ ((new.calls ≡ 2097152) × (new.ended ≡ false))
+
+-- How the input is left: only a replay reads it, and nothing that becomes ready does. A good script
+-- was read to its end; one undone for the standard input could not be read, and one undone for the
+-- standard output was.
+pub record IsInputLeft {T M S V F O R : Type 0} (remaining : R → Option (List ℕ)) (replays : Type 0)
+    (unused : O) (result : Result T (End M S V F O)) (old new : InputState R) : Type 0 where
+  pub unasked : ¬ replays → new ≡ old
+  pub unwaiting : OnOk result (new ≡ old)
+  pub good : result ≡ Err (Replayed Good unused) → new.ended ≡ true
+  pub unread : result ≡ Err (Failed (File Input) unused) → IsUnread new
+  pub read : replays → result ≡ Err (Failed (File Output) unused) → IsInputRead remaining old new
+  pub few_calls : new.calls ≤ 2097152
 
 -- what a request may fail by, with nothing asked of an image
 abbrev pub IsRequestFault : CommandFiles → Request → Fault → Type 0

@@ -1,12 +1,10 @@
 //! What the program is given, and what its words come to before anything is served.
 
-ghost use Rattle.std.specs.Prelude.{◌≡◌, ◌≢◌, ◌≤◌, None, Some, Err, true, map, IfOk, IfErr, OnOk};
-ghost use Rattle.lift_replay.specs.Reading.{IsInputRead};
-ghost use Rattle.lift_replay.specs.declared.lines.Verdict.TheVariants.{Good};
-ghost use Rattle.lift_program.specs.declared.fault.Role.TheVariants.{Input, Output};
+ghost use Rattle.std.specs.Prelude.{◌≡◌, None, Some, Err, map, IfOk, IfErr, OnOk};
+ghost use Rattle.lift_program.specs.declared.fault.Role.TheVariants.{Output};
 ghost use Rattle.lift_program.specs.declared.words.Request.TheVariants.{Replay};
 ghost use Rattle.lift_program.specs.Ends.{AreReadyFor, IsAnswered, IsEndFor, IsEndOf, IsReadyFor};
-ghost use Rattle.lift_program.specs.Ends.{IsPassedOn, IsReportOfEnd, IsUncalled, IsUnread, WritesFor};
+ghost use Rattle.lift_program.specs.Ends.{IsInputLeft, IsPassedOn, IsReportOfEnd, IsUncalled, WritesFor};
 ghost use Rattle.lift_program.specs.Ends.{line_at_once, serving_text, uncalled, undone_for};
 ghost use Rattle.lift_program.specs.Listening.{local};
 ghost use Rattle.lift_program.specs.Output.{IsFlushed, WriterHasFailed};
@@ -75,16 +73,8 @@ fn done<'b, B: TextOpener, I: FileOpener, L: Listens, R: Read + Drop, W: Outflow
     ensures said_on { OnOk result (IsFlushed W.gives W.flushes writer.old writer.new) }
     ensures passed_on { IfErr result (λ end.
         IsPassedOn end (IsFlushed W.gives W.flushes writer.old writer.new)) }
-    // Only a replay reads.
-    ensures unasked { request.entry ≢ Replay → input.new ≡ input.old }
-    ensures unwaiting { OnOk result (input.new ≡ input.old) }
-    ensures good { result ≡ Err (End.Replayed Good openers.files.image) → input.new.ended ≡ true }
-    ensures unread { result ≡ Err (End.Failed (Fault.File Input) openers.files.image)
-        → IsUnread input.new }
-    ensures few_calls { input.new.calls ≤ 2097152 }
-    ensures read { request.entry ≡ Replay
-        → result ≡ Err (End.Failed (Fault.File Output) openers.files.image)
-        → IsInputRead R.remaining input.old input.new }
+    ensures left { IsInputLeft R.remaining (request.entry ≡ Replay) openers.files.image result
+        input.old input.new }
     ensures unwritten { IfErr result (λ end. undone_for end ≡ Some (Fault.File Output)
         → WriterHasFailed W.gives W.flushes writer.old writer.new) }
     // Nothing is told at once but of what is served.
@@ -192,27 +182,15 @@ impl<'w, B: TextOpener, I: FileOpener, L: Listens, S: AsStr, R: Read + Drop, E: 
         // and that a port is served was, before it is.
         ensures said_on { OnOk result.1 (IsFlushed W.gives W.flushes writer.old writer.new) }
         // Only a replay reads: nothing was read of a group that is to be served.
-        ensures unasked { ¬ AskForRequest (map S.text self.entry.words.now) Replay
-            → result.0 ≡ uncalled self.entry.reader }
-        ensures unwaiting { OnOk result.1 (result.0 ≡ uncalled self.entry.reader) }
+        ensures left { IsInputLeft R.remaining
+            (AskForRequest (map S.text self.entry.words.now) Replay) self.entry.files.image result.1
+            (uncalled self.entry.reader) result.0 }
         // Words that ask for nothing are answered by how the program is called, if they ask for help.
         ensures answered { result.1 ≡ Err (End.OtherWords self.entry.files.image)
             → IsAnswered (map S.text self.entry.words.now)
             (IsFlushed W.gives W.flushes writer.old writer.new)
             (WriterHasFailed W.gives W.flushes writer.old writer.new) (W.contents writer.old)
             (W.contents writer.new) }
-        // Nothing is read behind what a script took.
-        ensures few_calls { result.0.calls ≤ 2097152 }
-        // A good one was read to its end,
-        ensures good { result.1 ≡ Err (End.Replayed Good self.entry.files.image)
-            → result.0.ended ≡ true }
-        // one that is undone for the standard input could not be read,
-        ensures unread { result.1 ≡ Err (End.Failed (Fault.File Input) self.entry.files.image)
-            → IsUnread result.0 }
-        // and one that is undone for the standard output was.
-        ensures read { AskForRequest (map S.text self.entry.words.now) Replay
-            → result.1 ≡ Err (End.Failed (Fault.File Output) self.entry.files.image)
-            → IsInputRead R.remaining (uncalled self.entry.reader) result.0 }
         // The standard output is told only where it failed.
         ensures unwritten { IfErr result.1 (λ end. undone_for end ≡ Some (Fault.File Output)
             → WriterHasFailed W.gives W.flushes writer.old writer.new) }

@@ -3,13 +3,14 @@ use Rattle.std.specs.declared.net.tcp.TcpListener.{TcpListener as Listener}
 use Rattle.lift_base.specs.Input.{InputState}
 use Rattle.lift_disk.specs.Below.{buffered_state_of}
 use Rattle.lift_disk.specs.Files.{sector_file_state_of}
-use Rattle.lift_replay.specs.Reading.{IsInputRead}
-use Rattle.lift_program.specs.Ends.{uncalled}
+use Rattle.lift_program.specs.Ends.{IsInputLeft}
 use Rattle.lift_program.specs.Images.{CommandFiles, IsTextRead, image_files}
 use Rattle.lift_program.specs.Listening.{local}
 use Rattle.lift_program.specs.Stages.{IsNoText}
 use Rattle.lift_program.specs.Unwritten.{unwritten_state_of}
-use Rattle.lift_program.proofs.Asked.{asked_ended, output_of_replay}
+use Rattle.lift_program.specs.Words.{AskForRequest}
+use Rattle.lift_program.specs.declared.words.Request.TheVariants.{Replay}
+use Rattle.lift_program.proofs.Asked.{asked_ended, asked_left}
 use Rattle.lift_program.proofs.given.Given.prepare.Goals as goal
 
 pub returns-in-Ok-Some-clause-end : goal.returns-in-Ok-Some-clause-end
@@ -24,13 +25,15 @@ returns-in-Ok-Some-clause-end g c =
     asked_ended files gives g.R.Read.remaining c.new-input.result.reader c.args.self.reader (map g.S.AsStr.text c.args.self.words.now) (g.W.Write.contents c.args.writer.now) (g.W.Write.contents c.done-outcome.new.writer) c.in-Ok-Some.request c.done-outcome.result same
     (rw c.in-Ok-Some.field-0-is at c.in-Ok-Some.ensures.asked) c.done-outcome.ensures.end c.done-outcome.ensures.only
 
-pub returns-in-Ok-Some-clause-read : goal.returns-in-Ok-Some-clause-read
-returns-in-Ok-Some-clause-read g c =
+pub returns-in-Ok-Some-clause-left : goal.returns-in-Ok-Some-clause-left
+returns-in-Ok-Some-clause-left g c =
     let files : CommandFiles = record {
       image = image_files c.args.self.files.image (g.I.FileOpener.stands c.args.self.files.image) (g.I.FileOpener.opens c.args.self.files.image) (g.I.FileOpener.names c.args.self.files.image) (g.I.FileOpener.unnamed c.args.self.files.image) g.I.Told.ToldFile.gives g.I.Told.ToldFile.fails g.I.Told.ToldFile.holds (buffered_state_of (sector_file_state_of g.I.Told.ToldFile.holds)) (buffered_state_of (unwritten_state_of g.I.Told.ToldFile.holds));
       is_text = λ path. IsTextRead (g.B.TextOpener.opens c.args.self.files.building path) g.B.Text.Read.remaining;
       is_no_text = λ path. IsNoText (g.B.TextOpener.opens c.args.self.files.building path) g.B.Text.Read.remaining g.B.TextOpener.reads;
     } in
     let gives : ℕ → Option Listener → Type 0 = g.L.Listens.gives c.args.self.socket local in
-    λ asks. output_of_replay files gives (g.W.Write.contents c.args.writer.now) (g.W.Write.contents c.done-outcome.new.writer) c.in-Ok-Some.request c.done-outcome.result c.args.self.files.image (IsInputRead g.R.Read.remaining (uncalled c.args.self.reader) c.new.result) c.done-outcome.ensures.end
-    (λ replays fails. subst (λ (p : InputState g.row.R.Denot × InputState g.row.R.Denot). IsInputRead g.R.Read.remaining p.0 p.1) (λ i. (c.new-input.ensures i, sym c.new.ensures i)) (c.done-outcome.ensures.read replays fails))
+    let words = map g.S.AsStr.text c.args.self.words.now in
+    subst (λ (p : InputState g.row.R.Denot × InputState g.row.R.Denot). IsInputLeft g.R.Read.remaining (AskForRequest words Replay) c.args.self.files.image c.done-outcome.result p.0 p.1) (λ i. (c.new-input.ensures i, sym c.new.ensures i))
+    (asked_left files gives g.R.Read.remaining words (g.W.Write.contents c.args.writer.now) (g.W.Write.contents c.done-outcome.new.writer) c.in-Ok-Some.request c.done-outcome.result c.new-input.result c.done-outcome.new.input
+    (rw c.in-Ok-Some.field-0-is at c.in-Ok-Some.ensures.asked) c.done-outcome.ensures.end c.done-outcome.ensures.left)
