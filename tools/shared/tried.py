@@ -1,9 +1,11 @@
 """What the tools in Python share: their words, the program that is tried, servers and ports, the tally of cases, libraries that are
 loaded before the C library, and other tools' functions."""
+import contextlib
 import importlib.machinery
 import importlib.util
 import os
 import pathlib
+import random
 import re
 import resource
 import signal
@@ -67,9 +69,11 @@ def preloaded(name, folder):
 
 
 def free_port():
-    with socket.socket() as free:
-        free.bind(("127.0.0.1", 0))
-        return free.getsockname()[1]
+    """A port that is free, and not one of those that the system gives to connections, so that none of them takes it meanwhile."""
+    while True:
+        with socket.socket() as free, contextlib.suppress(OSError):
+            free.bind(("127.0.0.1", random.randrange(10000, 32768)))
+            return free.getsockname()[1]
 
 
 def limit_files(most):

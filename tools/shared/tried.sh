@@ -46,5 +46,5 @@ same() {
 }
 
 free_port() {
-    python3 -c 'import socket; s = socket.socket(); s.bind(("127.0.0.1", 0)); print(s.getsockname()[1])'
+    PYTHONPATH="$top/tools/shared" python3 -B -c "import tried; print(tried.free_port())"
 }
