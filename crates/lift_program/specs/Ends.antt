@@ -22,7 +22,7 @@ use Rattle.lift_replay.specs.declared.lines.Verdict.TheVariants.{Good, Bad}
 use Rattle.lift_replay.specs.Reading.{IsInputRead}
 use Rattle.lift_replay.specs.Replaying.{ReportsFront, ReportsInput}
 use Rattle.lift_serve.specs.Open.{ServingEndState}
-use Rattle.lift_program.specs.Faults.{fault_text, help_text, usage_text}
+use Rattle.lift_program.specs.Faults.{fault_text, usage_text}
 use Rattle.lift_program.specs.Output.{IsWrittenOrFailed, SaysText}
 use Rattle.lift_program.specs.Serving.{IsReadyOver, IsServing}
 use Rattle.lift_program.specs.Images.{CommandFiles}

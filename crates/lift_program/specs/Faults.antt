@@ -56,10 +56,6 @@ fault_text Thread = codes "liftd: thread"
 abbrev pub usage_text : List ℕ
 usage_text = codes "liftd: usage"
 
--- how the program is called, line by line
-abbrev pub help_text : List ℕ
-help_text = codes "liftd, the group controller of a lift group\n\n  liftd [replay]\n      carries out the script on standard input\n  liftd format <image> <building> [--half <n>]\n      makes an empty journal of two halves of n sectors, 64 to 1000000 (64)\n  liftd show <image> <building>\n      prints the open calls of a journal\n  liftd serve <image> <building> --port <p> --sessions <n>\n              [--policy etd|fewest|wait]\n      serves kiosks and cars at port p of this machine, until n connections\n      (1 to 1000000) have ended\n\nStatus 0: done. 1: a fault, told in a line on standard error, or a bad script.\n2: other words, as these are.\n"
-
 -- a building that was refused for want of memory is that
 abbrev pub of_building : BuildingFault → Fault
 of_building (NoRoom no_memory) = Memory tt

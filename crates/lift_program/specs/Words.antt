@@ -32,7 +32,7 @@ format_app = with_rule (app_on (codes "format")) (option_rule (codes "half"))
 abbrev pub show_app : App
 show_app = app_on (codes "show")
 
--- `serve <image> <building> --port <p> --sessions <n> [--policy etd|fewest|wait]`
+-- `serve <image> <building> --port <p> --sessions <n> [--policy <name>]`
 abbrev pub serve_app : App
 serve_app = with_rule (with_rule (with_rule (app_on (codes "serve")) (option_rule (codes "port")))
     (option_rule (codes "sessions"))) (option_rule (codes "policy"))
@@ -56,6 +56,10 @@ abbrev pub liftd_app : App
 liftd_app = with_subcommand
     (with_subcommand (with_subcommand (with_subcommand bare_app replay_app.top) format_app.top)
     show_app.top) serve_app.top
+
+-- how the program is called, line by line
+abbrev pub help_text : List ℕ
+help_text = codes "liftd, the group controller of a lift group\n\n  liftd [replay]\n      carries out the script on standard input\n  liftd format <image> <building> [--half <n>]\n      makes an empty journal of two halves of n sectors, 64 to 1000000 (64)\n  liftd show <image> <building>\n      prints the open calls of a journal\n  liftd serve <image> <building> --port <p> --sessions <n>\n              [--policy etd|fewest|wait]\n      serves kiosks and cars at port p of this machine, until n connections\n      (1 to 1000000) have ended\n\nStatus 0: done. 1: a fault, told in a line on standard error, or a bad script.\n2: other words, as these are.\n"
 
 -- the sectors in a half: 64, or what the option's word spells, 64 to 1,000,000
 abbrev pub IsHalf : Option Text → ℕ → Type 0

@@ -1,4 +1,4 @@
-//! The grammar of the program's words: its commands and their arguments.
+//! The grammar of the program's words: its commands and their arguments, and the text that tells them.
 
 ghost use Rattle.std.specs.Prelude.{◌≡◌, false, IfOk};
 ghost use Rattle.clap.specs.Words.{app_of, rule_of};
@@ -7,6 +7,24 @@ ghost use Rattle.lift_program.specs.Words.{serve_app, word_rule, option_rule, Is
 
 use clap::{Arg, Command};
 use std::alloc::{AllocError, Global};
+
+/// How the program is called.
+pub const HELP: &str = "liftd, the group controller of a lift group
+
+  liftd [replay]
+      carries out the script on standard input
+  liftd format <image> <building> [--half <n>]
+      makes an empty journal of two halves of n sectors, 64 to 1000000 (64)
+  liftd show <image> <building>
+      prints the open calls of a journal
+  liftd serve <image> <building> --port <p> --sessions <n>
+              [--policy etd|fewest|wait]
+      serves kiosks and cars at port p of this machine, until n connections
+      (1 to 1000000) have ended
+
+Status 0: done. 1: a fault, told in a line on standard error, or a bad script.
+2: other words, as these are.
+";
 
 /// A plain word that has to be there.
 fn word<'a>(alloc: Global, name: &'a str) -> Arg<'a>
@@ -50,7 +68,7 @@ fn show_command<'a>(alloc: Global) -> Result<Command<'a>, AllocError>
         .arg(word(alloc, "building"))
 }
 
-/// `serve <image> <building> --port <p> --sessions <n> [--policy etd|fewest|wait]`.
+/// `serve <image> <building> --port <p> --sessions <n> [--policy <name>]`.
 fn serve_command<'a>(alloc: Global) -> Result<Command<'a>, AllocError>
     ensures { IfOk result (IsCommand serve_app) }
 {
