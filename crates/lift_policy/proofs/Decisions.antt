@@ -16,7 +16,7 @@ use Rattle.lift_building.specs.Plan.{Plan}
 use Rattle.lift_register.specs.Register.{last_of}
 use Rattle.lift_policy.specs.Eligible.{Rise, Choice}
 use Rattle.lift_policy.specs.Step.{State, Step, Proceeds, Allots, Repeats, view_of, call_at, cars_for, first_cause, is_new, is_same, next_from}
-use Rattle.lift_policy.specs.Decision.{Decision, Pick, etd_pick, fewest_open_pick, shortest_wait_pick, refusing, allotting, repeating, proceeding, decided_after, decision_by}
+use Rattle.lift_policy.specs.Decision.{Decision, Pick, etd_pick, fewest_open_pick, shortest_wait_pick, refusing, allotting, repeating, proceeding, decision_after, decision_by}
 use Rattle.lift_cost.specs.declared.call.NewCall.{NewCall}
 use Rattle.lift_policy.specs.View.{ViewState}
 use Rattle.lift_policy.specs.Choices.{IsFirstLeast, IsEtdChoice, IsFewestOpen, IsShortestWait, first_least, total_cost_at, open_at, wait_at}
@@ -75,10 +75,10 @@ stepped_computes : (plan : Plan) (choice : Choice) (pick : Pick) → IsPickedBy 
     → HasStepped plan choice state terminal number body reply next → Carries (decision_by pick plan state terminal number body) reply next
 stepped_computes plan choice pick picked state terminal number body reply next (Proceeded none h) =
     carries (proceeding pick plan state terminal number body) _ reply next
-    (sym (ap (λ (c : Option Reason). decided_after c pick plan state terminal number body) none)) (computes plan choice pick picked state terminal number body reply next h)
+    (sym (ap (λ (c : Option Reason). decision_after c pick plan state terminal number body) none)) (computes plan choice pick picked state terminal number body reply next h)
 stepped_computes plan choice pick picked state terminal number body reply next (WasRefused reason cause told is) =
     carries (refusing state reason) _ reply next
-    (sym (ap (λ (c : Option Reason). decided_after c pick plan state terminal number body) cause)) (told, is)
+    (sym (ap (λ (c : Option Reason). decision_after c pick plan state terminal number body) cause)) (told, is)
 
 some_car : (n : ℕ) (new : Bool) → new ≡ true → (new && eqb n 0) ≡ false → 0 < n
 some_car zero true e h = cc
@@ -139,7 +139,7 @@ steps plan choice pick picked state terminal number (Place floor dir) reply next
     (h.1, h.0 ∙ ap (λ (s : State). Placed (next_from s terminal floor dir)) (sym h.1))
 
 decided_steps : (plan : Plan) (choice : Choice) (pick : Pick) → IsPickedBy choice pick → (state : State) (terminal number : ℕ) (body : Body) (reply : Reply) (next : State) (cause : Option Reason)
-    → first_cause plan state terminal number body ≡ cause → Carries (decided_after cause pick plan state terminal number body) reply next
+    → first_cause plan state terminal number body ≡ cause → Carries (decision_after cause pick plan state terminal number body) reply next
     → MatchOption cause (Proceeds plan choice state terminal number body reply next) (λ reason. (reply ≡ Refused reason) × (next ≡ state))
 decided_steps plan choice pick picked state terminal number body reply next None none h =
     steps plan choice pick picked state terminal number body reply next (no_cause plan state terminal number body none) h

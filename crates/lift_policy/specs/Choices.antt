@@ -11,8 +11,8 @@ use Rattle.lift_cost.specs.declared.call.NewCall.{NewCall}
 use Rattle.lift_cost.specs.Cost.{total_cost, arrival_at, new_call_row, with_new_call}
 use Rattle.lift_policy.specs.View.{ViewState, position_of}
 use Rattle.lift_policy.specs.Eligible.{Choice}
-use Rattle.lift_policy.specs.declared.shipped.Shipped.{Shipped}
-use Rattle.lift_policy.specs.declared.shipped.Shipped.TheVariants.{Etd, FewestOpen, ShortestWait}
+use Rattle.lift_policy.specs.declared.policies.Shipped.{Shipped}
+use Rattle.lift_policy.specs.declared.policies.Shipped.TheVariants.{Etd, FewestOpen, ShortestWait}
 
 -- of these cars the one with the least measure; of several such, the one with the lowest letter
 pub record IsFirstLeast (measure : ℕ → ℕ) (eligible : List ℕ) (car : ℕ) : Type 0 where

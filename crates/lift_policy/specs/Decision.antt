@@ -67,15 +67,15 @@ proceeding pick plan state terminal number (Place floor dir) =
       next = with_car_at state terminal floor dir;
     }
 
-abbrev pub decided_after : Option Reason → Pick → Plan → State → ℕ → ℕ → Body → Decision
-decided_after (Some reason) pick plan state terminal number body = refusing state reason
-decided_after None pick plan state terminal number body =
+abbrev pub decision_after : Option Reason → Pick → Plan → State → ℕ → ℕ → Body → Decision
+decision_after (Some reason) pick plan state terminal number body = refusing state reason
+decision_after None pick plan state terminal number body =
     proceeding pick plan state terminal number body
 
 -- the decision on a command, where a policy picks so
 abbrev pub decision_by : Pick → Plan → State → ℕ → ℕ → Body → Decision
 decision_by pick plan state terminal number body =
-    decided_after (first_cause plan state terminal number body) pick plan state terminal number body
+    decision_after (first_cause plan state terminal number body) pick plan state terminal number body
 
 -- what each of the three policies picks: the least measure, and the lowest letter of several
 abbrev pub etd_pick : Pick

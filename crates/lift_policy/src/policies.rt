@@ -1,10 +1,11 @@
-//! The three policies.
-ghost use Rattle.std.specs.Prelude.{ℕ, ◌≡◌, ◌<◌, length};
+//! The three policies, and one of them.
+ghost use Rattle.std.specs.Prelude.{ℕ, ◌≡◌, ◌<◌, List, Contains, length};
 ghost use Rattle.lift_building.specs.Plan.{Plan};
 ghost use Rattle.lift_cost.specs.declared.call.NewCall.{NewCall as Call};
 ghost use Rattle.lift_policy.specs.View.{ViewState, IsViewIn};
 ghost use Rattle.lift_policy.specs.Choices.{IsFirstLeast, cost_at, total_cost_at, wait_at, open_at};
 ghost use Rattle.lift_policy.specs.Choices.{IsEtdChoice, IsFewestOpen, IsShortestWait};
+ghost use Rattle.lift_policy.specs.Choices.{IsShipped, IsShipped-member};
 ghost use Rattle.lift_policy.specs.Least.{IsFirstLeastAt};
 
 use crate::eligible::Eligible;
@@ -28,6 +29,17 @@ pub struct FewestOpen;
 /// Picks the car that is first where the passengers wait.
 #[derive(Clone, Copy)]
 pub struct ShortestWait;
+
+/// One of the three policies.
+#[derive(Clone, Copy)]
+pub enum Shipped {
+    /// The least total cost.
+    Etd(Etd),
+    /// The fewest persons with open calls.
+    FewestOpen(FewestOpen),
+    /// The earliest arrival at the call's floor.
+    ShortestWait(ShortestWait),
+}
 
 /// What a policy measures of each eligible car, to pick the least.
 trait Measure {
@@ -148,4 +160,18 @@ impl Policy for ShortestWait {
     }
 
     ghost only_members = { λ policy plan view call eligible car h. h.member };
+}
+
+impl Policy for Shipped {
+    ghost chooses = { IsShipped };
+
+    fn choose(&self, building: &Building, view: &View, call: NewCall, among: Eligible) -> Letter {
+        match self {
+            Shipped::Etd(policy) => policy.choose(building, view, call, among),
+            Shipped::FewestOpen(policy) => policy.choose(building, view, call, among),
+            Shipped::ShortestWait(policy) => policy.choose(building, view, call, among),
+        }
+    }
+
+    ghost only_members = { IsShipped-member };
 }

@@ -7,7 +7,7 @@ use Rattle.lift_keeper.specs.Keeper.{KeeperView}
 use Rattle.lift_base.specs.Input.{InputState}
 use Rattle.lift_replay.specs.Reading.{IsInputRead}
 use Rattle.lift_policy.specs.Choices.{IsShipped}
-use Rattle.lift_policy.specs.declared.shipped.Shipped.{Shipped}
+use Rattle.lift_policy.specs.declared.policies.Shipped.{Shipped}
 use Rattle.lift_serve.specs.Open.{ServingEndState}
 use Rattle.lift_serve.specs.lemmas.Opened.{keeps_over}
 use Rattle.lift_program.proofs.Writing.{said_front}

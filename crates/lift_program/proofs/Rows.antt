@@ -7,7 +7,7 @@ use Rattle.clap.specs.Words.{Row, Text, first_of, first_value, rows_of}
 use Rattle.clap.specs.declared.parser.matches.Found.{Found}
 use Rattle.clap.proofs.WalkLemmas.{first_value-rows}
 use Rattle.lift_program.specs.Words.{AsksNothing, IsCount, IsFormat, IsHalf, IsOver, IsPolicy, IsServe, IsShow}
-use Rattle.lift_policy.specs.declared.shipped.Shipped.{Shipped}
+use Rattle.lift_policy.specs.declared.policies.Shipped.{Shipped}
 use Rattle.lift_program.specs.declared.words.Request.TheVariants.{Replay, Format, Show, Serve}
 
 pub if_none : {A : Type 0} (r : Option A) (P : Type 0) → P → IfNone r P

@@ -14,7 +14,7 @@ use Rattle.lift_journal.specs.Calls.{StopsIn, format_calls}
 use Rattle.lift_journal.specs.declared.fault.JournalFault.TheVariants.{Disk}
 use Rattle.lift_keeper.specs.Keeper.{KeeperView}
 use Rattle.lift_keeper.specs.declared.fault.KeeperFault.TheVariants.{Journal as OfJournal}
-use Rattle.lift_policy.specs.declared.shipped.Shipped.{Shipped}
+use Rattle.lift_policy.specs.declared.policies.Shipped.{Shipped}
 use Rattle.lift_register.specs.Register.{empty}
 use Rattle.lift_clerk.specs.Keeping.{KeepsFront}
 use Rattle.lift_replay.specs.declared.lines.Verdict.{Verdict}

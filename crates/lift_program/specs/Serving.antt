@@ -8,7 +8,7 @@ use Rattle.lift_program.specs.Images.{CommandFiles}
 use Rattle.lift_keeper.specs.Keeper.{KeeperView}
 use Rattle.lift_register.specs.Register.{RegisterState}
 use Rattle.lift_policy.specs.Choices.{IsShipped}
-use Rattle.lift_policy.specs.declared.shipped.Shipped.{Shipped}
+use Rattle.lift_policy.specs.declared.policies.Shipped.{Shipped}
 use Rattle.lift_world.specs.declared.event.Taken.{Taken}
 use Rattle.lift_clerk.specs.Keeping.{KeepsFront}
 use Rattle.lift_serve.specs.Keeping.{KeepsOver}

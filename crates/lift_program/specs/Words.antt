@@ -6,8 +6,8 @@ use Rattle.clap.specs.Words.{with_rule, with_subcommand, first_of, fault_of}
 use Rattle.clap.specs.Words.{subcommand_of, subcommand_rows_of}
 use Rattle.clap.specs.declared.builder.command.Command.{Command}
 use Rattle.clap.specs.declared.parser.matches.ArgMatches.{ArgMatches}
-use Rattle.lift_policy.specs.declared.shipped.Shipped.{Shipped}
-use Rattle.lift_policy.specs.declared.shipped.Shipped.TheVariants.{Etd, FewestOpen, ShortestWait}
+use Rattle.lift_policy.specs.declared.policies.Shipped.{Shipped}
+use Rattle.lift_policy.specs.declared.policies.Shipped.TheVariants.{Etd, FewestOpen, ShortestWait}
 use Rattle.lift_program.specs.declared.words.Request.{Request}
 use Rattle.lift_program.specs.declared.words.Request.TheVariants.{Replay, Format, Show, Serve}
 

@@ -5,7 +5,7 @@ ghost use Rattle.clap.specs.Words.{Text, rows_of, found_of, subcommand_rows_of};
 ghost use Rattle.lift_program.specs.Words.{AskForRequest, AsksForHelp, AsksNothing, IsCount, IsFor};
 ghost use Rattle.lift_program.specs.Words.{IsFormat, IsShow, IsHalf, IsRequestInRange, IsOver};
 ghost use Rattle.lift_program.specs.Words.{IsPolicy, IsPolicyWord, IsServe};
-ghost use Rattle.lift_policy.specs.declared.shipped.Shipped.{Shipped as ShippedValue};
+ghost use Rattle.lift_policy.specs.declared.policies.Shipped.{Shipped as ShippedValue};
 
 use crate::refused::{NoMemory, matches_of};
 use clap::ArgMatches;

@@ -12,7 +12,8 @@ use Rattle.lift_world.specs.declared.event.Taken.{Taken}
 use Rattle.lift_world.specs.declared.event.Event.{Event}
 use Rattle.lift_world.specs.declared.event.Event.TheVariants.{Ask, Take, Seal, Pull, Fold, Body as BodyWrite, FirstSync, Gate, SecondSync, Answer as Answering, Hear, Fault, Cut, Reopen}
 use Rattle.lift_world.specs.declared.event.Phase.TheVariants.{Writing, Synced, GateWritten}
-use Rattle.lift_world.specs.Decided.{Decision, when, decided}
+use Rattle.lift_policy.specs.Decision.{Decision}
+use Rattle.lift_world.specs.Decided.{when, decided}
 use Rattle.lift_world.specs.World.{World, SealedBatch, is_running, is_broken, is_off, is_idle, is_synced, is_gate_written, written, is_taken_of, is_answer_to, asks, batch_in_flight, state_of}
 use Rattle.lift_world.specs.Next.{next, taking, deciding, sealing, unanswered, unknown_to, answer_of, may_take, pulled, may_pull, in_phase, settling, failing, answering, sectors_for_body, may_write, may_sync, may_fail}
 use Rattle.lift_world.specs.Possible.{CanBeLookedAt}

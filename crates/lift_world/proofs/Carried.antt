@@ -20,7 +20,8 @@ use Rattle.lift_policy.specs.Step.{State, first_cause, accepting, with_car_at, n
 use Rattle.lift_policy.specs.declared.verdict.Verdict.TheVariants.{RepeatedStop, Place as Places}
 use Rattle.lift_policy.specs.declared.command.Command.{Command}
 use Rattle.lift_world.specs.declared.decide.Decided.{Decided}
-use Rattle.lift_world.specs.Decided.{Decision, proceeding, decided, decided_after}
+use Rattle.lift_policy.specs.Decision.{Decision}
+use Rattle.lift_world.specs.Decided.{proceeded, decided, decided_after}
 use Rattle.lift_world.specs.Carries.{CarriesDecision, CarriesOut, IsVerdictOf, state_with}
 use Rattle.lift_world.specs.World.{World, state_of}
 use Rattle.lift_world.specs.Next.{taking, deciding}
@@ -30,10 +31,10 @@ use Rattle.lift_world.proofs.Consistent.{fit_more, accepted_after}
 
 -- a command without a cause is decided by what it says
 decided_as : (building : Plan) (state : State) (terminal number : ℕ) (body said : Body) (letter : Option ℕ) → None ≡ first_cause building state terminal number body → body ≡ said
-    → decided building state terminal number body letter ≡ proceeding building state terminal number said letter
+    → decided building state terminal number body letter ≡ proceeded building state terminal number said letter
 decided_as building state terminal number body said letter clear is =
     ap (λ (o : Option Reason). decided_after o building state terminal number body letter) (sym clear)
-    ∙ ap (λ (b : Body). proceeding building state terminal number b letter) is
+    ∙ ap (λ (b : Body). proceeded building state terminal number b letter) is
 
 -- how a command is carried out whose car only stands somewhere
 module _ (building : Plan) (register : RegisterState) (positions : List (Option Position)) (command : Command) where

@@ -19,7 +19,8 @@ use Rattle.lift_world.specs.declared.event.Event.{Event}
 use Rattle.lift_world.specs.declared.event.Event.TheVariants.{Ask, Take, Seal, Pull, Fold, Body as BodyWrite, FirstSync, Gate, SecondSync, Answer as Answering, Hear, Fault, Cut, Reopen}
 use Rattle.lift_world.specs.declared.event.Phase.{Phase}
 use Rattle.lift_world.specs.declared.event.Phase.TheVariants.{Writing, Synced, GateWritten}
-use Rattle.lift_world.specs.Decided.{Decision, when, decided}
+use Rattle.lift_policy.specs.Decision.{Decision}
+use Rattle.lift_world.specs.Decided.{when, decided}
 use Rattle.lift_world.specs.World.{World, SealedBatch, no_batch, start, outcome, batch_in_flight, state_of, acknowledged, told_in, is_running, is_broken, is_off, asks, is_taken_of, may_keep, written, is_idle, is_synced, is_gate_written}
 use Rattle.lift_world.specs.Next.{run, next, unknown_to, deciding, taking, asking, sealing, pulled, in_phase, settling, failing, answering, hearing, cutting, reopened, may_ask, may_take, may_seal, may_pull, may_write, may_sync, may_fail, may_reopen, next_answer}
 use Rattle.lift_world.specs.Headline.{RecoversAcknowledged, IsHeld, IsOfBuilding}

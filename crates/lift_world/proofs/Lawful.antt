@@ -24,7 +24,8 @@ use Rattle.lift_policy.specs.lemmas.Joins.{Step-joins}
 use Rattle.lift_world.specs.declared.event.Kept.{Kept}
 use Rattle.lift_world.specs.declared.event.Kept.TheVariants.{Safe, WithBatch}
 use Rattle.lift_world.specs.declared.event.Event.{Event}
-use Rattle.lift_world.specs.Decided.{Decision, decided}
+use Rattle.lift_policy.specs.Decision.{Decision}
+use Rattle.lift_world.specs.Decided.{decided}
 use Rattle.lift_world.specs.World.{World, start, state_of, outcome, asks}
 use Rattle.lift_world.specs.Next.{run, next}
 use Rattle.lift_world.specs.Tie.{naming}

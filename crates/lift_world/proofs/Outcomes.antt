@@ -14,7 +14,8 @@ use Rattle.lift_world.specs.declared.event.Power.{Power}
 use Rattle.lift_world.specs.declared.event.Power.TheVariants.{Running, Broken, Off}
 use Rattle.lift_world.specs.declared.event.Event.{Event}
 use Rattle.lift_world.specs.declared.event.Event.TheVariants.{Ask, Take, Seal, Pull, Fold, Body as BodyWrite, FirstSync, Gate, SecondSync, Answer as Answering, Hear, Fault, Cut, Reopen}
-use Rattle.lift_world.specs.Decided.{Decision, decided, when}
+use Rattle.lift_policy.specs.Decision.{Decision}
+use Rattle.lift_world.specs.Decided.{decided, when}
 use Rattle.lift_world.specs.World.{World, SealedBatch, is_running, is_broken, is_off, is_idle, is_synced, is_gate_written, written, same_kept, asks, is_taken_of, state_of, safe_list, batch_in_flight, may_keep, outcome}
 use Rattle.lift_world.specs.Next.{next, unknown_to, asking, taking, deciding, sealing, pulled, in_phase, settling, failing, answering, hearing, next_answer, cutting, reopened, is_empty, is_quiet, may_ask, may_take, may_seal, may_pull, may_write, may_sync, may_fail, may_reopen}
 use Rattle.lift_world.specs.Relay.{IsQueueInOrder, flown}

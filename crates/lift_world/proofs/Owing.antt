@@ -7,7 +7,7 @@ use Rattle.lift_policy.specs.declared.command.Command.{Command}
 use Rattle.lift_world.specs.declared.event.Taken.{Taken}
 use Rattle.lift_world.specs.declared.event.Event.{Event}
 use Rattle.lift_world.specs.declared.event.Event.TheVariants.{Take}
-use Rattle.lift_world.specs.Decided.{Decision}
+use Rattle.lift_policy.specs.Decision.{Decision}
 use Rattle.lift_world.specs.World.{World, SealedBatch, asks, is_taken_of}
 use Rattle.lift_world.specs.Next.{next, unknown_to, unanswered, deciding, may_take}
 use Rattle.lift_world.specs.lemmas.Counted.{count_cons, count_both, owed, owed_unknown, owed_none, owed_parts, owed_others, in_queue, owed_to}

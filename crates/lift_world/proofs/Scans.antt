@@ -13,7 +13,7 @@ use Rattle.lift_policy.specs.Eligible.{any_eligible}
 use Rattle.lift_policy.specs.Step.{State}
 use Rattle.lift_policy.specs.Run.{Run}
 use Rattle.lift_world.specs.declared.event.Taken.{Taken}
-use Rattle.lift_world.specs.Decided.{Decision}
+use Rattle.lift_policy.specs.Decision.{Decision}
 use Rattle.lift_world.specs.World.{World, SealedBatch, is_off, state_of, is_taken_of, is_answer_to, asks}
 use Rattle.lift_world.specs.Next.{deciding, is_waiting, unanswered}
 use Rattle.lift_world.specs.Tie.{TakeFinds}

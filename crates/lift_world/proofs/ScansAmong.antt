@@ -15,7 +15,7 @@ use Rattle.lift_policy.specs.declared.command.Command.{Command}
 use Rattle.lift_world.specs.declared.event.Taken.{Taken}
 use Rattle.lift_world.specs.declared.event.Event.{Event}
 use Rattle.lift_world.specs.declared.event.Event.TheVariants.{Ask, Take, Seal, Pull, Fold, Body as BodyWrite, FirstSync, Gate, SecondSync, Answer as Answering, Hear, Fault, Cut, Reopen}
-use Rattle.lift_world.specs.Decided.{Decision}
+use Rattle.lift_policy.specs.Decision.{Decision}
 use Rattle.lift_world.specs.World.{World, is_off, state_of, state_at}
 use Rattle.lift_world.specs.Next.{next, goes, asking, hearing, next_answer, deciding, sealing, may_ask}
 use Rattle.lift_world.specs.Turns.{with_replies, scanned}

@@ -8,7 +8,8 @@ use Rattle.lift_policy.specs.declared.command.Command.{Command}
 use Rattle.lift_world.specs.declared.event.Event.{Event}
 use Rattle.lift_world.specs.declared.event.Event.TheVariants.{Ask, Take, Seal, Pull, Fold, Body as BodyWrite, FirstSync, Gate, SecondSync, Answer as Answering, Hear, Fault, Cut, Reopen}
 use Rattle.lift_world.specs.declared.event.Phase.TheVariants.{Writing, Synced, GateWritten}
-use Rattle.lift_world.specs.Decided.{Decision, when, decided}
+use Rattle.lift_policy.specs.Decision.{Decision}
+use Rattle.lift_world.specs.Decided.{when, decided}
 use Rattle.lift_world.specs.World.{World, SealedBatch, start, is_taken_of, asks, written, is_running, is_broken, is_off, is_synced, is_gate_written, state_of, may_keep}
 use Rattle.lift_world.specs.Next.{run, next, next_answer, hearing, answering, asking, taking, deciding, sealing, pulled, in_phase, settling, failing, cutting, reopened, unknown_to, may_ask, may_take, may_seal, may_pull, may_write, may_sync, may_fail, may_reopen}
 use Rattle.lift_world.specs.Headline.{SealsAccepted}

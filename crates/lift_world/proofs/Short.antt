@@ -13,7 +13,8 @@ use Rattle.lift_world.specs.declared.event.Taken.{Taken}
 use Rattle.lift_world.specs.declared.event.Event.{Event}
 use Rattle.lift_world.specs.declared.event.Phase.{Phase}
 use Rattle.lift_world.specs.declared.event.Power.{Power}
-use Rattle.lift_world.specs.Decided.{Decision, decided}
+use Rattle.lift_policy.specs.Decision.{Decision}
+use Rattle.lift_world.specs.Decided.{decided}
 use Rattle.lift_world.specs.World.{World, SealedBatch, start, is_idle, is_off, is_running, state_of, batch_in_flight}
 use Rattle.lift_world.specs.Next.{run, next}
 use Rattle.lift_world.specs.Headline.{IsOfTerminal, HoldsFew}

@@ -9,7 +9,8 @@ use Rattle.lift_policy.specs.Step.{State}
 use Rattle.lift_policy.specs.Verdict.{IsVerdict}
 use Rattle.lift_policy.specs.declared.verdict.Verdict.{Verdict}
 use Rattle.lift_policy.specs.declared.command.Command.{Command}
-use Rattle.lift_world.specs.Decided.{Decision, decided}
+use Rattle.lift_policy.specs.Decision.{Decision}
+use Rattle.lift_world.specs.Decided.{decided}
 use Rattle.lift_world.specs.declared.decide.Decided.{Decided}
 
 abbrev pub state_with : RegisterState → List (Option Position) → List Entry → State

@@ -14,13 +14,9 @@ use Rattle.lift_base.specs.declared.command.Reply.TheVariants.{Car, Stopped, Pla
 use Rattle.lift_building.specs.Plan.{Plan}
 use Rattle.lift_register.specs.Register.{last_of}
 use Rattle.lift_policy.specs.Terminals.{kiosk_floor}
+use Rattle.lift_policy.specs.Decision.{Decision}
 use Rattle.lift_policy.specs.Step.{State, cars_for, is_new, first_cause, accepting, with_car_at}
 use Rattle.lift_policy.specs.Step.{stopping, next_from}
-
--- a reply and the state after it
-pub record Decision : Type 0 where
-  pub reply : Reply
-  pub next : State
 
 abbrev pub when : {A : Type 0} → Bool → A → Option A
 when {A} test value = if test then Some value else None
@@ -53,19 +49,19 @@ repeated state terminal =
     (kept_letter (last_of state.register terminal))
 
 -- a command without a cause of refusal
-abbrev pub proceeding : Plan → State → ℕ → ℕ → Body → Option ℕ → Option Decision
-proceeding building state terminal number (Call to party) letter =
+abbrev pub proceeded : Plan → State → ℕ → ℕ → Body → Option ℕ → Option Decision
+proceeded building state terminal number (Call to party) letter =
     if is_new state terminal number
     then option_and_then (allotted building state terminal number to party) letter
     else (if is_none letter then repeated state terminal else None)
-proceeding building state terminal number (Stop floor dir) letter =
+proceeded building state terminal number (Stop floor dir) letter =
     when (is_none letter)
     (record {
       reply = Stopped
           (next_from (stopping state terminal number floor dir) terminal floor dir);
       next = stopping state terminal number floor dir;
     })
-proceeding building state terminal number (Place floor dir) letter =
+proceeded building state terminal number (Place floor dir) letter =
     when (is_none letter)
     (record {
       reply = Placed (next_from (with_car_at state terminal floor dir) terminal floor dir);
@@ -76,7 +72,7 @@ abbrev pub decided_after : Option Reason → Plan → State → ℕ → ℕ → 
 decided_after (Some reason) building state terminal number body letter =
     when (is_none letter) (record { reply = Refused reason; next = state })
 decided_after None building state terminal number body letter =
-    proceeding building state terminal number body letter
+    proceeded building state terminal number body letter
 
 -- the decision, where this letter fits it: an eligible car for a new call, none for any other
 -- command

@@ -18,7 +18,8 @@ use Rattle.lift_world.specs.declared.event.Event.TheVariants.{Ask, Take, Seal, P
 use Rattle.lift_world.specs.declared.event.Event.TheVariants.{Body as BodyWrite, FirstSync, Gate}
 use Rattle.lift_world.specs.declared.event.Event.TheVariants.{SecondSync, Answer as Answering, Hear}
 use Rattle.lift_world.specs.declared.event.Event.TheVariants.{Fault, Cut, Reopen}
-use Rattle.lift_world.specs.Decided.{Decision, decided, when}
+use Rattle.lift_policy.specs.Decision.{Decision}
+use Rattle.lift_world.specs.Decided.{decided, when}
 use Rattle.lift_world.specs.World.{World, SealedBatch, no_batch, unplaced, is_running, is_broken}
 use Rattle.lift_world.specs.World.{is_off, is_idle, is_synced, is_gate_written, written, same_kept}
 use Rattle.lift_world.specs.World.{asks, is_taken_of, is_answer_to, state_of, batch_in_flight}

@@ -16,7 +16,7 @@ use Rattle.lift_world.specs.declared.event.Taken.{Taken}
 use Rattle.lift_world.specs.declared.event.Phase.{Phase}
 use Rattle.lift_world.specs.declared.event.Phase.TheVariants.{Idle}
 use Rattle.lift_world.specs.declared.event.Power.TheVariants.{Running, Broken}
-use Rattle.lift_world.specs.Decided.{Decision}
+use Rattle.lift_policy.specs.Decision.{Decision}
 use Rattle.lift_world.specs.World.{World, SealedBatch, no_batch, state_of, is_idle, is_running}
 use Rattle.lift_world.specs.Next.{next, goes, sectors_for_body, answer_of, unknown_to, unanswered}
 use Rattle.lift_world.specs.Next.{deciding, sealing}

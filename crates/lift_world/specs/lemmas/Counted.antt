@@ -16,7 +16,7 @@ use Rattle.lift_world.specs.World.{World, SealedBatch, start, is_off, asks, is_t
 use Rattle.lift_world.specs.World.{is_answer_to}
 use Rattle.lift_world.specs.Next.{run, next, others, unanswered, unknown_to, answering, answer_of}
 use Rattle.lift_world.specs.Next.{may_take, deciding}
-use Rattle.lift_world.specs.Decided.{Decision}
+use Rattle.lift_policy.specs.Decision.{Decision}
 use Rattle.lift_world.specs.Headline.{HearsInOrder, AllAskOneByOne}
 use Rattle.lift_world.specs.lemmas.Decisions.{some_is}
 use Rattle.lift_world.specs.lemmas.Entries.{find_held}

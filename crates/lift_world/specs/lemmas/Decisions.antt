@@ -35,8 +35,9 @@ use Rattle.lift_policy.specs.Step.{State, first_cause, is_new, is_same, is_kept}
 use Rattle.lift_policy.specs.Step.{accepting, with_car_at, next_from, cars_for}
 use Rattle.lift_policy.specs.lemmas.Steps.{NoCause, no_cause, is_last, kept_at, kept_some}
 use Rattle.lift_policy.specs.lemmas.Joins.{serves_car, call_fits, stop_fits}
-use Rattle.lift_world.specs.Decided.{Decision, when, letter_in, kept_letter, is_among, allotted}
-use Rattle.lift_world.specs.Decided.{repeated, proceeding, decided, decided_after}
+use Rattle.lift_policy.specs.Decision.{Decision}
+use Rattle.lift_world.specs.Decided.{when, letter_in, kept_letter, is_among, allotted}
+use Rattle.lift_world.specs.Decided.{repeated, proceeded, decided, decided_after}
 use Rattle.lift_world.specs.World.{told_by, state_at}
 use Rattle.lift_world.specs.Headline.{IsHeld, WasLast, IsOfBuilding}
 use Rattle.lift_world.specs.Replays.{FitAfter}
@@ -360,7 +361,7 @@ module _ (building : Plan) (sound : IsBuilding building) (base : RegisterState) 
 
   proceeds_well : (body : Body) (letter : Option ℕ) (d : Decision)
       → NoCause building here terminal number body
-      → proceeding building here terminal number body letter ≡ Some d
+      → proceeded building here terminal number body letter ≡ Some d
       → DecidesWell building base accepted sealed terminal number body d
   proceeds_well (Call to party) letter d clear h =
       call_well to party letter d (is_new here terminal number) clear refl h

@@ -16,7 +16,8 @@ use Rattle.lift_world.specs.declared.event.Event.TheVariants.{Ask, Take, Seal, P
 use Rattle.lift_world.specs.declared.event.Event.TheVariants.{Body as BodyWrite, FirstSync, Gate}
 use Rattle.lift_world.specs.declared.event.Event.TheVariants.{SecondSync, Answer as Answering, Hear}
 use Rattle.lift_world.specs.declared.event.Event.TheVariants.{Fault, Cut, Reopen}
-use Rattle.lift_world.specs.Decided.{Decision, when, decided}
+use Rattle.lift_policy.specs.Decision.{Decision}
+use Rattle.lift_world.specs.Decided.{when, decided}
 use Rattle.lift_world.specs.World.{World, SealedBatch, is_running, is_broken, is_off, is_idle}
 use Rattle.lift_world.specs.World.{is_synced, is_gate_written, written, asks, is_taken_of, state_of}
 use Rattle.lift_world.specs.World.{may_keep}

@@ -27,8 +27,9 @@ use Rattle.lift_policy.specs.Step.{State, Step, Proceeds, Allots, Repeats, first
 use Rattle.lift_policy.specs.Step.{is_same, is_kept, accepting, stopping, with_car_at, next_from}
 use Rattle.lift_policy.specs.Step.{cars_for}
 use Rattle.lift_world.specs.declared.event.Event.TheVariants.{Take}
-use Rattle.lift_world.specs.Decided.{Decision, when, letter_in, kept_letter, is_among, allotted}
-use Rattle.lift_world.specs.Decided.{repeated, proceeding, decided, decided_after}
+use Rattle.lift_policy.specs.Decision.{Decision}
+use Rattle.lift_world.specs.Decided.{when, letter_in, kept_letter, is_among, allotted}
+use Rattle.lift_world.specs.Decided.{repeated, proceeded, decided, decided_after}
 use Rattle.lift_world.specs.World.{World, state_of, asks}
 use Rattle.lift_world.specs.Next.{next, taking, deciding, may_take}
 use Rattle.lift_world.specs.Tie.{naming, TakesAreSteps, StepsAreTakes}
@@ -137,7 +138,7 @@ module _ (building : Plan) (state : State) (terminal number : ℕ) where
 
   proceeds_step : (body : Body) (letter : Option ℕ) (d : Decision)
       → NoCause building state terminal number body
-      → proceeding building state terminal number body letter ≡ Some d
+      → proceeded building state terminal number body letter ≡ Some d
       → Proceeds building (naming letter) state terminal number body d.reply d.next
   proceeds_step (Call to party) letter d clear h =
       call_step to party letter d (is_new state terminal number) clear refl h
@@ -207,7 +208,7 @@ module _ (building : Plan) (state : State) (terminal number : ℕ) where
 
   proceeds_back : (choice : Choice) (body : Body) (reply : Reply) (next : State)
       → Proceeds building choice state terminal number body reply next
-      → (letter : Option ℕ) × (proceeding building state terminal number body letter
+      → (letter : Option ℕ) × (proceeded building state terminal number body letter
       ≡ Some (record { reply = reply; next = next }))
   proceeds_back choice (Call to party) reply next h =
       call_back choice to party reply next (is_new state terminal number) refl h
