@@ -29,7 +29,7 @@ use Rattle.lift_program.specs.Images.{CommandFiles}
 use Rattle.lift_program.specs.Showing.{IsShown, ShowsPart}
 use Rattle.lift_program.specs.Stages.{HasBuilding, IsBuildingFault, IsLeftAs, IsNoImage}
 use Rattle.lift_program.specs.Stages.{IsOpeningFault}
-use Rattle.lift_program.specs.Words.{AskForRequest, AsksForHelp}
+use Rattle.lift_program.specs.Words.{AskForRequest, AsksForHelp, help_text}
 use Rattle.lift_program.specs.declared.fault.Fault.{Fault}
 use Rattle.lift_program.specs.declared.fault.Fault.TheVariants.{Building, Journal, File, Memory}
 use Rattle.lift_program.specs.declared.fault.Fault.TheVariants.{Network, Thread}
