@@ -64,3 +64,25 @@ fn an_answer_ends_one_rest(rt: HostRuntime) -> Result<(), Fail> {
     assert!(rt; shortest < Duration::from_millis(1));
     Ok(())
 }
+
+/// A rest whose answer doesn't come ends by itself, and takes no longer than it should. Each may
+/// take longer where other threads run, but not all of them ten times as long.
+#[test]
+fn a_rest_waits_for_no_answer(rt: HostRuntime) -> Result<(), Fail> {
+    let DeskParts {
+        desk,
+        mut seats,
+        clerk: _,
+    } = Desk::open(rt.alloc(), 1).ok().ok_or("memory")?;
+    let seat = only_seat(&desk, &mut seats);
+    let port = DeskPort::new(&desk, seat);
+    let pager = Pager::new(Terminal::default());
+    let _told = pager.asked(&port);
+    assert!(rt; pager.scan_begins(1));
+    let mut shortest = rest(&rt, &pager)?;
+    for _ in 1..RESTS {
+        shortest = shortest.min(rest(&rt, &pager)?);
+    }
+    assert!(rt; shortest < Duration::from_millis(10));
+    Ok(())
+}
