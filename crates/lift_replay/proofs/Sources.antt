@@ -6,6 +6,7 @@ use Rattle.std.proofs.lemmas.List.{append_assoc, append-nil, flat_map_more}
 use Rattle.std.proofs.lemmas.List.Elements.{All-append, All-cons, All-nil}
 use Rattle.std.proofs.lemmas.List.Splits.{slice_split_none, slice_split_at, length-slice_split}
 use Rattle.std.specs.List.{slice_split}
+use Rattle.std.specs.Prelude.{codes}
 use Rattle.std.specs.Str.Lines.{lines, lines_of_parts, strip_carriage_return}
 use Rattle.lift_replay.specs.Source.{IsScript, LacksDivider, divider, ended}
 
@@ -25,30 +26,19 @@ more_parts x [] some = absurd (omega arith)
 more_parts x (y ∷ more) some = refl
 
 -- what stands before the first end of a line is the first line
-cut_line : (text line behind : List ℕ) → text ≡ line ++ (10 ∷ behind) → All (λ b. b ≢ 10) line → lines text ≡ strip_carriage_return line ∷ lines behind
+pub cut_line : (text line behind : List ℕ) → text ≡ line ++ (10 ∷ behind) → All (λ b. b ≢ 10) line → lines text ≡ strip_carriage_return line ∷ lines behind
 cut_line text line behind is free =
     ap lines is ∙ ap lines_of_parts (slice_split_at is_end line 10 behind (no_end line free) refl)
     ∙ more_parts line (slice_split is_end behind) (omega (arith, length-slice_split is_end behind))
 
-whole : (line : List ℕ) → ((front : List ℕ) → line ≢ front ++ (13 ∷ [])) → strip_carriage_return line ≡ line
-whole [] none = refl
-whole (b ∷ line) none =
-    ap (λ t. cond t (take (length (b ∷ line) - 1) (b ∷ line)) (b ∷ line))
-    (ne_eqb _ 13 (λ e. none (take (length (b ∷ line) - 1) (b ∷ line)) (let last : get_or (b ∷ line) (length (b ∷ line) - 1) 0 ≡ 13 = e in grind (arith, common_steps))))
-
-stripped : (line front : List ℕ) → line ≡ front ++ (13 ∷ []) → strip_carriage_return line ≡ front
-stripped line front e =
-    let last : get_or line (length line - 1) 0 ≡ 13 = grind (arith, common_steps) in
-    let before : take (length line - 1) line ≡ front = grind (arith, common_steps) in
-    ap (λ t. cond t (take (length line - 1) line) line) (eq-eqb _ 13 last) ∙ before
-
-pub whole_line : (text line behind : List ℕ) → text ≡ line ++ (10 ∷ behind) → All (λ b. b ≢ 10) line
-    → ((front : List ℕ) → line ≢ front ++ (13 ∷ [])) → lines text ≡ line ∷ lines behind
-whole_line text line behind cut free none = cut_line text line behind cut free ∙ ap (λ first. first ∷ lines behind) (whole line none)
-
-pub stripped_line : (text line front behind : List ℕ) → text ≡ line ++ (10 ∷ behind) → All (λ b. b ≢ 10) line
-    → line ≡ front ++ (13 ∷ []) → lines text ≡ front ∷ lines behind
-stripped_line text line front behind cut free e = cut_line text line behind cut free ∙ ap (λ first. first ∷ lines behind) (stripped line front e)
+-- a turn that is found at once
+pub turn_line : (text behind : List ℕ) → text ≡ codes "turn\n" ++ behind → lines text ≡ codes "turn" ∷ lines behind
+turn_line text behind is =
+    cut_line text (codes "turn") behind is
+    (All-cons (λ b. b ≢ 10) 116 (117 ∷ 114 ∷ 110 ∷ []) (λ e. omega (arith, e))
+    (All-cons (λ b. b ≢ 10) 117 (114 ∷ 110 ∷ []) (λ e. omega (arith, e))
+    (All-cons (λ b. b ≢ 10) 114 (110 ∷ []) (λ e. omega (arith, e))
+    (All-cons (λ b. b ≢ 10) 110 [] (λ e. omega (arith, e)) (All-nil (λ b. b ≢ 10))))))
 
 -- so far no line is a divider
 abbrev pub Above : (text rest building : List ℕ) → Type 0

@@ -1,10 +1,11 @@
 //! The text of a script: its building, and its lines.
 
 ghost use Rattle.std.specs.Prelude.{◌≡◌, ◌≢◌, ◌<◌, ◌≤◌, ◌+◌, ◌^◌, ◌∷◌, ◌++◌, [], All, length};
-ghost use Rattle.std.specs.Prelude.{string_bytes, IfSome, IfNone, IfOk};
-ghost use Rattle.std.specs.Str.Lines.{lines};
+ghost use Rattle.std.specs.Prelude.{string_bytes, codes, IfSome, IfNone, IfOk};
+ghost use Rattle.std.specs.Str.Lines.{lines, strip_carriage_return};
 ghost use Rattle.lift_replay.specs.Source.{IsScript, LacksDivider};
 
+use crate::frequent::behind;
 use crate::refused::{NoMemory, add, add_char};
 use memchr::memchr;
 use std::alloc::Global;
@@ -19,6 +20,25 @@ fn split_at_end(text: &str) -> Option<(&str, &str)>
     Some((&text[..place], &text[place + 1..]))
 }
 
+/// What stands after a turn, none where the text doesn't begin with one.
+fn behind_turn(text: &str) -> Option<&str>
+    ensures { IfSome result (λ rest. text.now ≡ codes "turn\n" ++ rest.now) }
+{
+    behind(text.as_bytes(), b"turn\n")?;
+    Some(&text[5..])
+}
+
+/// The line without the carriage return that it may end with.
+fn without_return(line: &str) -> &str
+    ensures { result.now ≡ strip_carriage_return line.now }
+{
+    let len = line.len();
+    if len > 0 && line.as_bytes()[len - 1] == b'\r' {
+        return &line[..len - 1];
+    }
+    line
+}
+
 /// A line without its end (a line feed, with a carriage return before it or none), and what stands
 /// after it; none where the text is at its end. The last line may lack its end.
 fn next_line(text: &str) -> Option<(&str, &str)>
@@ -29,12 +49,13 @@ fn next_line(text: &str) -> Option<(&str, &str)>
     if text.is_empty() {
         return None;
     }
+    // The most frequent line is found without a search.
+    if let Some(behind) = behind_turn(text) {
+        return Some(("turn", behind));
+    }
     match split_at_end(text) {
         None => Some((text, "")),
-        Some((line, behind)) => match line.strip_suffix('\r') {
-            None => Some((line, behind)),
-            Some(line) => Some((line, behind)),
-        },
+        Some((line, behind)) => Some((without_return(line), behind)),
     }
 }
 
