@@ -77,6 +77,19 @@ impl<'d, 'b> Group<'d, 'b> {
         }
     }
 
+    /// Both parts after a turn, and what it came to.
+    pub(crate) fn turned<R: Wait>(
+        self,
+        rt: &R,
+        alloc: Global,
+    ) -> Result<(Relay<'d, 'b>, Result<Counts, KeeperFault>), Trouble> {
+        let mut relay = self.parted(alloc)?;
+        match relay.turn(rt) {
+            Ok(turned) => Ok((relay, turned)),
+            Err(trouble) => Err(trouble),
+        }
+    }
+
     /// The clerk, as it is, or that of both parts.
     pub(crate) fn joined(self) -> Result<Clerk<'d, 'b, FuseDisk, Etd>, Trouble> {
         match self {

@@ -1,5 +1,5 @@
 //! What a line of a script does to the terminals and the group at a desk.
-ghost use Rattle.std.specs.Prelude.{◌≡◌, ◌+◌, length};
+ghost use Rattle.std.specs.Prelude.{◌≡◌, ◌<◌, ◌+◌, length};
 
 use crate::group::Group;
 use crate::shows::{show_costs, show_rows, show_stops};
@@ -84,6 +84,13 @@ impl<'d, 'b> Station<'d, 'b> {
         }
     }
 
+    /// A terminal of the building asks.
+    fn ask_at(&mut self, terminal: Terminal, number: Number, body: Body) -> Result<(), AskRefusal>
+        requires { terminal < 16 + length self.old.building.now.kiosks }
+    {
+        self.terminals.ask(terminal, number, body)
+    }
+
     /// A terminal asks, or the report tells why it can't.
     fn ask(
         &mut self,
@@ -95,7 +102,7 @@ impl<'d, 'b> Station<'d, 'b> {
         if terminal.get() >= 16 + self.building.kiosks() {
             return Err(Trouble::Lacking);
         }
-        match self.terminals.ask(terminal, number, body) {
+        match self.ask_at(terminal, number, body) {
             Ok(()) => {}
             Err(AskRefusal::Waiting) => push_waiting(report, terminal, number)?,
             Err(AskRefusal::Spent) => push_spent(report, terminal, number)?,
@@ -149,10 +156,11 @@ impl<'d, 'b> Station<'d, 'b> {
         report: &mut String,
         group: Group<'d, 'b>,
     ) -> Result<Group<'d, 'b>, Trouble> {
-        let mut relay = group.parted(alloc)?;
-        let turned = relay.turn(rt)?;
-        self.push_turned(report, turned)?;
-        Ok(Group::Split(relay))
+        let (relay, turned) = group.turned(rt, alloc)?;
+        match self.push_turned(report, turned) {
+            Ok(()) => Ok(Group::Split(relay)),
+            Err(trouble) => Err(trouble),
+        }
     }
 
     fn carry_out<R: Wait>(
