@@ -22,19 +22,42 @@ pub(crate) struct Relay<'d, 'b> {
 }
 
 impl<'d, 'b> Relay<'d, 'b> {
+    fn of(alloc: Global, clerk: Clerk<'d, 'b, FuseDisk, Etd>) -> Result<Self, Trouble> {
+        match split(alloc, clerk) {
+            Ok((allocator, flusher)) => Ok(Relay { allocator, flusher }),
+            Err(_) => Err(Trouble::Memory),
+        }
+    }
+
+    fn allocate<R: Wait>(&mut self, rt: &R) -> Counts {
+        self.allocator.turn(rt)
+    }
+
+    /// A turn of the flusher. Whether it found nothing.
+    fn is_flushed<R: Wait>(&mut self, rt: &R) -> Result<bool, KeeperFault> {
+        let flushed = self.flusher.turn(rt, &mut NoWitness)?;
+        Ok(flushed.batches == 0 && flushed.answers == 0)
+    }
+
     /// A turn of the allocator, and turns of the flusher until it finds no batch, or has a fault.
     pub(crate) fn turn<R: Wait>(&mut self, rt: &R) -> Result<Result<Counts, KeeperFault>, Trouble> {
-        let counts = self.allocator.turn(rt);
+        let counts = self.allocate(rt);
         for _ in 0..MOST_FLUSHES {
-            match self.flusher.turn(rt, &mut NoWitness) {
-                Ok(flushed) if flushed.batches == 0 && flushed.answers == 0 => {
-                    return Ok(Ok(counts));
-                }
-                Ok(_) => {}
+            match self.is_flushed(rt) {
+                Ok(true) => return Ok(Ok(counts)),
+                Ok(false) => {}
                 Err(fault) => return Ok(Err(fault)),
             }
         }
         Err(Trouble::Endless)
+    }
+
+    /// The clerk of both parts, whose registers are compared so.
+    fn rejoined(self) -> Result<Clerk<'d, 'b, FuseDisk, Etd>, Trouble> {
+        match rejoin(self.allocator, self.flusher) {
+            Ok(clerk) => Ok(clerk),
+            Err(_) => Err(Trouble::Apart),
+        }
     }
 }
 
@@ -50,21 +73,28 @@ impl<'d, 'b> Group<'d, 'b> {
     pub(crate) fn parted(self, alloc: Global) -> Result<Relay<'d, 'b>, Trouble> {
         match self {
             Group::Split(relay) => Ok(relay),
-            Group::Whole(clerk) => match split(alloc, clerk) {
-                Ok((allocator, flusher)) => Ok(Relay { allocator, flusher }),
-                Err(_) => Err(Trouble::Memory),
-            },
+            Group::Whole(clerk) => Relay::of(alloc, clerk),
         }
     }
 
-    /// The clerk, as it is, or that of both parts, whose registers are compared so.
+    /// Both parts after a turn, and what it came to.
+    pub(crate) fn turned<R: Wait>(
+        self,
+        rt: &R,
+        alloc: Global,
+    ) -> Result<(Relay<'d, 'b>, Result<Counts, KeeperFault>), Trouble> {
+        let mut relay = self.parted(alloc)?;
+        match relay.turn(rt) {
+            Ok(turned) => Ok((relay, turned)),
+            Err(trouble) => Err(trouble),
+        }
+    }
+
+    /// The clerk, as it is, or that of both parts.
     pub(crate) fn joined(self) -> Result<Clerk<'d, 'b, FuseDisk, Etd>, Trouble> {
         match self {
             Group::Whole(clerk) => Ok(clerk),
-            Group::Split(relay) => match rejoin(relay.allocator, relay.flusher) {
-                Ok(clerk) => Ok(clerk),
-                Err(_) => Err(Trouble::Apart),
-            },
+            Group::Split(relay) => relay.rejoined(),
         }
     }
 }

@@ -2,7 +2,7 @@
 //! which it drives by hand. The report has to be the same.
 #![tactic(auto)]
 
-ghost use Rattle.std.specs.Prelude.{◌≡◌, []};
+ghost use Rattle.std.specs.Prelude.{◌≡◌, [], IfOk};
 
 mod group;
 mod shows;
@@ -36,8 +36,30 @@ enum SegmentEnd {
     Cut(MemDisk),
 }
 
-/// Carries out lines at a new desk, over a keeper that was just opened, up to a power cut or to the
-/// end of the run.
+/// Carries out lines at a desk, up to a power cut or to the end of the run.
+fn run_at<'d, 'b, R: Wait>(
+    rt: &R,
+    alloc: Global,
+    station: &mut Station<'d, 'b>,
+    group: Group<'d, 'b>,
+    lines: &mut Lines,
+    report: &mut String,
+) -> Result<SegmentEnd, Trouble> {
+    let mut group = group;
+    for _ in 0..=lines.len() {
+        let Some(numbered) = lines.next() else {
+            break;
+        };
+        match station.next(rt, alloc, report, group, numbered)? {
+            Next::Lines(left) => group = left,
+            Next::End(verdict) => return Ok(SegmentEnd::Run(verdict)),
+            Next::Cut(left) => return Ok(SegmentEnd::Cut(left)),
+        }
+    }
+    Ok(SegmentEnd::Run(Verdict::Good))
+}
+
+/// Carries out lines at a new desk, over a keeper that was just opened.
 fn run_segment<'b, R: Wait>(
     rt: &R,
     alloc: Global,
@@ -50,18 +72,24 @@ fn run_segment<'b, R: Wait>(
     let building = keeper.building();
     let DeskParts { desk, seats, clerk } = Desk::open(alloc, 16 + usize::from(building.kiosks()))?;
     let mut station = Station::new(building, Terminals::new(&desk, seats));
-    let mut group = Group::Whole(Clerk::new(&desk, clerk, keeper, Etd));
-    for _ in 0..=lines.len() {
-        let Some(numbered) = lines.next() else {
-            return Ok(SegmentEnd::Run(Verdict::Good));
-        };
-        match station.next(rt, alloc, report, group, numbered)? {
-            Next::Lines(left) => group = left,
-            Next::End(verdict) => return Ok(SegmentEnd::Run(verdict)),
-            Next::Cut(left) => return Ok(SegmentEnd::Cut(left)),
-        }
+    let group = Group::Whole(Clerk::new(&desk, clerk, keeper, Etd));
+    run_at(rt, alloc, &mut station, group, lines, report)
+}
+
+/// A device with an empty journal of the building.
+fn formatted(alloc: Global, building: &Building) -> Result<FuseDisk, Trouble> {
+    let keeper = first_keeper(alloc, building)?;
+    Ok(keeper.into_disk())
+}
+
+/// The keeper of what a device has.
+fn opened(disk: FuseDisk, building: &Building) -> Result<Keeper<'_, FuseDisk>, Trouble>
+    ensures { IfOk result (λ keeper. keeper.state.batch ≡ []) }
+{
+    match Keeper::open(disk, building) {
+        Ok(keeper) => Ok(keeper),
+        Err(_) => Err(Trouble::Unopened),
     }
-    Ok(SegmentEnd::Run(Verdict::Good))
 }
 
 /// Carries out the lines, over a formatted device up to the first power cut, and then over what each
@@ -74,12 +102,9 @@ fn run_lines<R: Wait>(
     report: &mut String,
 ) -> Result<Verdict, Trouble> {
     let mut lines = Lines::new(text);
-    let mut disk = first_keeper(alloc, building)?.into_disk();
+    let mut disk = formatted(alloc, building)?;
     for segment in 0..=text.len() {
-        let keeper = match Keeper::open(disk, building) {
-            Ok(keeper) => keeper,
-            Err(_) => return Err(Trouble::Unopened),
-        };
+        let keeper = opened(disk, building)?;
         if segment > 0 {
             push_cut(report, keeper.register().open_count())?;
         }
