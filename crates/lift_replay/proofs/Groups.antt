@@ -13,6 +13,7 @@ use Rattle.lift_journal.specs.Checkpoint.{sectors_for}
 use Rattle.lift_journal.specs.Layout.{body_size}
 use Rattle.lift_journal.specs.Told.{NoneFails, LastFails}
 use Rattle.lift_register.specs.Base.{base_records}
+use Rattle.lift_desk.specs.Steps.{with_told_answers, with_told_asks}
 use mathlib.Core.List.{IsPrefix}
 use Rattle.lift_desk.specs.Seats.{TerminalSeat, ClerkPlace, view_at}
 use Rattle.lift_policy.specs.declared.command.Command.{Command}
@@ -29,12 +30,12 @@ use Rattle.lift_clerk.specs.declared.counts.Counts.{Counts}
 use Rattle.lift_clerk.specs.Turn.{IsTurn, IsFailedTurn, IsBrokenTurn, settled}
 use Rattle.lift_clerk.specs.lemmas.Visiting.{length-served}
 use Rattle.lift_clerk.specs.Visits.{Visit, Serves, commands_of as commands_at}
-use Rattle.lift_replay.specs.Group.{Asking, ScriptGroup, Stopped, Found, asking_at, half, waiting_from, waiting_commands, having_heard, heard_replies_text, state_by, replies_by, state_to_decide_on, state_decided, calls_for, passes, passing_after, calls_to_stop, after_turn, after_stop, after_commit, commit_text, turned, turn_told, by_mark, at_mark, found_while_whole, folded, with_room, with_batch, in_folding, in_append, room_for, found_after_cut}
+use Rattle.lift_replay.specs.Group.{Asking, ScriptGroup, Stopped, Found, half, waiting_from, waiting_commands, having_heard, heard_replies_text, state_by, replies_by, state_to_decide_on, state_decided, calls_for, passes, passing_after, calls_to_stop, after_turn, after_stop, after_commit, commit_text, turned, turn_told, by_mark, at_mark, found_while_whole, folded, with_room, with_batch, in_folding, in_append, room_for, found_after_cut}
 use Rattle.lift_replay.specs.Report.{turn_text, fault_text}
-use Rattle.lift_replay.specs.Terminals.{AllHear, AreTold, AreToldBehind, WaitingAreTold, seat_at, count_waiting}
+use Rattle.lift_replay.specs.Terminals.{AllHear, AreTold, seat_at}
 use Rattle.lift_replay.specs.Told.{ScriptClerk, OutcomeTells, TurnTells, HasCommitted, WasStopped, device_of}
 use Rattle.lift_replay.specs.Shows.{AreInStep, IsFound, IsFused, Stands, IsKeeperOf, Shows}
-use Rattle.lift_replay.proofs.InStep.{AllFound, AreKnown, KnowsAs, all_found, all_known, commands_found, found_counted, hear_all, told_served, waiting_known}
+use Rattle.lift_replay.proofs.InStep.{all_found, commands_found, hear_all}
 
 le_of : (a b : ℕ) → nat_le a b ≡ true → a ≤ b
 le_of a b e = leb-true a b e
@@ -61,7 +62,7 @@ run_is computed plan state (c ∷ commands) (r ∷ replies) next (mid, step, run
       rest.1 ∙ ap (λ s. state_by plan s commands) one.1,
     )
 
-same_length : (olds news : List TerminalSeat) (heard : List ℕ) → AllHear olds news heard → length news ≡ length olds
+pub same_length : (olds news : List TerminalSeat) (heard : List ℕ) → AllHear olds news heard → length news ≡ length olds
 same_length [] [] heard hear = refl
 same_length [] (new ∷ news) heard hear = absurd hear
 same_length (old ∷ olds) [] heard hear = absurd hear
@@ -77,35 +78,18 @@ pub record TakesAll (terminals : List Asking) (visits : List Visit) (replies : L
   pub text : heard ≡ heard_replies_text (waiting_from 0 terminals) replies
   pub in_step : AreInStep (having_heard terminals) after known
 
--- what all know after a turn that took so many commands
-abbrev pub AreToldOf : (visits : List Visit) → (seats told : List TerminalSeat) → (turned known : List ClerkPlace) → Type 0
-AreToldOf visits seats told turned known = AreTold seats told turned known ⊎ ((length (commands_at 0 visits) ≡ count_waiting seats) × WaitingAreTold seats told turned known)
-
--- each look has found the ask that waits, and no other
-finds_all : (terminals : List Asking) (seats told : List TerminalSeat) (places turned known : List ClerkPlace) (visits : List Visit) (replies : List Reply)
-    → AreInStep terminals seats places → Serves places turned visits replies → AreToldOf visits seats told turned known → AllFound visits terminals
-finds_all terminals seats told places turned known visits replies step serves (inl all) =
-    all_found terminals places visits replies (λ i. (seat_at seats i).view) (serves.each_once ∙ step.place_count) step.place_count serves.finds step.each
-    (λ i below. subst (λ l. IsPrefix (view_at l i).taken (seat_at seats i).view.asked) serves.stored (all.each i (omega (arith, below, step.seat_count))).in_order.taken)
-finds_all terminals seats told places turned known visits replies step serves (inr (many, waiting)) =
-    found_counted 0 terminals places visits seats (serves.each_once ∙ step.place_count) step.place_count step.seat_count serves.finds step.each (omega (arith, many))
-
-knows_all : (terminals : List Asking) (seats told : List TerminalSeat) (places turned known : List ClerkPlace) (visits : List Visit) (replies : List Reply)
-    → AreInStep terminals seats places → Serves places turned visits replies → AreToldOf visits seats told turned known → AreKnown terminals seats told turned known
-knows_all terminals seats told places turned known visits replies step serves (inl all) = all_known terminals seats told turned known all
-knows_all terminals seats told places turned known visits replies step serves (inr (many, waiting)) =
-    waiting_known terminals seats told places turned known step (λ i. ap (λ l. (view_at l i).told) serves.stored ∙ told_served places visits replies i) waiting
-
 pub takes_all : (terminals : List Asking) (seats told after : List TerminalSeat) (places turned known : List ClerkPlace) (visits : List Visit) (replies : List Reply) (heard : List ℕ)
-    → AreInStep terminals seats places → Serves places turned visits replies → AreToldOf visits seats told turned known → AllHear told after heard → TakesAll terminals visits replies after known heard
-takes_all terminals seats told after places turned known visits replies heard step serves of_turn hear =
+    → AreInStep terminals seats places → Serves places turned visits replies → AreTold seats told turned known → AllHear told after heard → TakesAll terminals visits replies after known heard
+takes_all terminals seats told after places turned known visits replies heard step serves knows hear =
     let seat : ℕ → _ = λ (i : ℕ). (seat_at seats i).view in
-    let found = finds_all terminals seats told places turned known visits replies step serves of_turn in
-    let knows = knows_all terminals seats told places turned known visits replies step serves of_turn in
+    let many : length visits ≡ length terminals = serves.each_once ∙ step.place_count in
+    let found = all_found terminals places visits replies seat many step.place_count serves.finds step.each
+    (λ i below. subst (λ l. IsPrefix (view_at l i).taken (seat_at seats i).view.asked) serves.stored (knows.each i (omega (arith, below, step.seat_count))).in_order.taken) in
     let commands = commands_found 0 visits terminals found in
     let all = hear_all 0 terminals places visits replies seat told after heard (λ i. view_at known i) found step.place_count (knows.count ∙ step.seat_count) serves.finds serves.in_range (serves.one_reply_each ∙ ap length commands) step.each
-    (λ i below. subst (λ l. KnowsAs (asking_at terminals i).waiting (seat_at seats i).view (seat_at told i).view (view_at l i) (view_at known i)) serves.stored (knows.each i (omega (arith, below, step.seat_count))))
-    (λ i below. knows.own i (omega (arith, below, step.seat_count)) ∙ step.own i below ∙ omega arith)
+    (λ i below. ap (λ (s : TerminalSeat). s.view) (knows.each i (omega (arith, below, step.seat_count))).hears ∙ ap (λ l. with_told_answers (seat_at seats i).view (view_at l i).answered) serves.stored)
+    (λ i below. (knows.each i (omega (arith, below, step.seat_count))).knows ∙ ap (λ l. with_told_asks (view_at l i) (seat_at seats i).view.asked) serves.stored)
+    (λ i below. ap (λ (s : TerminalSeat). s.terminal) (knows.each i (omega (arith, below, step.seat_count))).hears ∙ step.own i below ∙ omega arith)
     hear in
     let count = heard_length terminals in
     record {
@@ -262,23 +246,13 @@ module _ (computed : StepsAreDecisions IsEtdChoice etd_pick) (plan : Plan) (g : 
   abbrev Result : Option Stopped → Type 0
   Result s = (text ≡ turn_told s plan g) × IsKeeperOf plan (turned s plan g) now.keeper × AreInStep (turned s plan g).terminals after new.seat
 
-  told_of : (visits : List Visit) (counts : Counts) (taken : Option ℕ) → taken ≡ Some counts.taken → counts.taken ≡ length (commands_at 0 visits) → AreToldBehind taken seats outcome.told now.seat new.seat → AreToldOf visits seats outcome.told now.seat new.seat
-  told_of visits counts taken is many knows = by_count (subst (λ t. AreToldBehind t seats outcome.told now.seat new.seat) is knows)
-    where
-      by_count : AreToldBehind (Some counts.taken) seats outcome.told now.seat new.seat → AreToldOf visits seats outcome.told now.seat new.seat
-      by_count (inl all) = inl all
-      by_count (inr (count, waiting)) = inr (sym many ∙ count, waiting)
-
-  told_all : (visits : List Visit) → outcome.taken ≡ None → AreToldOf visits seats outcome.told now.seat new.seat
-  told_all visits failed = inl (subst (λ t. AreToldBehind t seats outcome.told now.seat new.seat) failed outcome.knows)
-
   long_now : (device_of now).is_short ≡ false
   long_now = subst (λ (k : KeeperView FusedDisk). (fuse_state_of k.writer.device).is_short ≡ false) same_keeper long
 
-  went_well : (s : Option Stopped) → Stands s plan g old.keeper → (counts : Counts) → IsTurn IsEtdChoice old now counts → HasCommitted old now counts.accepted → outcome.taken ≡ Some counts.taken → outcome.head ≡ turn_text counts.taken counts.accepted → Result s
-  went_well (Some s) stands counts turn made taken head = absurd (is_broken_not old.keeper.writer.is_broken stands.0 made.was_whole)
-  went_well None stands counts turn made taken head =
-      let takes = takes_all g.terminals seats outcome.told after old.seat now.seat new.seat turn.visits turn.replies outcome.heard shows.terminals turn.serves (told_of turn.visits counts outcome.taken taken turn.taken outcome.knows) outcome.hear in
+  went_well : (s : Option Stopped) → Stands s plan g old.keeper → (counts : Counts) → IsTurn IsEtdChoice old now counts → HasCommitted old now counts.accepted → outcome.head ≡ turn_text counts.taken counts.accepted → Result s
+  went_well (Some s) stands counts turn made head = absurd (is_broken_not old.keeper.writer.is_broken stands.0 made.was_whole)
+  went_well None stands counts turn made head =
+      let takes = takes_all g.terminals seats outcome.told after old.seat now.seat new.seat turn.visits turn.replies outcome.heard shows.terminals turn.serves outcome.knows outcome.hear in
       let run = subst (λ cs. Run old.keeper.writer.plan IsEtdChoice old.keeper.state cs turn.replies turn.decided) takes.commands turn.run in
       let run_here = subst (λ (p : Plan). Run p IsEtdChoice old.keeper.state (waiting_commands g) turn.replies turn.decided) shows.keeper.same_plan run in
       let is = run_is computed plan (state_to_decide_on g) (waiting_commands g) turn.replies turn.decided (subst (λ s. Run plan IsEtdChoice s (waiting_commands g) turn.replies turn.decided) stands.1 run_here) in
@@ -315,10 +289,10 @@ module _ (computed : StepsAreDecisions IsEtdChoice etd_pick) (plan : Plan) (g : 
         subst (λ b. AreInStep (after_commit b g (state_decided plan g)).terminals after new.seat) (sym ok) takes.in_step,
       )
 
-  was_stopped : (s : Option Stopped) → Stands s plan g old.keeper → IsFailedTurn IsEtdChoice old now → WasStopped old now → outcome.taken ≡ None → outcome.head ≡ fault_text (codes "turn") 1 → Result s
-  was_stopped (Some s) stands turn stop failed head = absurd (is_broken_not old.keeper.writer.is_broken stands.0 stop.was_whole)
-  was_stopped None stands turn stop failed head =
-      let takes = takes_all g.terminals seats outcome.told after old.seat now.seat new.seat turn.visits (unknowns (commands_at 0 turn.visits)) outcome.heard shows.terminals turn.serves (told_all turn.visits failed) outcome.hear in
+  was_stopped : (s : Option Stopped) → Stands s plan g old.keeper → IsFailedTurn IsEtdChoice old now → WasStopped old now → outcome.head ≡ fault_text (codes "turn") 1 → Result s
+  was_stopped (Some s) stands turn stop head = absurd (is_broken_not old.keeper.writer.is_broken stands.0 stop.was_whole)
+  was_stopped None stands turn stop head =
+      let takes = takes_all g.terminals seats outcome.told after old.seat now.seat new.seat turn.visits (unknowns (commands_at 0 turn.visits)) outcome.heard shows.terminals turn.serves outcome.knows outcome.hear in
       let run = subst (λ cs. Run old.keeper.writer.plan IsEtdChoice old.keeper.state cs turn.decided_so now.keeper.state) takes.commands turn.run in
       let run_here = subst (λ (p : Plan). Run p IsEtdChoice old.keeper.state (waiting_commands g) turn.decided_so now.keeper.state) shows.keeper.same_plan run in
       let is = run_is computed plan (state_to_decide_on g) (waiting_commands g) turn.decided_so now.keeper.state (subst (λ s. Run plan IsEtdChoice s (waiting_commands g) turn.decided_so now.keeper.state) stands.1 run_here) in
@@ -355,10 +329,10 @@ module _ (computed : StepsAreDecisions IsEtdChoice etd_pick) (plan : Plan) (g : 
         subst (λ b. AreInStep (after_commit b g (state_decided plan g)).terminals after new.seat) (sym fuse.stopped) takes.in_step,
       )
 
-  was_broken : (s : Option Stopped) → Stands s plan g old.keeper → old.keeper.writer.is_broken ≡ true → IsBrokenTurn old now → outcome.taken ≡ None → outcome.head ≡ fault_text (codes "turn") 5 → g.stopped ≡ s → Result s
-  was_broken None stands broken turn failed head is = absurd (is_broken_not old.keeper.writer.is_broken broken stands.0)
-  was_broken (Some s) stands broken turn failed head is =
-      let takes = takes_all g.terminals seats outcome.told after old.seat now.seat new.seat turn.visits (unknowns (commands_at 0 turn.visits)) outcome.heard shows.terminals turn.serves (told_all turn.visits failed) outcome.hear in
+  was_broken : (s : Option Stopped) → Stands s plan g old.keeper → old.keeper.writer.is_broken ≡ true → IsBrokenTurn old now → outcome.head ≡ fault_text (codes "turn") 5 → g.stopped ≡ s → Result s
+  was_broken None stands broken turn head is = absurd (is_broken_not old.keeper.writer.is_broken broken stands.0)
+  was_broken (Some s) stands broken turn head is =
+      let takes = takes_all g.terminals seats outcome.told after old.seat now.seat new.seat turn.visits (unknowns (commands_at 0 turn.visits)) outcome.heard shows.terminals turn.serves outcome.knows outcome.hear in
       let kept : IsKeeperOf plan (record g { terminals = having_heard g.terminals }) old.keeper = record {
         same_plan = shows.keeper.same_plan;
         half_is = shows.keeper.half_is;
@@ -370,10 +344,10 @@ module _ (computed : StepsAreDecisions IsEtdChoice etd_pick) (plan : Plan) (g : 
         takes.in_step,
       )
 
-  by_turn : TurnTells old now outcome.taken outcome.head → Result g.stopped
-  by_turn (inl (counts, turn, made, taken, head)) = went_well g.stopped shows.keeper.stands counts turn made taken head
-  by_turn (inr (inl (turn, stop, failed, head))) = was_stopped g.stopped shows.keeper.stands turn stop failed head
-  by_turn (inr (inr (broken, turn, failed, head))) = was_broken g.stopped shows.keeper.stands broken turn failed head refl
+  by_turn : TurnTells old now outcome.head → Result g.stopped
+  by_turn (inl (counts, turn, made, head)) = went_well g.stopped shows.keeper.stands counts turn made head
+  by_turn (inr (inl (turn, stop, head))) = was_stopped g.stopped shows.keeper.stands turn stop head
+  by_turn (inr (inr (broken, turn, head))) = was_broken g.stopped shows.keeper.stands broken turn head refl
 
   pub turn_shows : (text ≡ turn_told g.stopped plan g) × Shows plan (turned g.stopped plan g) new after
   turn_shows =

@@ -14,8 +14,8 @@ use Rattle.lift_policy.specs.declared.command.Command.{Command}
 use Rattle.lift_clerk.specs.Visits.{Visit, FindsAt, Finds, command_at, commands_of, with_reply, replies_behind, served}
 use Rattle.lift_replay.specs.Group.{Asking, asking_at, waiting_from, having_heard, heard_replies_text}
 use Rattle.lift_replay.specs.Report.{heard_text}
-use Rattle.lift_replay.specs.Terminals.{AllHear, Hears, AreTold, BothTold, IsLeftOut, IsToldIfWaiting, WaitingAreTold, heard_line, seat_at, one_waiting, count_waiting}
-use Rattle.lift_replay.specs.Shows.{WaitsFor, IsInStep, AreInStep}
+use Rattle.lift_replay.specs.Terminals.{AllHear, Hears, heard_line, seat_at, one_waiting, count_waiting}
+use Rattle.lift_replay.specs.Shows.{WaitsFor, IsInStep}
 use Rattle.lift_replay.proofs.Telling.{counts_one, counts_none}
 
 -- a terminal waits just where an ask of it does
@@ -197,86 +197,25 @@ module _ (a : Asking) (seat : TerminalView) (place : ClerkPlace) (v : Visit) (st
         )
 
   -- where none waits there is nothing to hear
-  pub hears_nothing : WaitsFor None seat place.view → v.found ≡ None → (old new : TerminalSeat) (t : ℕ) (line : List ℕ) → old.view.asked ≡ seat.asked → old.view.heard ≡ seat.heard → old.terminal ≡ t → Hears old new line
+  pub hears_nothing : WaitsFor None seat place.view → v.found ≡ None → (old new : TerminalSeat) (t : ℕ) (line : List ℕ) → old.view ≡ with_told_answers seat looked.answered → old.terminal ≡ t → Hears old new line
       → (line ≡ []) × (new.terminal ≡ t) × IsInStep (record { turns = a.turns; waiting = None }) new.view (with_told_asks looked seat.asked)
-  hears_nothing waits found old new t line asked heard at (inr h) =
-      let waiting : Waits old.view = h.waited in
-      absurd (omega (arith, waiting, ap length asked, ap length heard, ap length step.heard, step.even, ap length waits))
-  hears_nothing waits found old new t line asked heard at (inl rests) =
+  hears_nothing waits found old new t line view at (inr h) =
+      let waiting : Waits (with_told_answers seat looked.answered) = subst Waits view h.waited in
+      absurd (omega (arith, waiting, ap length step.heard, step.even, ap length waits))
+  hears_nothing waits found old new t line view at (inl rests) =
       let old_word : is_new_word place.view v.word ≡ false = subst (λ f. TakesOf place.view v.word f) found finds.reads in
       let same : looked.taken ≡ place.view.taken = ap (λ b. cond b (place.view.taken ++ v.word ∷ []) place.view.taken) old_word in
-      let in_step : IsInStep (record { turns = a.turns; waiting = None }) old.view (with_told_asks looked seat.asked) = record {
-        turns = ap length asked ∙ step.turns;
-        told = sym asked;
-        heard = heard ∙ step.heard;
+      let in_step : IsInStep (record { turns = a.turns; waiting = None }) (with_told_answers seat looked.answered) (with_told_asks looked seat.asked) = record {
+        turns = step.turns;
+        told = refl;
+        heard = step.heard;
         even = step.even ∙ ap length (sym same);
-        waits = asked ∙ waits ∙ sym same;
+        waits = waits ∙ sym same;
       } in (
         rests.2,
         ap (λ (s : TerminalSeat). s.terminal) rests.1 ∙ at,
-        subst (λ x. IsInStep (record { turns = a.turns; waiting = None }) x (with_told_asks looked seat.asked)) (sym (ap (λ (s : TerminalSeat). s.view) rests.1)) in_step,
+        subst (λ x. IsInStep (record { turns = a.turns; waiting = None }) x (with_told_asks looked seat.asked)) (sym (ap (λ (s : TerminalSeat). s.view) rests.1 ∙ view)) in_step,
       )
-
--- What a terminal knows when all hear, and the clerk then: where an ask waits the terminal was told.
-abbrev pub KnowsAs : Option Ask → (seat old : TerminalView) → (served known : ClerkView) → Type 0
-KnowsAs None seat old served known = (old.asked ≡ seat.asked) × (old.heard ≡ seat.heard) × (known ≡ with_told_asks served seat.asked)
-KnowsAs (Some ask) seat old served known = (old ≡ with_told_answers seat served.answered) × (known ≡ with_told_asks served seat.asked)
-
-told_knows : (w : Option Ask) (seat told : TerminalSeat) (served known : ClerkView) → BothTold seat told served known → KnowsAs w seat.view told.view served known
-told_knows None seat told served known is = (ap (λ (s : TerminalSeat). s.view.asked) is.hears, ap (λ (s : TerminalSeat). s.view.heard) is.hears, is.knows)
-told_knows (Some ask) seat told served known is = (ap (λ (s : TerminalSeat). s.view) is.hears, is.knows)
-
-out_knows : (w : Option Ask) (a : Asking) (seat told : TerminalSeat) (place served known : ClerkView) → a.waiting ≡ w → IsInStep a seat.view place → served.told ≡ place.told
-    → IsLeftOut seat told served known → KnowsAs w seat.view told.view served known
-out_knows None a seat told place served known w step same out =
-    (ap (λ (s : TerminalSeat). s.view.asked) out.hears, ap (λ (s : TerminalSeat). s.view.heard) out.hears, out.knows ∙ ap (with_told_asks served) (same ∙ step.told))
-out_knows (Some ask) a seat told place served known w step same out = absurd (out.rests (waits_so a seat.view place ask step w))
-
--- and so it is of each of them, and each is still its own
-pub record AreKnown (terminals : List Asking) (seats told : List TerminalSeat) (served known : List ClerkPlace) : Type 0 where
-  pub count : length told ≡ length seats
-  pub place_count : length known ≡ length served
-  pub own : (i : ℕ) → i < length seats → (seat_at told i).terminal ≡ (seat_at seats i).terminal
-  pub each : (i : ℕ) → i < length seats → KnowsAs (asking_at terminals i).waiting (seat_at seats i).view (seat_at told i).view (view_at served i) (view_at known i)
-
-pub all_known : (terminals : List Asking) (seats told : List TerminalSeat) (served known : List ClerkPlace) → AreTold seats told served known → AreKnown terminals seats told served known
-all_known terminals seats told served known are = record {
-  count = are.count;
-  place_count = are.place_count;
-  own = λ i below. ap (λ (s : TerminalSeat). s.terminal) (are.each i below).hears;
-  each = λ i below. told_knows (asking_at terminals i).waiting (seat_at seats i) (seat_at told i) (view_at served i) (view_at known i) (are.each i below);
-}
-
-same_own : (seat told : TerminalSeat) (served known : ClerkView) → IsToldIfWaiting seat told served known → told.terminal ≡ seat.terminal
-same_own seat told served known (inl is) = ap (λ (s : TerminalSeat). s.terminal) is.hears
-same_own seat told served known (inr out) = ap (λ (s : TerminalSeat). s.terminal) out.hears
-
-either_knows : (a : Asking) (seat told : TerminalSeat) (place served known : ClerkView) → IsInStep a seat.view place → served.told ≡ place.told
-    → IsToldIfWaiting seat told served known → KnowsAs a.waiting seat.view told.view served known
-either_knows a seat told place served known step same (inl is) = told_knows a.waiting seat told served known is
-either_knows a seat told place served known step same (inr out) = out_knows a.waiting a seat told place served known refl step same out
-
-pub waiting_known : (terminals : List Asking) (seats told : List TerminalSeat) (places served known : List ClerkPlace) → AreInStep terminals seats places
-    → ((i : ℕ) → (view_at served i).told ≡ (view_at places i).told) → WaitingAreTold seats told served known → AreKnown terminals seats told served known
-waiting_known terminals seats told places served known step same are = record {
-  count = are.count;
-  place_count = are.place_count;
-  own = λ i below. same_own (seat_at seats i) (seat_at told i) (view_at served i) (view_at known i) (are.each i below);
-  each = λ i below. either_knows (asking_at terminals i) (seat_at seats i) (seat_at told i) (view_at places i) (view_at served i) (view_at known i)
-      (step.each i (omega (arith, below, step.seat_count))) (same i) (are.each i below);
-}
-
--- looks and replies tell the clerk of no ask
-told_reply : (view : ClerkView) (found : Option Ask) (replies : List Reply) → (with_reply view found replies).told ≡ view.told
-told_reply view None replies = refl
-told_reply view (Some ask) [] = refl
-told_reply view (Some ask) (reply ∷ replies) = refl
-
-pub told_served : (places : List ClerkPlace) (visits : List Visit) (replies : List Reply) (i : ℕ) → (view_at (served places visits replies) i).told ≡ (view_at places i).told
-told_served places [] replies i = refl
-told_served [] (v ∷ visits) replies i = refl
-told_served (place ∷ places) (v ∷ visits) replies zero = told_reply (with_taking place.view v.word) v.found replies
-told_served (place ∷ places) (v ∷ visits) replies (suc i) = told_served places visits (replies_behind v.found replies) i
 
 -- all terminals hear, from this one on
 pub record HearAll (k : ℕ) (askings : List Asking) (after : List TerminalSeat) (heard : List ℕ) (replies : List Reply) (known : ℕ → ClerkView) : Type 0 where
@@ -291,16 +230,17 @@ no_more (c ∷ commands) replies same none = absurd (omega (arith, ap length non
 -- one terminal, and those after it
 hear_one : (k : ℕ) (a : Asking) (askings : List Asking) (w : Option Ask) (place : ClerkPlace) (v : Visit) (replies : List Reply) (seat : TerminalView) (old new : TerminalSeat) (news : List TerminalSeat) (line others : List ℕ) (known : ℕ → ClerkView)
     → a.waiting ≡ w → v.found ≡ w → IsInStep a seat place.view → FindsAt place v → All IsReply replies → length replies ≡ length (command_at k w ++ waiting_from (suc k) askings)
-    → KnowsAs w seat old.view (with_reply (with_taking place.view v.word) w replies) (known 0) → old.terminal ≡ k → Hears old new line
+    → old.view ≡ with_told_answers seat (with_reply (with_taking place.view v.word) w replies).answered
+    → known 0 ≡ with_told_asks (with_reply (with_taking place.view v.word) w replies) seat.asked → old.terminal ≡ k → Hears old new line
     → (All IsReply (replies_behind w replies) → length (replies_behind w replies) ≡ length (waiting_from (suc k) askings) → HearAll (suc k) askings news others (replies_behind w replies) (λ i. known (suc i)))
     → HearAll k (a ∷ askings) (new ∷ news) (line ++ others) replies known
-hear_one k a askings None place v replies seat old new news line others known w found step finds range many knows at hears behind =
-    let here = hears_nothing a seat place v step finds (subst (λ x. WaitsFor x seat place.view) w step.waits) found old new k line knows.0 knows.1 at hears in
+hear_one k a askings None place v replies seat old new news line others known w found step finds range many view known_is at hears behind =
+    let here = hears_nothing a seat place v step finds (subst (λ x. WaitsFor x seat place.view) w step.waits) found old new k line view at hears in
     let rest = behind range many in
     record {
       text = ap (λ l. l ++ others) here.0 ∙ rest.text ∙ ap (λ x. heard_replies_text (command_at k x ++ waiting_from (suc k) askings) replies) (sym w);
       own = own here.1 rest.own;
-      each = each (subst (λ x. IsInStep (record { turns = a.turns; waiting = None }) new.view x) (sym knows.2) here.2) rest.each;
+      each = each (subst (λ x. IsInStep (record { turns = a.turns; waiting = None }) new.view x) (sym known_is) here.2) rest.each;
     }
   where
     own : new.terminal ≡ k → ((i : ℕ) → i < length askings → (seat_at news i).terminal ≡ suc k + i) → (i : ℕ) → i < suc (length askings) → (seat_at (new ∷ news) i).terminal ≡ k + i
@@ -311,14 +251,14 @@ hear_one k a askings None place v replies seat old new news line others known w 
         → (i : ℕ) → i < suc (length askings) → IsInStep (asking_at (having_heard (a ∷ askings)) i) (seat_at (new ∷ news) i).view (known i)
     each first more zero below = first
     each first more (suc i) below = more i (omega (arith, below))
-hear_one k a askings (Some ask) place v [] seat old new news line others known w found step finds range many knows at hears behind = absurd (omega (arith, many))
-hear_one k a askings (Some ask) place v (reply ∷ replies) seat old new news line others known w found step finds range many knows at hears behind =
-    let here = hears_it a seat place v step finds ask reply (subst (λ x. WaitsFor x seat place.view) w step.waits) found old new k line (All-head IsReply reply replies range) knows.0 at hears in
+hear_one k a askings (Some ask) place v [] seat old new news line others known w found step finds range many view known_is at hears behind = absurd (omega (arith, many))
+hear_one k a askings (Some ask) place v (reply ∷ replies) seat old new news line others known w found step finds range many view known_is at hears behind =
+    let here = hears_it a seat place v step finds ask reply (subst (λ x. WaitsFor x seat place.view) w step.waits) found old new k line (All-head IsReply reply replies range) view at hears in
     let rest = behind (All-tail IsReply reply replies range) (omega (arith, many)) in
     record {
       text = ap (λ l. l ++ others) here.0 ∙ ap (λ l. heard_text k ask.number reply ++ l) rest.text ∙ ap (λ x. heard_replies_text (command_at k x ++ waiting_from (suc k) askings) (reply ∷ replies)) (sym w);
       own = own here.1 rest.own;
-      each = each (subst (λ x. IsInStep (record { turns = a.turns; waiting = None }) new.view x) (sym knows.1) here.2) rest.each;
+      each = each (subst (λ x. IsInStep (record { turns = a.turns; waiting = None }) new.view x) (sym known_is) here.2) rest.each;
     }
   where
     own : new.terminal ≡ k → ((i : ℕ) → i < length askings → (seat_at news i).terminal ≡ suc k + i) → (i : ℕ) → i < suc (length askings) → (seat_at (new ∷ news) i).terminal ≡ k + i
@@ -333,24 +273,27 @@ hear_one k a askings (Some ask) place v (reply ∷ replies) seat old new news li
 pub hear_all : (k : ℕ) (askings : List Asking) (places : List ClerkPlace) (visits : List Visit) (replies : List Reply) (seat : ℕ → TerminalView) (olds news : List TerminalSeat) (heard : List ℕ) (known : ℕ → ClerkView)
     → AllFound visits askings → length places ≡ length askings → length olds ≡ length askings → Finds places visits → All IsReply replies → length replies ≡ length (waiting_from k askings)
     → ((i : ℕ) → i < length askings → IsInStep (asking_at askings i) (seat i) (view_at places i))
-    → ((i : ℕ) → i < length askings → KnowsAs (asking_at askings i).waiting (seat i) (seat_at olds i).view (view_at (served places visits replies) i) (known i))
+    → ((i : ℕ) → i < length askings → (seat_at olds i).view ≡ with_told_answers (seat i) (view_at (served places visits replies) i).answered)
+    → ((i : ℕ) → i < length askings → known i ≡ with_told_asks (view_at (served places visits replies) i) (seat i).asked)
     → ((i : ℕ) → i < length askings → (seat_at olds i).terminal ≡ k + i)
     → AllHear olds news heard → HearAll k askings news heard replies known
-hear_all k [] places visits replies seat [] [] heard known found count olds_count finds range many step knows at hear =
+hear_all k [] places visits replies seat [] [] heard known found count olds_count finds range many step view known_is at hear =
     record { text = hear; own = λ i below. absurd (omega (arith, below)); each = λ i below. absurd (omega (arith, below)) }
-hear_all k [] places visits replies seat [] (new ∷ news) heard known found count olds_count finds range many step knows at hear = absurd hear
-hear_all k [] places visits replies seat (old ∷ olds) news heard known found count olds_count finds range many step knows at hear = absurd (omega (arith, olds_count))
-hear_all k (a ∷ askings) places [] replies seat olds news heard known found count olds_count finds range many step knows at hear = absurd found
-hear_all k (a ∷ askings) [] (v ∷ visits) replies seat olds news heard known found count olds_count finds range many step knows at hear = absurd (omega (arith, count))
-hear_all k (a ∷ askings) (place ∷ places) (v ∷ visits) replies seat [] news heard known found count olds_count finds range many step knows at hear = absurd (omega (arith, olds_count))
-hear_all k (a ∷ askings) (place ∷ places) (v ∷ visits) replies seat (old ∷ olds) [] heard known found count olds_count finds range many step knows at hear = absurd hear
-hear_all k (a ∷ askings) (place ∷ places) (v ∷ visits) replies seat (old ∷ olds) (new ∷ news) heard known found count olds_count finds range many step knows at (line, others, one, rest, is) =
+hear_all k [] places visits replies seat [] (new ∷ news) heard known found count olds_count finds range many step view known_is at hear = absurd hear
+hear_all k [] places visits replies seat (old ∷ olds) news heard known found count olds_count finds range many step view known_is at hear = absurd (omega (arith, olds_count))
+hear_all k (a ∷ askings) places [] replies seat olds news heard known found count olds_count finds range many step view known_is at hear = absurd found
+hear_all k (a ∷ askings) [] (v ∷ visits) replies seat olds news heard known found count olds_count finds range many step view known_is at hear = absurd (omega (arith, count))
+hear_all k (a ∷ askings) (place ∷ places) (v ∷ visits) replies seat [] news heard known found count olds_count finds range many step view known_is at hear = absurd (omega (arith, olds_count))
+hear_all k (a ∷ askings) (place ∷ places) (v ∷ visits) replies seat (old ∷ olds) [] heard known found count olds_count finds range many step view known_is at hear = absurd hear
+hear_all k (a ∷ askings) (place ∷ places) (v ∷ visits) replies seat (old ∷ olds) (new ∷ news) heard known found count olds_count finds range many step view known_is at (line, others, one, rest, is) =
     let same : replies_behind v.found replies ≡ replies_behind a.waiting replies = ap (λ f. replies_behind f replies) found.0 in
     subst (λ h. HearAll k (a ∷ askings) (new ∷ news) h replies known) (sym is)
     (hear_one k a askings a.waiting place v replies (seat 0) old new news line others known refl found.0 (step 0 (omega arith)) finds.0 range many
-    (subst (λ f. KnowsAs a.waiting (seat 0) old.view (with_reply (with_taking place.view v.word) f replies) (known 0)) found.0 (knows 0 (omega arith)))
+    (view 0 (omega arith) ∙ ap (λ f. with_told_answers (seat 0) (with_reply (with_taking place.view v.word) f replies).answered) found.0)
+    (known_is 0 (omega arith) ∙ ap (λ f. with_told_asks (with_reply (with_taking place.view v.word) f replies) (seat 0).asked) found.0)
     (at 0 (omega arith) ∙ omega arith) one
     (λ later fewer. hear_all (suc k) askings places visits (replies_behind a.waiting replies) (λ i. seat (suc i)) olds news others (λ i. known (suc i)) found.1 (omega (arith, count)) (omega (arith, olds_count)) finds.1 later fewer
     (λ i below. step (suc i) (omega (arith, below)))
-    (λ i below. subst (λ r. KnowsAs (asking_at askings i).waiting (seat (suc i)) (seat_at olds i).view (view_at (served places visits r) i) (known (suc i))) same (knows (suc i) (omega (arith, below))))
+    (λ i below. view (suc i) (omega (arith, below)) ∙ ap (λ r. with_told_answers (seat (suc i)) (view_at (served places visits r) i).answered) same)
+    (λ i below. known_is (suc i) (omega (arith, below)) ∙ ap (λ r. with_told_asks (view_at (served places visits r) i) (seat (suc i)).asked) same)
     (λ i below. at (suc i) (omega (arith, below)) ∙ omega arith) rest))

@@ -20,3 +20,4 @@ pub mod Total
 mod FrequentLines
 pub mod Fronts
 pub mod Taken
+pub mod Ready

@@ -7,38 +7,49 @@ use Rattle.std.proofs.lemmas.Bool.Decides.{leb_tells}
 use Rattle.lift_desk.specs.declared.view.TerminalView.{TerminalView}
 use Rattle.lift_desk.specs.declared.view.ClerkView.{ClerkView}
 use Rattle.lift_desk.specs.Rule.{IsInOrder}
-use Rattle.lift_desk.specs.Steps.{with_told_asks, lists_of}
-use Rattle.lift_desk.specs.Seats.{TerminalSeat, ClerkPlace, Waits, clerk_with, view_at, no_place}
+use Rattle.lift_desk.specs.Steps.{with_told_answers, with_told_asks, lists_of}
+use Rattle.lift_desk.specs.Seats.{TerminalSeat, ClerkPlace, Waits, clerk_with, seat_with, view_at, no_place}
 use Rattle.lift_replay.specs.Told.{ScriptClerk}
-use Rattle.lift_replay.specs.Terminals.{AreTold, AreToldSo, BothTold, IsLeftOut, IsToldIfWaiting, WaitingAreTold, no_seat, seat_at, told_seat, one_waiting, count_waiting}
+use Rattle.lift_replay.specs.Terminals.{AreTold, AreSettled, BothTold, no_seat, seat_at, told_seat, one_waiting, count_waiting}
 
--- this is so of the first n of them
-pub record AreToldTo (So : TerminalSeat → TerminalSeat → ClerkView → ClerkView → Type 0) (n : ℕ) (seats told : List TerminalSeat) (places known : List ClerkPlace) : Type 0 where
+-- the first n are told
+pub record AreToldTo (n : ℕ) (seats told : List TerminalSeat) (places known : List ClerkPlace) : Type 0 where
   pub count : length told ≡ length seats
   pub place_count : length known ≡ length places
-  pub each : (i : ℕ) → i < n → So (seat_at seats i) (seat_at told i) (view_at places i) (view_at known i)
+  pub each : (i : ℕ) → i < n → i < length seats → BothTold (seat_at seats i) (seat_at told i) (view_at places i) (view_at known i)
   pub other_seat : (i : ℕ) → n ≤ i → seat_at told i ≡ seat_at seats i
   pub other_place : (i : ℕ) → n ≤ i → view_at known i ≡ view_at places i
 
-pub none_told : (So : TerminalSeat → TerminalSeat → ClerkView → ClerkView → Type 0) (n : ℕ) (seats : List TerminalSeat) (places : List ClerkPlace)
-    → ((i : ℕ) → i < n → So (seat_at seats i) (seat_at seats i) (view_at places i) (view_at places i)) → AreToldTo So n seats seats places places
-none_told So n seats places so = record {
+pub none_told : (seats : List TerminalSeat) (places : List ClerkPlace) → AreToldTo 0 seats seats places places
+none_told seats places = record {
   count = refl;
   place_count = refl;
-  each = so;
+  each = λ i below within. absurd (omega (arith, below));
   other_seat = λ i past. refl;
   other_place = λ i past. refl;
 }
 
-pub all_told : (So : TerminalSeat → TerminalSeat → ClerkView → ClerkView → Type 0) (n : ℕ) (seats told : List TerminalSeat) (places known : List ClerkPlace)
-    → ((i : ℕ) → i < length seats → n ≤ i → So (seat_at seats i) (seat_at seats i) (view_at places i) (view_at places i)) → AreToldTo So n seats told places known → AreToldSo So seats told places known
-all_told So n seats told places known so are = record {
+-- where none of the first waits they are as if they were told
+pub front_told : (n : ℕ) (seats : List TerminalSeat) (places : List ClerkPlace) → AreSettled seats places → ((i : ℕ) → i < n → ¬ Waits (seat_at seats i).view)
+    → AreToldTo n seats seats places places
+front_told n seats places settled quiet = record {
+  count = refl;
+  place_count = refl;
+  each = λ i below within. settled i within (quiet i below);
+  other_seat = λ i past. refl;
+  other_place = λ i past. refl;
+}
+
+-- where none of the others waits all are told
+pub all_told : (n : ℕ) (seats told : List TerminalSeat) (places known : List ClerkPlace) → AreToldTo n seats told places known
+    → ((i : ℕ) → i < length seats → n ≤ i → BothTold (seat_at seats i) (seat_at seats i) (view_at places i) (view_at places i)) → AreTold seats told places known
+all_told n seats told places known are so = record {
   count = are.count;
   place_count = are.place_count;
   each = λ i below. elim (leb_tells n i) [
-    | inl past ↦ subst (λ s. So (seat_at seats i) s (view_at places i) (view_at known i)) (sym (are.other_seat i past.1))
-        (subst (λ v. So (seat_at seats i) (seat_at seats i) (view_at places i) v) (sym (are.other_place i past.1)) (so i below past.1))
-    | inr before ↦ are.each i before.1
+    | inl past ↦ subst (λ s. BothTold (seat_at seats i) s (view_at places i) (view_at known i)) (sym (are.other_seat i past.1))
+        (subst (λ v. BothTold (seat_at seats i) (seat_at seats i) (view_at places i) v) (sym (are.other_place i past.1)) (so i below past.1))
+    | inr before ↦ are.each i before.1 below
   ];
 }
 
@@ -49,15 +60,13 @@ view_other : (places : List ClerkPlace) (n i : ℕ) (place : ClerkPlace) → i �
 view_other places n i place apart = ap (λ (p : ClerkPlace). p.view) (get_or-set_other places n i place no_place apart)
 
 -- one more is told
-pub told_more : (So : TerminalSeat → TerminalSeat → ClerkView → ClerkView → Type 0) (n : ℕ) (seats told after : List TerminalSeat) (places known later : List ClerkPlace)
-    → ((seat after_seat : TerminalSeat) (place after_place : ClerkView) → BothTold seat after_seat place after_place → So seat after_seat place after_place)
-    → n < length seats → length places ≡ length seats
-    → AreToldTo So n seats told places known
+pub told_more : (n : ℕ) (seats told after : List TerminalSeat) (places known later : List ClerkPlace) → n < length seats → length places ≡ length seats
+    → AreToldTo n seats told places known
     → after ≡ slice_set told n (told_seat (seat_at told n) (view_at known n))
     → later ≡ clerk_with known n (with_told_asks (view_at known n) (seat_at told n).view.asked)
     → IsInOrder (lists_of (seat_at told n).view (view_at known n))
-    → AreToldTo So (n + 1) seats after places later
-told_more So n seats told after places known later so inside many are seat_is place_is fits =
+    → AreToldTo (n + 1) seats after places later
+told_more n seats told after places known later inside many are seat_is place_is fits =
     let seat : seat_at told n ≡ seat_at seats n = are.other_seat n (omega arith) in
     let place : view_at known n ≡ view_at places n = are.other_place n (omega arith) in
     let new_seat : told_seat (seat_at told n) (view_at known n) ≡ told_seat (seat_at seats n) (view_at places n) = ap (λ v. told_seat (seat_at told n) v) place ∙ ap (λ (s : TerminalSeat). told_seat s (view_at places n)) seat in
@@ -73,10 +82,10 @@ told_more So n seats told after places known later so inside many are seat_is pl
     record {
       count = ap length seat_is ∙ length-set told n _ ∙ are.count;
       place_count = ap length place_is ∙ length-set known n _ ∙ are.place_count;
-      each = λ i below. elim (cases_eq i n) [
-        | inl at ↦ subst (λ j. So (seat_at seats j) (seat_at after j) (view_at places j) (view_at later j)) (sym at) (so _ _ _ _ here)
-        | inr other ↦ subst (λ s. So (seat_at seats i) s (view_at places i) (view_at later i)) (sym (apart i other))
-            (subst (λ v. So (seat_at seats i) (seat_at told i) (view_at places i) v) (sym (apart_place i other)) (are.each i (omega (arith, below, other))))
+      each = λ i below within. elim (cases_eq i n) [
+        | inl at ↦ subst (λ j. BothTold (seat_at seats j) (seat_at after j) (view_at places j) (view_at later j)) (sym at) here
+        | inr other ↦ subst (λ s. BothTold (seat_at seats i) s (view_at places i) (view_at later i)) (sym (apart i other))
+            (subst (λ v. BothTold (seat_at seats i) (seat_at told i) (view_at places i) v) (sym (apart_place i other)) (are.each i (omega (arith, below, other)) within))
       ];
       other_seat = λ i past. apart i (λ at. omega (arith, at, past)) ∙ are.other_seat i (omega (arith, past));
       other_place = λ i past. apart_place i (λ at. omega (arith, at, past)) ∙ are.other_place i (omega (arith, past));
@@ -87,44 +96,30 @@ pub rest_more : (start mid next : ScriptClerk) (places : List ClerkPlace) → mi
 rest_more start mid next places before is =
     is ∙ ap (λ (c : ScriptClerk). record c { seat = places }) before ∙ ap (λ l. record start { seat = l }) (sym (ap (λ (c : ScriptClerk). c.seat) is))
 
--- one more is left out
-pub left_out_more : (n : ℕ) (seats told : List TerminalSeat) (places known : List ClerkPlace) → ¬ Waits (seat_at told n).view
-    → AreToldTo IsToldIfWaiting n seats told places known → AreToldTo IsToldIfWaiting (n + 1) seats told places known
-left_out_more n seats told places known rests are =
-    let seat : seat_at told n ≡ seat_at seats n = are.other_seat n (omega arith) in
-    let here : IsLeftOut (seat_at seats n) (seat_at told n) (view_at places n) (view_at known n) = record {
-      rests = subst (λ (s : TerminalSeat). ¬ Waits s.view) seat rests;
-      hears = seat;
-      knows = are.other_place n (omega arith);
-    } in
+-- one more doesn't wait
+pub quiet_more : (n : ℕ) (seats told : List TerminalSeat) (places known : List ClerkPlace) → AreSettled seats places → n < length seats → ¬ Waits (seat_at seats n).view
+    → AreToldTo n seats told places known → AreToldTo (n + 1) seats told places known
+quiet_more n seats told places known settled inside rests are =
+    let here : BothTold (seat_at seats n) (seat_at told n) (view_at places n) (view_at known n) =
+    subst (λ s. BothTold (seat_at seats n) s (view_at places n) (view_at known n)) (sym (are.other_seat n (omega arith)))
+    (subst (λ v. BothTold (seat_at seats n) (seat_at seats n) (view_at places n) v) (sym (are.other_place n (omega arith))) (settled n inside rests)) in
     record {
       count = are.count;
       place_count = are.place_count;
-      each = λ i below. elim (cases_eq i n) [
-        | inl at ↦ subst (λ j. IsToldIfWaiting (seat_at seats j) (seat_at told j) (view_at places j) (view_at known j)) (sym at) (inr here)
-        | inr other ↦ are.each i (omega (arith, below, other))
+      each = λ i below within. elim (cases_eq i n) [
+        | inl at ↦ subst (λ j. BothTold (seat_at seats j) (seat_at told j) (view_at places j) (view_at known j)) (sym at) here
+        | inr other ↦ are.each i (omega (arith, below, other)) within
       ];
       other_seat = λ i past. are.other_seat i (omega (arith, past));
       other_place = λ i past. are.other_place i (omega (arith, past));
     }
 
--- one that doesn't wait is left out
-pub is_left_out : (seat : TerminalSeat) (place : ClerkView) → ¬ Waits seat.view → IsToldIfWaiting seat seat place place
-is_left_out seat place rests = inr (record { rests = rests; hears = refl; knows = refl })
-
--- one that is told once more knows nothing else
-again : (seat mid told : TerminalSeat) (place between known : ClerkView) → IsToldIfWaiting seat mid place between → BothTold mid told between known → BothTold seat told place known
-again seat mid told place between known (inl first) then_told =
-    let both = subst (λ v. BothTold (told_seat seat place) told v known) first.knows (subst (λ (s : TerminalSeat). BothTold s told between known) first.hears then_told) in
-    record { hears = both.hears; knows = both.knows; in_order = both.in_order }
-again seat mid told place between known (inr out) then_told =
-    subst (λ v. BothTold seat told v known) out.knows (subst (λ (s : TerminalSeat). BothTold s told between known) out.hears then_told)
-
-pub told_again : (seats mid told : List TerminalSeat) (places between known : List ClerkPlace) → WaitingAreTold seats mid places between → AreTold mid told between known → AreTold seats told places known
-told_again seats mid told places between known first are = record {
-  count = are.count ∙ first.count;
-  place_count = are.place_count ∙ first.place_count;
-  each = λ i below. again (seat_at seats i) (seat_at mid i) (seat_at told i) (view_at places i) (view_at between i) (view_at known i) (first.each i below) (are.each i (omega (arith, below, first.count)));
+-- nothing changes where a terminal and the clerk are told what they know
+pub same_told : (seat : TerminalSeat) (place : ClerkView) → seat.view.told ≡ place.answered → place.told ≡ seat.view.asked → IsInOrder (lists_of seat.view place) → BothTold seat seat place place
+same_told seat place answers asks in_order = record {
+  hears = ap (λ words. seat_with seat (with_told_answers seat.view words)) answers;
+  knows = ap (λ words. with_told_asks place words) asks;
+  in_order = in_order;
 }
 
 -- how many wait

@@ -58,40 +58,18 @@ pub record BothTold (seat told : TerminalSeat) (place known : ClerkView) : Type 
   pub knows : known ≡ with_told_asks place seat.view.asked
   pub in_order : IsInOrder (lists_of seat.view place)
 
--- a terminal that doesn't wait, of which nothing is told
-pub record IsLeftOut (seat told : TerminalSeat) (place known : ClerkView) : Type 0 where
-  pub rests : ¬ Waits seat.view
-  pub hears : told ≡ seat
-  pub knows : known ≡ place
-
--- a terminal is told, unless it doesn't wait
-abbrev pub IsToldIfWaiting : (seat told : TerminalSeat) → (place known : ClerkView) → Type 0
-IsToldIfWaiting seat told place known =
-    BothTold seat told place known ⊎ IsLeftOut seat told place known
-
--- this is so of each terminal
-pub record AreToldSo (So : TerminalSeat → TerminalSeat → ClerkView → ClerkView → Type 0)
-    (seats told : List TerminalSeat) (places known : List ClerkPlace) : Type 0 where
+-- all terminals are told
+pub record AreTold (seats told : List TerminalSeat) (places known : List ClerkPlace) : Type 0 where
   pub count : length told ≡ length seats
   pub place_count : length known ≡ length places
   pub each : (i : ℕ) → i < length seats
-      → So (seat_at seats i) (seat_at told i) (view_at places i) (view_at known i)
+      → BothTold (seat_at seats i) (seat_at told i) (view_at places i) (view_at known i)
 
-abbrev pub AreTold : (seats told : List TerminalSeat) → (places known : List ClerkPlace) → Type 0
-AreTold seats told places known = AreToldSo BothTold seats told places known
-
-abbrev pub WaitingAreTold : (seats told : List TerminalSeat) → (places known : List ClerkPlace)
-    → Type 0
-WaitingAreTold seats told places known = AreToldSo IsToldIfWaiting seats told places known
-
--- After a turn that took so many commands, or failed: all terminals are told, or those that wait,
--- where they are as many.
-abbrev pub AreToldBehind : Option ℕ → (seats told : List TerminalSeat)
-    → (places known : List ClerkPlace) → Type 0
-AreToldBehind None seats told places known = AreTold seats told places known
-AreToldBehind (Some taken) seats told places known =
-    AreTold seats told places known
-    ⊎ ((taken ≡ count_waiting seats) × WaitingAreTold seats told places known)
+-- to tell a terminal that doesn't wait would change nothing
+abbrev pub AreSettled : List TerminalSeat → List ClerkPlace → Type 0
+AreSettled seats places =
+    (i : ℕ) → i < length seats → ¬ Waits (seat_at seats i).view
+    → BothTold (seat_at seats i) (seat_at seats i) (view_at places i) (view_at places i)
 
 -- what the report shows of what a terminal hears
 abbrev pub heard_line : TerminalSeat → Option Reply → List ℕ

@@ -4,6 +4,7 @@ use Rattle.std.specs.Prelude.{length, slice_set, Option, Some, None}
 use Rattle.lift_base.specs.declared.command.Body.{Body}
 use Rattle.lift_base.specs.declared.command.Body.TheVariants.{Call as Calls, Stop as Stopping}
 use Rattle.lift_base.specs.declared.command.Body.TheVariants.{Place as Placing}
+use Rattle.lift_base.specs.declared.command.Reply.{Reply}
 use Rattle.lift_building.specs.Plan.{Plan, kiosk_floor_of}
 use Rattle.lift_disk.specs.Disk.{DiskState, IsUnchanged, IsTold}
 use Rattle.lift_disk.specs.Faults.{AllAfter, FusedDisk, fuse_state_of}
@@ -17,6 +18,7 @@ use Rattle.lift_journal.specs.Told.{NoneFails, LastFails}
 use Rattle.lift_keeper.specs.Writer.{StopsCommit, commit_calls, commit_used, commit_second}
 use Rattle.lift_clerk.specs.Clerk.{ClerkState}
 use Rattle.lift_clerk.specs.Turn.{IsTurn, IsFailedTurn, IsBrokenTurn}
+use Rattle.lift_clerk.specs.Visits.{Visit, Serves, commands_of}
 use Rattle.lift_clerk.specs.declared.counts.Counts.{Counts}
 use Rattle.lift_replay.specs.declared.line.ScriptLine.{ScriptLine}
 use Rattle.lift_replay.specs.declared.line.ScriptLine.TheVariants.{Place, Call, Stop, Turn, Stops}
@@ -30,7 +32,7 @@ use Rattle.lift_replay.specs.Report.{waiting_text, spent_text, turn_text, fault_
 use Rattle.lift_replay.specs.Report.{bad_text}
 use Rattle.lift_replay.specs.Script.{IsBadLine}
 use Rattle.lift_replay.specs.Shown.{stops_text, costs_text, unless_broken}
-use Rattle.lift_replay.specs.Terminals.{seat_at, having_asked, told_seat, AreToldBehind, AllHear}
+use Rattle.lift_replay.specs.Terminals.{seat_at, having_asked, told_seat, AreTold, AllHear}
 
 -- the clerk of a script
 abbrev pub ScriptClerk : Type 0
@@ -101,15 +103,20 @@ pub record WasStopped (old new : ScriptClerk) : Type 0 where
   pub last_fails : LastFails (device_of old) (device_of new)
 
 -- What a turn took and accepted, or fault 1 where the device failed it, or fault 5 while the
--- journal is broken. How many commands it took is known where it did not fail.
-abbrev pub TurnTells : (old new : ScriptClerk) → Option ℕ → List ℕ → Type 0
-TurnTells old new taken text =
+-- journal is broken.
+abbrev pub TurnTells : (old new : ScriptClerk) → List ℕ → Type 0
+TurnTells old new text =
     ((counts : Counts) × IsTurn IsEtdChoice old new counts × HasCommitted old new counts.accepted
-    × (taken ≡ Some counts.taken) × (text ≡ turn_text counts.taken counts.accepted))
-    ⊎ ((IsFailedTurn IsEtdChoice old new × WasStopped old new × (taken ≡ None)
+    × (text ≡ turn_text counts.taken counts.accepted))
+    ⊎ ((IsFailedTurn IsEtdChoice old new × WasStopped old new
     × (text ≡ fault_text (codes "turn") 1))
-    ⊎ ((old.keeper.writer.is_broken ≡ true) × IsBrokenTurn old new × (taken ≡ None)
+    ⊎ ((old.keeper.writer.is_broken ≡ true) × IsBrokenTurn old new
     × (text ≡ fault_text (codes "turn") 5)))
+
+-- The clerk's looks at its terminals have taken so many commands.
+abbrev pub HasTaken : (old new : List ClerkPlace) → ℕ → Type 0
+HasTaken old new count = (visits : List Visit) × (replies : List Reply)
+    × Serves old new visits replies × (count ≡ length (commands_of 0 visits))
 
 -- what a turn leaves as it was
 pub record KeepsPlace (old new : ScriptClerk) : Type 0 where
@@ -118,18 +125,17 @@ pub record KeepsPlace (old new : ScriptClerk) : Type 0 where
   pub fuse : (call : ℕ) → (device_of new).calls < call → (device_of new).fails_at call
       ↔ (device_of old).fails_at call
 
--- what a turn tells, and below it what each terminal hears, by rising terminal: they are told before
+-- what a turn tells, and below it what each terminal hears, by rising terminal: all are told before
 -- what was answered
 pub record OutcomeTells (old new : ScriptClerk) (seats after : List TerminalSeat)
     (text : List ℕ) : Type 0 where
   pub turned : ScriptClerk
-  pub taken : Option ℕ
   pub told : List TerminalSeat
   pub head : List ℕ
   pub heard : List ℕ
-  pub tells : TurnTells old turned taken head
+  pub tells : TurnTells old turned head
   pub place : KeepsPlace old turned
-  pub knows : AreToldBehind taken seats told turned.seat new.seat
+  pub knows : AreTold seats told turned.seat new.seat
   pub rest : KeepsKeeper turned new
   pub hear : AllHear told after heard
   pub shown : text ≡ head ++ heard

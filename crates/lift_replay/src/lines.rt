@@ -1,7 +1,7 @@
 //! What each line of a script does, and what it reports.
 
 ghost use Rattle.std.specs.Prelude.{◌≡◌, ◌<◌, ◌+◌, ◌++◌, ℕ, List, length, string_bytes};
-ghost use Rattle.std.specs.Prelude.{OnOk, IfOk, codes};
+ghost use Rattle.std.specs.Prelude.{OnOk, IfOk, IfSome, codes};
 ghost use Rattle.lift_building.specs.Plan.{kiosk_floor_of};
 ghost use Rattle.lift_policy.specs.Step.{view_of};
 ghost use Rattle.lift_replay.specs.Known.{IsKnown};
@@ -9,7 +9,8 @@ ghost use Rattle.lift_replay.specs.Report.{register_text};
 ghost use Rattle.lift_replay.specs.Shown.{stops_text, costs_text};
 ghost use Rattle.lift_desk.specs.Seats.{IsClerkOf};
 ghost use Rattle.lift_replay.specs.Told.{Asks, KeepsKeeper, KeepsPlace, TurnTells, OutcomeTells};
-ghost use Rattle.lift_replay.specs.Told.{Tells, LineTells, IsArmed, shown_text, end_of};
+ghost use Rattle.lift_replay.specs.Shows.{AreReady};
+ghost use Rattle.lift_replay.specs.Told.{HasTaken, Tells, LineTells, IsArmed, shown_text, end_of};
 ghost use Rattle.lift_replay.specs.declared.line.ScriptLine.TheVariants.{Fuse, Cut as CutLine};
 ghost use Rattle.lift_disk.specs.declared.outcome.Outcome.{Outcome as Cut};
 
@@ -78,8 +79,10 @@ fn push_taken(
     report: &mut String,
     clerk: &mut Clerk<'_, '_, FuseDisk, Etd>,
 ) -> Result<Option<usize>, NoMemory>
-    ensures tells { IfOk result (λ taken. (told : List ℕ) × TurnTells clerk.old clerk.new taken told
+    ensures tells { OnOk result ((told : List ℕ) × TurnTells clerk.old clerk.new told
         × (string_bytes report.new ≡ string_bytes report.old ++ told)) }
+    ensures took { IfOk result (λ taken.
+        IfSome taken (λ count. HasTaken clerk.old.seat clerk.new.seat count)) }
     ensures desk { clerk.new.desk ≡ clerk.old.desk }
     ensures plan { clerk.new.keeper.writer.plan ≡ clerk.old.keeper.writer.plan }
     ensures place { KeepsPlace clerk.old clerk.new }
@@ -99,6 +102,7 @@ fn push_taken(
 
 /// One turn, and then what each terminal hears.
 fn push_turn_of(report: &mut String, station: &mut Station) -> Result<(), NoMemory>
+    requires ready { AreReady station.old.terminals.seats.items station.old.clerk.seat }
     ensures outcome { OnOk result ((told : List ℕ)
         × OutcomeTells station.old.clerk station.new.clerk station.old.terminals.seats.items
         station.new.terminals.seats.items told
@@ -191,6 +195,7 @@ fn carry_out(
     line: &ScriptLine,
 ) -> Result<Option<End>, NoMemory>
     requires known { IsKnown station.old.building.now line.now }
+    requires ready { AreReady station.old.terminals.seats.items station.old.clerk.seat }
     ensures tells { OnOk result ((told : List ℕ)
         × Tells station.old.building.now station.old.clerk station.new.clerk
         station.old.terminals.seats.items station.new.terminals.seats.items line.now told
@@ -268,6 +273,7 @@ pub fn push_line(
     text: &str,
     number: usize,
 ) -> Result<Option<End>, NoMemory>
+    requires ready { AreReady station.old.terminals.seats.items station.old.clerk.seat }
     ensures tells { IfOk result (λ end. (told : List ℕ)
         × LineTells station.old.building.now station.old.clerk station.new.clerk
         station.old.terminals.seats.items station.new.terminals.seats.items text.now number end

@@ -6,7 +6,7 @@ ghost use Rattle.lift_replay.specs.Group.{ScriptGroup, new_terminals};
 ghost use Rattle.lift_replay.specs.Report.{Reports, ReportsPart, cut_text};
 ghost use Rattle.lift_replay.specs.Running.{LinesEnd, SegmentEnds, TellsPart};
 ghost use Rattle.lift_replay.specs.Segment.{IfCut, IsPowerCut};
-ghost use Rattle.lift_replay.specs.Shows.{Shows, IsKeeperOf};
+ghost use Rattle.lift_replay.specs.Shows.{AreReady, Shows, IsKeeperOf};
 ghost use Rattle.lift_replay.specs.Source.{lines_in};
 ghost use Rattle.lift_replay.specs.Writing.{WritesPieces};
 
@@ -54,6 +54,7 @@ fn add_lines<W: Outlet>(
     piece: &mut String,
     writer: &mut W,
 ) -> Result<End, ReplayFault>
+    requires ready { AreReady station.old.terminals.seats.items station.old.clerk.seat }
     requires small { length (string_bytes piece.old) < 32768 }
     ensures writes { WritesPieces W.gives writer.old writer.new (string_bytes piece.new) result }
     // No more is held back than that, but for the line that ends a bad script.

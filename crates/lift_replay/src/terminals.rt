@@ -9,7 +9,7 @@ ghost use Rattle.lift_desk.specs.Steps.{lists_of};
 ghost use Rattle.lift_clerk.specs.Clerk.{IsToldAt};
 ghost use Rattle.lift_replay.specs.Terminals.{AreTerminalsOf, IsSpanned, AllHear, AreTold, Hears};
 ghost use Rattle.lift_replay.specs.Terminals.{having_asked, seat_at, told_seat, count_waiting};
-ghost use Rattle.lift_replay.specs.Terminals.{AreToldBehind, WaitingAreTold};
+ghost use Rattle.lift_replay.specs.Terminals.{AreSettled};
 
 use crate::refused::NoMemory;
 use crate::report::push_heard;
@@ -113,40 +113,51 @@ impl<'d> Terminals<'d> {
         self.seats[usize::from(index)].pending().is_some()
     }
 
-    /// Tells the clerk what each terminal that waits has asked, and it what was answered there so
-    /// far. The answer is how many wait.
-    fn tell_waiting(&mut self, clerk: &mut Clerk<'_, '_, FuseDisk, Etd>) -> usize
-        requires desk { clerk.old.desk ≡ self.old.desk.now }
-        requires places { length clerk.old.seat ≡ length self.old.seats.items }
-        ensures told { WaitingAreTold self.old.seats.items self.new.seats.items clerk.old.seat
-            clerk.new.seat }
-        ensures count { result ≡ count_waiting self.old.seats.items }
-        ensures rest { clerk.new ≡ record clerk.old { seat = clerk.new.seat } }
-        ensures desk { self.new.desk ≡ self.old.desk }
+    /// How many terminals wait for an answer.
+    fn waiting(&self) -> usize
+        ensures { result ≡ count_waiting self.now.seats.items }
     {
         let mut waiting = 0;
         for terminal in self.first..self.end {
             if self.waits(terminal) {
-                self.tell(clerk, terminal);
                 waiting += 1;
             }
         }
         waiting
     }
 
-    /// Tells clerk and terminals after a turn that took so many commands, or failed. As many as
-    /// wait are theirs, and then the others have nothing new.
-    pub fn tell_behind(&mut self, clerk: &mut Clerk<'_, '_, FuseDisk, Etd>, taken: Option<usize>)
+    /// Tells the clerk and the terminals that wait. To tell the others would change nothing.
+    fn tell_waiting(&mut self, clerk: &mut Clerk<'_, '_, FuseDisk, Etd>)
         requires desk { clerk.old.desk ≡ self.old.desk.now }
         requires places { length clerk.old.seat ≡ length self.old.seats.items }
-        ensures told { AreToldBehind taken self.old.seats.items self.new.seats.items clerk.old.seat
+        requires settled { AreSettled self.old.seats.items clerk.old.seat }
+        ensures told { AreTold self.old.seats.items self.new.seats.items clerk.old.seat
             clerk.new.seat }
         ensures rest { clerk.new ≡ record clerk.old { seat = clerk.new.seat } }
         ensures desk { self.new.desk ≡ self.old.desk }
     {
-        let waiting = self.tell_waiting(clerk);
+        for asker in self.first..self.end {
+            if self.waits(asker) {
+                self.tell(clerk, asker);
+            }
+        }
+    }
+
+    /// Tells the clerk what each terminal has asked so far, and each terminal what was answered
+    /// there so far, after a turn that took so many commands, or failed. As many as wait are theirs,
+    /// and then the others have nothing new.
+    pub fn tell_behind(&mut self, clerk: &mut Clerk<'_, '_, FuseDisk, Etd>, taken: Option<usize>)
+        requires desk { clerk.old.desk ≡ self.old.desk.now }
+        requires places { length clerk.old.seat ≡ length self.old.seats.items }
+        requires settled { taken ≡ Some (count_waiting self.old.seats.items)
+            → AreSettled self.old.seats.items clerk.old.seat }
+        ensures told { AreTold self.old.seats.items self.new.seats.items clerk.old.seat
+            clerk.new.seat }
+        ensures rest { clerk.new ≡ record clerk.old { seat = clerk.new.seat } }
+        ensures desk { self.new.desk ≡ self.old.desk }
+    {
         match taken {
-            Some(taken) if taken == waiting => {}
+            Some(taken) if taken == self.waiting() => self.tell_waiting(clerk),
             _ => self.tell_all(clerk),
         }
     }

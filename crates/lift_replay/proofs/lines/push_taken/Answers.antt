@@ -27,7 +27,11 @@ returns-in_ok-push_turn-in-Ok-clause-tells c =
       second = made.second;
       none_fails = made.told_ok;
     } in
-    (turn_text counts.taken counts.accepted, inl (counts, c.in-Ok.ensures.turns, committed, refl, refl), c.in_ok-push_turn-in-Ok.ensures)
+    (turn_text counts.taken counts.accepted, inl (counts, c.in-Ok.ensures.turns, committed, refl), c.in_ok-push_turn-in-Ok.ensures)
+
+pub returns-in_ok-push_turn-in-Ok-clause-took : goal.returns-in_ok-push_turn-in-Ok-clause-took
+returns-in_ok-push_turn-in-Ok-clause-took c =
+    let turn = c.in-Ok.ensures.turns in (turn.visits, turn.replies, turn.serves, turn.taken)
 
 pub returns-in_ok-push_fault-in-Err-clause-tells : goal.returns-in_ok-push_fault-in-Err-clause-tells
 returns-in_ok-push_fault-in-Err-clause-tells c =

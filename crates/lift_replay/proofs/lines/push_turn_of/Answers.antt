@@ -1,6 +1,7 @@
-use Rattle.std.proofs.Common.{◌++◌, ap, ◌∙◌, refl, string_bytes}
+use Rattle.std.proofs.Common.{◌++◌, ap, ◌∙◌, refl, subst, string_bytes, IfSome}
 use Rattle.std.proofs.lemmas.List.{append_assoc}
-use Rattle.lift_replay.specs.Told.{OutcomeTells}
+use Rattle.lift_replay.specs.Told.{HasTaken, OutcomeTells}
+use Rattle.lift_replay.proofs.Ready.{settled_behind}
 use Rattle.lift_replay.proofs.Told.{on_ok}
 use Rattle.lift_replay.proofs.lines.push_turn_of.Goals as goal
 
@@ -10,7 +11,6 @@ returns-clause-outcome c =
     on_ok c.push_all_heard.result (λ heard.
     let outcome : OutcomeTells c.args.station.now.clerk c.tell_behind.new.clerk c.args.station.now.terminals.seats.items c.push_all_heard.new.self.seats.items (taken.0 ++ heard.0) = record {
       turned = c.push_taken.new.clerk;
-      taken = c.in_ok-taken.taken;
       told = c.tell_behind.new.self.seats.items;
       head = taken.0;
       heard = heard.0;
@@ -25,3 +25,9 @@ returns-clause-outcome c =
       outcome,
       heard.2 ∙ ap (λ before. before ++ heard.0) taken.2 ∙ append_assoc (string_bytes c.args.report.now) taken.0 heard.0,
     )) c.push_all_heard.ensures.hears
+
+pub tell_behind-requires-clause-settled : goal.tell_behind-requires-clause-settled
+tell_behind-requires-clause-settled c = λ as_many.
+    let before = c.args.station.now in
+    settled_behind before.terminals.seats.items before.clerk.seat c.push_taken.new.clerk.seat c.requires.ready
+    (subst (λ taken. IfSome taken (λ count. HasTaken before.clerk.seat c.push_taken.new.clerk.seat count)) as_many c.in_ok-taken.ensures.took)

@@ -3,6 +3,7 @@ use Rattle.lift_building.specs.Plan.{Plan}
 use Rattle.lift_replay.specs.Told.{LineTells}
 use Rattle.lift_replay.specs.Source.{lines_in}
 use Rattle.lift_replay.proofs.LineSteps.{line_goes_on, line_ends}
+use Rattle.lift_replay.proofs.Ready.{line_ready}
 use Rattle.std.proofs.lemmas.List.{append-nil}
 use Rattle.lift_replay.specs.Running.{TellsLines}
 use Rattle.lift_replay.specs.declared.lines.Verdict.TheVariants.{Good}
@@ -38,6 +39,8 @@ loop-preserved g c =
             reports_on _ _ _ _ _ _ before.0 tells.0 before.4
                 (reports_put _ _ (string_bytes c.loop.piece) (string_bytes c.add_line.new.piece) _ tells.0 piece_is c.in_ok-put_large_piece.ensures.ok),
           ));
+      ready = line_ready c.loop.station.building.now c.loop.station.clerk c.push_line.new.station.clerk c.loop.station.terminals.seats.items c.push_line.new.station.terminals.seats.items c.in-Some.line.now c.in-Some.number _ tells.0
+          c.loop.station.count c.loop.invariant.ready tells.1;
       small = c.in_ok-put_large_piece.ensures.small;
       called = takes_more g.W.Outlet.gives _ _ _ c.loop.invariant.called c.in_ok-put_large_piece.ensures.each_call;
       left = omega (arith, c.loop.invariant.left, c.in-Some.ensures.shorter);

@@ -9,7 +9,7 @@ use Rattle.lift_replay.specs.Report.{Reports, ReportsPart, cut_text}
 use Rattle.lift_replay.specs.Running.{LinesEnd, TellsPart}
 use Rattle.lift_replay.specs.Shows.{Shows, IsKeeperOf}
 use Rattle.lift_replay.specs.Source.{lines_in}
-use Rattle.lift_replay.proofs.Recovered.{new_shows}
+use Rattle.lift_replay.proofs.Recovered.{new_ready, new_shows}
 use Rattle.lift_replay.proofs.Runs.{run_told, cut_goes_on}
 use Rattle.lift_replay.proofs.Fronts.{err_so, cut_part, tells_none}
 use Rattle.lift_replay.specs.lemmas.Writes.{takes_more, pieces_ok, pieces_memory, pieces_behind}
@@ -104,3 +104,8 @@ returns-in_err-verdict-clause-writes g c = pieces_behind g.W.Outlet.gives _ _ _ 
 pub returns-in_err-add_cut-in-Cut-clause-writes : goal.returns-in_err-add_cut-in-Cut-clause-writes
 returns-in_err-add_cut-in-Cut-clause-writes g c = pieces_behind g.W.Outlet.gives _ _ _ _ c.from_residual-in_err-add_cut-in-Cut.result _ c.from_residual-in_err-add_cut-in-Cut.ensures.1
     c.in_ok-verdict.ensures.writes.calls c.in_err-add_cut-in-Cut.ensures.writes
+
+pub add_lines-requires-clause-ready : goal.add_lines-requires-clause-ready
+add_lines-requires-clause-ready g c =
+    new_ready c.args.building.now c.new-station.result.clerk c.new-station.result.terminals.seats.items c.in_ok-desk.desk
+    (c.new-station.ensures.clerk ∙ c.in_ok-desk.ensures.clerk ∙ ap clerk_of c.in_ok-desk.desk-is) (c.new-station.ensures.seats ∙ ap (seats_from 0) c.in_ok-desk.desk-is) (search rules)
