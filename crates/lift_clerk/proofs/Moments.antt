@@ -17,7 +17,7 @@ use Rattle.lift_world.specs.declared.event.Taken.{Taken}
 use Rattle.lift_world.specs.Policies.{RunsAreAny}
 use Rattle.lift_clerk.specs.declared.counts.Counts.{Counts}
 use Rattle.lift_clerk.specs.Clerk.{ClerkState}
-use Rattle.lift_clerk.specs.Turn.{entries_in}
+use Rattle.lift_clerk.specs.Turn.{batch_size}
 use Rattle.lift_clerk.specs.Steps.{group_of, MayAdd, TurnAdds, Safe, InDoubt, Unknown}
 use Rattle.lift_clerk.specs.History.{History, Turned}
 use Rattle.lift_clerk.specs.Keeping.{ImageKeeps, CrashesKeep, LeavesSafe, AdvancesFrom}
@@ -66,7 +66,7 @@ module _ {D P : Type 0} (state : D → DiskState) (law : CrashesKeep D) (before 
 
 -- One turn, with what a crash may leave at each moment of it and from its end on.
 module _ {D P : Type 0} (state : D → DiskState) (law : CrashesKeep D) (before after : ClerkState D P) (result : Result Counts KeeperFault)
-    (commits : CommitsTo state before.keeper.writer (entries_in result after.keeper) after.keeper.state.register after.keeper.writer result)
+    (commits : CommitsTo state before.keeper.writer (batch_size result after.keeper) after.keeper.state.register after.keeper.writer result)
     (leaves : LeavesSafe after.keeper.writer (state after.keeper.writer.device)) where
   abbrev its : Plan
   its = before.keeper.writer.plan
@@ -102,7 +102,7 @@ module _ {D P : Type 0} (state : D → DiskState) (law : CrashesKeep D) (before 
   turn_goes_on fails is batch more told (Safe t) base safe given h =
       advances _ _ _ base safe given
       (inr (record { commands = t.commands; replies = t.replies; decided = t.decided; apart = t.answers.apart; decides = t.decides; is = refl }))
-      (moment_of state before.keeper.writer (entries_in result after.keeper) after.keeper.state.register after.keeper.writer result commits t.decides.was_whole t.decided.batch
+      (moment_of state before.keeper.writer (batch_size result after.keeper) after.keeper.state.register after.keeper.writer result commits t.decides.was_whole t.decided.batch
       (ap (λ (x : State). x.register) t.state ∙ t.decides.shows))
       h (Turned h (Safe t))
   turn_goes_on fails is batch more told (InDoubt t) base safe given h =

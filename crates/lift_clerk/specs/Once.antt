@@ -13,7 +13,7 @@ use Rattle.lift_keeper.specs.Calls.{CommitCalls}
 use Rattle.lift_keeper.specs.Recovers.{Recovers}
 use Rattle.lift_clerk.specs.declared.counts.Counts.{Counts}
 use Rattle.lift_clerk.specs.Clerk.{ClerkState}
-use Rattle.lift_clerk.specs.Turn.{IsTurn, IsFailedTurn, IsBrokenTurn, entries_in}
+use Rattle.lift_clerk.specs.Turn.{IsTurn, IsFailedTurn, IsBrokenTurn, batch_size}
 use Rattle.lift_world.specs.declared.event.Taken.{Taken}
 use Rattle.lift_clerk.specs.Steps.{group_of, TurnAdds}
 use Rattle.lift_clerk.specs.Machine.{ClerkReopens, Stays}
@@ -28,10 +28,10 @@ pub record TurnsOnce {D P : Type 0} (state : D → DiskState) (choice : Choice)
   pub rests : result ≡ Err (Journal Broken) → IsBrokenTurn before after
   -- What its commit leaves, which faults there are, and that a clerk which answers that it is broken
   -- was broken before. So it is one of the machine (`turns_of`, `fails_of` of the lemmas).
-  pub commits : CommitsTo state before.keeper.writer (entries_in result after.keeper)
+  pub commits : CommitsTo state before.keeper.writer (batch_size result after.keeper)
       after.keeper.state.register after.keeper.writer result
   -- It makes the calls of the device that this takes, and no others.
-  pub calls : CommitCalls state before.keeper.writer (entries_in result after.keeper)
+  pub calls : CommitCalls state before.keeper.writer (batch_size result after.keeper)
       after.keeper.writer result
   pub kept : (after.desk ≡ before.desk) × (after.policy ≡ before.policy)
 

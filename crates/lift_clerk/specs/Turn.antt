@@ -56,6 +56,6 @@ pub record IsBrokenTurn {D P : Type 0} (old new : ClerkState D P) : Type 0 where
   pub rests : new.keeper ≡ old.keeper
 
 -- how many entries a turn's batch had: all are safe, or all are in doubt
-abbrev pub entries_in : {D : Type 0} → Result Counts KeeperFault → KeeperView D → ℕ
-entries_in (Ok counts) new = counts.accepted
-entries_in (Err fault) new = length new.state.batch
+abbrev pub batch_size : {D : Type 0} → Result Counts KeeperFault → KeeperView D → ℕ
+batch_size (Ok counts) new = counts.accepted
+batch_size (Err fault) new = length new.state.batch

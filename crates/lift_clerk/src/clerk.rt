@@ -7,7 +7,7 @@ ghost use Rattle.lift_desk.specs.Steps.{with_told_answers, lists_of};
 ghost use Rattle.lift_decider.specs.Decider.{starting};
 ghost use Rattle.lift_keeper.specs.Prelude.{CommitsTo, CommitCalls, Recovers, ReopeningCalls};
 ghost use Rattle.lift_clerk.specs.Clerk.{IsClerk, IsToldAt};
-ghost use Rattle.lift_clerk.specs.Turn.{IsTurn, IsFailedTurn, IsBrokenTurn, entries_in};
+ghost use Rattle.lift_clerk.specs.Turn.{IsTurn, IsFailedTurn, IsBrokenTurn, batch_size};
 
 use crate::counts::Counts;
 use crate::scan::{Answer, answer_all, scan};
@@ -119,10 +119,10 @@ impl<'d, 'b, D: Disk, P: Policy + Drop> Clerk<'d, 'b, D, P> {
         ensures rests { self.old.keeper.writer.is_broken ≡ true → IsBrokenTurn self.old self.new }
         // It commits what its scan accepted, which leads to the register that it shows.
         ensures commits { CommitsTo D.state self.old.keeper.writer
-            (entries_in result self.new.keeper) self.new.keeper.state.register
+            (batch_size result self.new.keeper) self.new.keeper.state.register
             self.new.keeper.writer result }
         ensures calls { CommitCalls D.state self.old.keeper.writer
-            (entries_in result self.new.keeper) self.new.keeper.writer result }
+            (batch_size result self.new.keeper) self.new.keeper.writer result }
         ensures same { (self.new.desk ≡ self.old.desk) × (self.new.policy ≡ self.old.policy) }
         ensures seated { IsClerkOf self.new.desk self.new.seat }
         ensures answered { OwesNothing self.new.seat }
@@ -183,13 +183,13 @@ impl<'d, 'b, D: Disk, P: Policy + Drop> Clerk<'d, 'b, D, P> {
 }
 
 impl<'d, 'b, D: Arm, P: Policy + Drop> Clerk<'d, 'b, D, P> {
-    ghost use Rattle.lift_disk.specs.Disk.{IsUnchanged, IsTold};
+    ghost use Rattle.lift_disk.specs.Disk.{IsUnchanged, IsArmedWith};
 
     /// Tells the device again which calls to fail. It changes no image.
     pub fn arm(&mut self, calls: u32)
         ensures unchanged { IsUnchanged (D.state self.old.keeper.writer.device)
             (D.state self.new.keeper.writer.device) }
-        ensures told { IsTold (D.fails_by calls (D.state self.old.keeper.writer.device).calls)
+        ensures told { IsArmedWith (D.fails_by calls (D.state self.old.keeper.writer.device).calls)
             (D.state self.new.keeper.writer.device) }
         ensures rest { self.new ≡ record self.old {
           keeper = record self.old.keeper { writer = record self.old.keeper.writer { device = self.new.keeper.writer.device } };

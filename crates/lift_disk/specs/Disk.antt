@@ -258,8 +258,8 @@ abbrev pub IsUnarmed : DiskState → Type 0
 IsUnarmed disk = (call : ℕ) → disk.calls < call → ¬ disk.fails_at call
 
 -- of the calls to come just these were told to fail
-abbrev pub IsTold : (ℕ → Type 0) → DiskState → Type 0
-IsTold fails disk = (call : ℕ) → disk.calls < call → disk.fails_at call ↔ fails call
+abbrev pub IsArmedWith : (ℕ → Type 0) → DiskState → Type 0
+IsArmedWith fails disk = (call : ℕ) → disk.calls < call → disk.fails_at call ↔ fails call
 
 -- Every image that a crash at some moment from old to new may leave has P, if the device is honest.
 pub record LeavesOnly (old new : DiskState) (P : Image → Type 0) : Type 0 where

@@ -4,7 +4,7 @@ ghost use Rattle.std.specs.Prelude.{◌≡◌, ◌<◌, ℕ, OnOk, OnErr, List, 
 ghost use Rattle.lift_disk.specs.Trace.Access.{Read, Write, Sync};
 ghost use Rattle.lift_disk.specs.Disk.{DiskState, IsAccess, KeepsImage, KeepsSynced, KeepsWrites};
 ghost use Rattle.lift_disk.specs.Disk.{LeavesAsBefore, SavesAll, StoresSector, Touches};
-ghost use Rattle.lift_disk.specs.Disk.{IsUnchanged, IsTold, IsWhole, CountsNow, LeavesNoOther};
+ghost use Rattle.lift_disk.specs.Disk.{IsUnchanged, IsArmedWith, IsWhole, CountsNow, LeavesNoOther};
 ghost use Rattle.lift_disk.specs.Disk.{MayLose};
 
 /// A call of the device has failed.
@@ -90,7 +90,7 @@ pub trait Arm: Disk {
     /// Tells it again which calls to fail. It changes no image and is no call of the device.
     fn arm(&mut self, calls: u32)
         ensures same { IsUnchanged (Self.state self.old) (Self.state self.new) }
-        ensures told { IsTold (fails_by calls (Self.state self.old).calls) (Self.state self.new) };
+        ensures told { IsArmedWith (fails_by calls (Self.state self.old).calls) (Self.state self.new) };
 
     /// Whether a growth inside the device was refused, now or earlier.
     fn short(&self) -> bool

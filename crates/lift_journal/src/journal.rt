@@ -400,12 +400,12 @@ impl<D: Disk> Journal<D> {
 }
 
 impl<D: Arm> Journal<D> {
-    ghost use Rattle.lift_disk.specs.Disk.{IsUnchanged, IsTold};
+    ghost use Rattle.lift_disk.specs.Disk.{IsUnchanged, IsArmedWith};
 
     /// Tells the device again which calls to fail. It changes no image.
     pub fn arm(&mut self, calls: u32)
         ensures same { IsUnchanged (D.state self.old.device) (D.state self.new.device) }
-        ensures told { IsTold (D.fails_by calls (D.state self.old.device).calls)
+        ensures told { IsArmedWith (D.fails_by calls (D.state self.old.device).calls)
             (D.state self.new.device) }
         ensures rest { (self.new.shape ≡ self.old.shape) × (self.new.used ≡ self.old.used)
             × (self.new.opened ≡ self.old.opened) × (self.new.is_broken ≡ self.old.is_broken) }

@@ -32,7 +32,7 @@ use Rattle.lift_journal.specs.Order.{IsEntry, IsOfBase}
 use Rattle.lift_journal.specs.Stops.{StopsAppend, StopsCheckpoint}
 use Rattle.lift_keeper.specs.Images.{IsImageOf, IsImageIn, IsInDoubt}
 use Rattle.lift_keeper.specs.Recovery.{entries_of, IsRegisterOf}
-use Rattle.lift_keeper.specs.Writer.{Keeps, Guards, StopsFolding, StopsAdding, StopsCommit, room_calls, room_used, room_second}
+use Rattle.lift_keeper.specs.Writer.{Keeps, Guards, StopsFolding, StopsAdding, StopsCommit, room_call_count, room_used, room_second}
 
 -- the register in the other half, as a checkpoint alone
 abbrev IsFolded : Plan → ℕ → Bool → RegisterState → Image → Type 0
@@ -365,24 +365,24 @@ answers_then (Err fault) old mid new runs first second = record { ok = tt; err =
 
 -- a commit that failed after its checkpoint
 pub adding_stops : (plan : Plan) (half : ℕ) (is_second : Bool) (taken : ℕ) (register : RegisterState) (batch : List Entry) (old mid new : DiskState) (count after : ℕ) (second : Bool) (now : ℕ)
-    → count ≡ length batch → after ≡ half → second ≡ room_second is_second taken half count → now ≡ room_used register taken half count → mid.calls ≡ old.calls + room_calls register taken half count
+    → count ≡ length batch → after ≡ half → second ≡ room_second is_second taken half count → now ≡ room_used register taken half count → mid.calls ≡ old.calls + room_call_count register taken half count
     → mid.calls < new.calls → ((first : DiskState) (made : ℕ) → mid.calls ≡ first.calls + made → StopsAdding plan after second now register batch made first new)
     → StopsCommit plan half is_second taken register batch old new
 adding_stops plan half is_second taken register batch old mid new count after second now counted same_half same_second same_used calls more adds =
-    let made = adds old (room_calls register taken half count) calls in
-    let at_half = subst (λ h. StopsAdding plan h second now register batch (room_calls register taken half count) old new) same_half made in
-    let at_second = subst (λ (b : Bool). StopsAdding plan half b now register batch (room_calls register taken half count) old new) same_second at_half in
-    let at_used = subst (λ n. StopsAdding plan half (room_second is_second taken half count) n register batch (room_calls register taken half count) old new) same_used at_second in
-    let at_count = subst (λ n. StopsAdding plan half (room_second is_second taken half n) (room_used register taken half n) register batch (room_calls register taken half n) old new) counted at_used in
+    let made = adds old (room_call_count register taken half count) calls in
+    let at_half = subst (λ h. StopsAdding plan h second now register batch (room_call_count register taken half count) old new) same_half made in
+    let at_second = subst (λ (b : Bool). StopsAdding plan half b now register batch (room_call_count register taken half count) old new) same_second at_half in
+    let at_used = subst (λ n. StopsAdding plan half (room_second is_second taken half count) n register batch (room_call_count register taken half count) old new) same_used at_second in
+    let at_count = subst (λ n. StopsAdding plan half (room_second is_second taken half n) (room_used register taken half n) register batch (room_call_count register taken half n) old new) counted at_used in
     record {
-      folding = λ few. absurd (omega (arith, few, more, calls, ap (λ n. room_calls register taken half n) counted));
+      folding = λ few. absurd (omega (arith, few, more, calls, ap (λ n. room_call_count register taken half n) counted));
       adding = λ _. at_count;
     }
 
 -- a commit that failed within it
 pub folding_stops : (plan : Plan) (half : ℕ) (is_second : Bool) (taken : ℕ) (register : RegisterState) (batch : List Entry) (old new : DiskState) (count : ℕ)
-    → count ≡ length batch → new.calls ≤ old.calls + room_calls register taken half count → StopsFolding plan half is_second taken register old new → StopsCommit plan half is_second taken register batch old new
+    → count ≡ length batch → new.calls ≤ old.calls + room_call_count register taken half count → StopsFolding plan half is_second taken register old new → StopsCommit plan half is_second taken register batch old new
 folding_stops plan half is_second taken register batch old new count counted few stops = record {
   folding = λ _. stops;
-  adding = λ many. absurd (omega (arith, few, many, ap (λ n. room_calls register taken half n) counted));
+  adding = λ many. absurd (omega (arith, few, many, ap (λ n. room_call_count register taken half n) counted));
 }

@@ -15,7 +15,7 @@ use Rattle.lift_keeper.specs.declared.fault.KeeperFault.{KeeperFault}
 use Rattle.lift_keeper.specs.declared.fault.KeeperFault.TheVariants.{Journal, OtherBuilding}
 use Rattle.lift_keeper.specs.declared.fault.KeeperFault.TheVariants.{BadEntry}
 use Rattle.lift_keeper.specs.Images.{IsImageIn}
-use Rattle.lift_keeper.specs.Writer.{WriterView, StopsCommit, commit_calls, commit_writes}
+use Rattle.lift_keeper.specs.Writer.{WriterView, StopsCommit, commit_call_count, commit_write_count}
 use Rattle.lift_keeper.specs.Writer.{commit_used, commit_second}
 
 -- A journal was opened and read to its end, with no other call: a half of this many sectors, which
@@ -48,8 +48,8 @@ FailsBy (BadEntry place) old new = NoneFails old new
 pub record CommitCalls {D T : Type 0} (state : D → DiskState) (old : WriterView D) (count : ℕ)
     (new : WriterView D) (result : Result T KeeperFault) : Type 0 where
   pub runs : RunsOn (state old.device) (state new.device)
-  pub made : Makes result (commit_calls old.register old.used old.half count)
-      (commit_writes old.register old.used old.half count) (state old.device) (state new.device)
+  pub made : Makes result (commit_call_count old.register old.used old.half count)
+      (commit_write_count old.register old.used old.half count) (state old.device) (state new.device)
   pub used : OnOk result (new.used ≡ commit_used old.register old.used old.half count)
   pub second : OnOk result (new.is_second ≡ commit_second old.is_second old.used old.half count)
   pub told_ok : OnOk result (NoneFails (state old.device) (state new.device))

@@ -11,7 +11,7 @@ use Rattle.lift_keeper.specs.Images.{IsImageOf, IsInDoubt}
 use Rattle.lift_keeper.specs.Writer.{WriterView}
 
 -- What a commit leaves to a crash: all that whoever was answered rests on.
-pub record MakesSafe {D T : Type 0} (state : D → DiskState) (old : WriterView D) (batch : List Entry)
+pub record CommitLeaves {D T : Type 0} (state : D → DiskState) (old : WriterView D) (batch : List Entry)
     (new : WriterView D) (result : Result T KeeperFault) : Type 0 where
   -- a crash at any moment leaves the register that was safe before it, or that with this batch
   pub any_moment : old.is_broken ≡ false
@@ -30,7 +30,7 @@ pub record MakesSafe {D T : Type 0} (state : D → DiskState) (old : WriterView 
 -- crash, why it fails, and what stays.
 pub record Commits {D T : Type 0} (state : D → DiskState) (old : WriterView D) (batch : List Entry)
     (new : WriterView D) (result : Result T KeeperFault) : Type 0 where
-  pub safe : MakesSafe state old batch new result
+  pub safe : CommitLeaves state old batch new result
   pub causes : IfErr result (λ fault. (fault ≡ Journal Disk) ⊎ (fault ≡ Journal Broken))
   pub broken : (result ≡ Err (Journal Broken)) ↔ (old.is_broken ≡ true)
   pub failed : result ≡ Err (Journal Disk)

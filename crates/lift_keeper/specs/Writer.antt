@@ -76,12 +76,12 @@ has_room used half count = nat_le (used + body_size count + 2) half
 
 -- how many device calls the checkpoint takes that a batch without room needs, and how many of them
 -- are writes
-abbrev pub room_calls : RegisterState → (used half count : ℕ) → ℕ
-room_calls register used half count =
+abbrev pub room_call_count : RegisterState → (used half count : ℕ) → ℕ
+room_call_count register used half count =
     if has_room used half count then 0 else sectors_for (length (base_records register)) + 4
 
-abbrev pub room_writes : RegisterState → (used half count : ℕ) → ℕ
-room_writes register used half count =
+abbrev pub room_write_count : RegisterState → (used half count : ℕ) → ℕ
+room_write_count register used half count =
     if has_room used half count then 0 else sectors_for (length (base_records register)) + 2
 
 -- the sectors that are used once there is room, and the half that is picked then
@@ -95,13 +95,13 @@ room_second is_second used half count =
 
 -- how many device calls a commit of this many entries makes, how many of them are writes, and the
 -- sectors used after it
-abbrev pub commit_calls : RegisterState → (used half count : ℕ) → ℕ
-commit_calls register used half count =
-    if count == 0 then 0 else room_calls register used half count + (body_size count + 4)
+abbrev pub commit_call_count : RegisterState → (used half count : ℕ) → ℕ
+commit_call_count register used half count =
+    if count == 0 then 0 else room_call_count register used half count + (body_size count + 4)
 
-abbrev pub commit_writes : RegisterState → (used half count : ℕ) → ℕ
-commit_writes register used half count =
-    if count == 0 then 0 else room_writes register used half count + (body_size count + 2)
+abbrev pub commit_write_count : RegisterState → (used half count : ℕ) → ℕ
+commit_write_count register used half count =
+    if count == 0 then 0 else room_write_count register used half count + (body_size count + 2)
 
 abbrev pub commit_used : RegisterState → (used half count : ℕ) → ℕ
 commit_used register used half count =
@@ -131,9 +131,9 @@ StopsAdding plan half is_second taken register batch before old new =
 -- A commit has failed: within its checkpoint, if it needs one, or after it.
 pub record StopsCommit (plan : Plan) (half : ℕ) (is_second : Bool) (taken : ℕ)
     (register : RegisterState) (batch : List Entry) (old new : DiskState) : Type 0 where
-  pub folding : new.calls ≤ old.calls + room_calls register taken half (length batch)
+  pub folding : new.calls ≤ old.calls + room_call_count register taken half (length batch)
       → StopsFolding plan half is_second taken register old new
-  pub adding : old.calls + room_calls register taken half (length batch) < new.calls
+  pub adding : old.calls + room_call_count register taken half (length batch) < new.calls
       → StopsAdding plan half (room_second is_second taken half (length batch))
       (room_used register taken half (length batch)) register batch
-      (room_calls register taken half (length batch)) old new
+      (room_call_count register taken half (length batch)) old new

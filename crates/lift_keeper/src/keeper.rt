@@ -240,13 +240,13 @@ impl<'b, D: Disk> Keeper<'b, D> {
 }
 
 impl<'b, D: Arm> Keeper<'b, D> {
-    ghost use Rattle.lift_disk.specs.Disk.{IsUnchanged, IsTold};
+    ghost use Rattle.lift_disk.specs.Disk.{IsUnchanged, IsArmedWith};
 
     /// Tells the device again which calls to fail. It changes no image.
     pub fn arm(&mut self, calls: u32)
         ensures same { IsUnchanged (D.state self.old.writer.device)
             (D.state self.new.writer.device) }
-        ensures told { IsTold (D.fails_by calls (D.state self.old.writer.device).calls)
+        ensures told { IsArmedWith (D.fails_by calls (D.state self.old.writer.device).calls)
             (D.state self.new.writer.device) }
         ensures state { self.new.state ≡ self.old.state }
         ensures writer { self.new.writer

@@ -14,8 +14,8 @@ ghost use Rattle.lift_journal.specs.Order.{IsEntry};
 ghost use Rattle.lift_journal.specs.Steps.{Makes};
 ghost use Rattle.lift_journal.specs.Told.{AnswersAsTold};
 ghost use Rattle.lift_keeper.specs.Images.{IsImageOf, IsInDoubt};
-ghost use Rattle.lift_keeper.specs.Writer.{Keeps, Guards, StopsFolding, StopsCommit, room_calls};
-ghost use Rattle.lift_keeper.specs.Writer.{room_writes, room_used, room_second};
+ghost use Rattle.lift_keeper.specs.Writer.{Keeps, Guards, StopsFolding, StopsCommit, room_call_count};
+ghost use Rattle.lift_keeper.specs.Writer.{room_write_count, room_used, room_second};
 
 use arrayvec::ArrayVec;
 use lift_base::{MOST_ENTRIES, Record};
@@ -49,8 +49,8 @@ fn make_room<D: Disk>(
         ≡ room_second journal.old.is_second journal.old.used journal.old.shape.half count) }
     ensures runs { RunsOn (D.state journal.old.device) (D.state journal.new.device) }
     ensures made { Makes result
-        (room_calls register.now journal.old.used journal.old.shape.half count)
-        (room_writes register.now journal.old.used journal.old.shape.half count)
+        (room_call_count register.now journal.old.used journal.old.shape.half count)
+        (room_write_count register.now journal.old.used journal.old.shape.half count)
         (D.state journal.old.device) (D.state journal.new.device) }
     ensures told { AnswersAsTold result (D.state journal.old.device) (D.state journal.new.device) }
     ensures stops { OnErr result ((plan : Plan)
@@ -100,9 +100,9 @@ pub fn store<D: Disk>(
         (length records.now.items)) }
     ensures runs { RunsOn (D.state journal.old.device) (D.state journal.new.device) }
     ensures made { Makes result
-        (room_calls register.now journal.old.used journal.old.shape.half (length records.now.items)
+        (room_call_count register.now journal.old.used journal.old.shape.half (length records.now.items)
         + (body_size (length records.now.items) + 4))
-        (room_writes register.now journal.old.used journal.old.shape.half (length records.now.items)
+        (room_write_count register.now journal.old.used journal.old.shape.half (length records.now.items)
         + (body_size (length records.now.items) + 2))
         (D.state journal.old.device) (D.state journal.new.device) }
     ensures told { AnswersAsTold result (D.state journal.old.device) (D.state journal.new.device) }

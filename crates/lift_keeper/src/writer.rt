@@ -190,12 +190,12 @@ impl<'b, D: Disk> Writer<'b, D> {
 }
 
 impl<'b, D: Arm> Writer<'b, D> {
-    ghost use Rattle.lift_disk.specs.Disk.{IsUnchanged, IsTold};
+    ghost use Rattle.lift_disk.specs.Disk.{IsUnchanged, IsArmedWith};
 
     /// Tells the device again which calls to fail. It changes no image.
     pub fn arm(&mut self, calls: u32)
         ensures same { IsUnchanged (D.state self.old.device) (D.state self.new.device) }
-        ensures told { IsTold (D.fails_by calls (D.state self.old.device).calls)
+        ensures told { IsArmedWith (D.fails_by calls (D.state self.old.device).calls)
             (D.state self.new.device) }
         ensures rest { self.new ≡ record self.old { device = self.new.device } }
     {

@@ -23,7 +23,7 @@ use Rattle.lift_policy.specs.Laws.{StepsAreDecisions}
 use Rattle.lift_policy.specs.Run.{Run, unknowns}
 use Rattle.lift_policy.specs.Step.{State}
 use Rattle.lift_keeper.specs.Cuts.{StopsAtMark}
-use Rattle.lift_keeper.specs.Writer.{StopsCommit, commit_calls, commit_used, commit_second, has_room}
+use Rattle.lift_keeper.specs.Writer.{StopsCommit, commit_call_count, commit_used, commit_second, has_room}
 use Rattle.lift_disk.specs.Faults.{FusedDisk, fuse_state_of}
 use Rattle.lift_keeper.specs.Keeper.{KeeperView}
 use Rattle.lift_clerk.specs.declared.counts.Counts.{Counts}
@@ -139,7 +139,7 @@ module _ (plan : Plan) (old new : DiskState) (P Q : Found) (unmarks : Bool) (off
 -- what each cut leaves of a commit that was stopped
 module _ (plan : Plan) (g : ScriptGroup) (s : Stopped) (old new : DiskState) (honest : new.is_honest)
     (stops : StopsCommit plan half g.is_second g.used g.register s.batch old new) (calls : new.calls ≡ old.calls + s.made) (some : 0 < length s.batch)
-    (most : s.made ≤ commit_calls g.register g.used half (length s.batch)) where
+    (most : s.made ≤ commit_call_count g.register g.used half (length s.batch)) where
   room_is : (b : Bool) → has_room g.used half (length s.batch) ≡ b → (room_for g s.batch ≡ 0) ⊎ (room_for g s.batch ≡ sectors_for (length (base_records g.register)) + 4)
   room_is true e = inl (ap (λ c. cond c 0 (sectors_for (length (base_records g.register)) + 4)) e)
   room_is false e = inr (ap (λ c. cond c 0 (sectors_for (length (base_records g.register)) + 4)) e)
@@ -258,10 +258,10 @@ module _ (computed : StepsAreDecisions IsEtdChoice etd_pick) (plan : Plan) (g : 
       let is = run_is computed plan (state_to_decide_on g) (waiting_commands g) turn.replies turn.decided (subst (λ s. Run plan IsEtdChoice s (waiting_commands g) turn.replies turn.decided) stands.1 run_here) in
       let accepted : counts.accepted ≡ length (state_decided plan g).batch = turn.accepted ∙ ap (λ (s : State). length s.batch) is.1 in
       let need : (device_of now).calls ≡ (device_of old).calls + calls_for g (state_decided plan g) =
-      made.calls ∙ ap (λ r. (device_of old).calls + commit_calls r old.keeper.writer.used old.keeper.writer.half counts.accepted) shows.keeper.register
-      ∙ ap (λ u. (device_of old).calls + commit_calls g.register u old.keeper.writer.half counts.accepted) stands.2
-      ∙ ap (λ h. (device_of old).calls + commit_calls g.register g.used h counts.accepted) shows.keeper.half_is
-      ∙ ap (λ n. (device_of old).calls + commit_calls g.register g.used half n) accepted in
+      made.calls ∙ ap (λ r. (device_of old).calls + commit_call_count r old.keeper.writer.used old.keeper.writer.half counts.accepted) shows.keeper.register
+      ∙ ap (λ u. (device_of old).calls + commit_call_count g.register u old.keeper.writer.half counts.accepted) stands.2
+      ∙ ap (λ h. (device_of old).calls + commit_call_count g.register g.used h counts.accepted) shows.keeper.half_is
+      ∙ ap (λ n. (device_of old).calls + commit_call_count g.register g.used half n) accepted in
       let ok = passes_all g.passing (calls_for g (state_decided plan g)) (device_of old) (device_of now) tt stands.4 need made.none_fails in
       let kept : IsKeeperOf plan (after_turn g (state_decided plan g)) now.keeper = record {
         same_plan = outcome.place.plan ∙ shows.keeper.same_plan;
@@ -299,10 +299,10 @@ module _ (computed : StepsAreDecisions IsEtdChoice etd_pick) (plan : Plan) (g : 
       let batch : now.keeper.state.batch ≡ (state_decided plan g).batch = ap (λ (s : State). s.batch) is.1 in
       let doubt : now.keeper.writer.doubt ≡ (state_decided plan g).batch = turn.doubt ∙ batch in
       let need : (device_of now).calls ≤ (device_of old).calls + calls_for g (state_decided plan g) =
-      subst (λ n. (device_of now).calls ≤ (device_of old).calls + commit_calls g.register g.used half n) (ap length batch)
-      (subst (λ h. (device_of now).calls ≤ (device_of old).calls + commit_calls g.register g.used h (length now.keeper.state.batch)) shows.keeper.half_is
-      (subst (λ u. (device_of now).calls ≤ (device_of old).calls + commit_calls g.register u old.keeper.writer.half (length now.keeper.state.batch)) stands.2
-      (subst (λ r. (device_of now).calls ≤ (device_of old).calls + commit_calls r old.keeper.writer.used old.keeper.writer.half (length now.keeper.state.batch)) shows.keeper.register stop.calls))) in
+      subst (λ n. (device_of now).calls ≤ (device_of old).calls + commit_call_count g.register g.used half n) (ap length batch)
+      (subst (λ h. (device_of now).calls ≤ (device_of old).calls + commit_call_count g.register g.used h (length now.keeper.state.batch)) shows.keeper.half_is
+      (subst (λ u. (device_of now).calls ≤ (device_of old).calls + commit_call_count g.register u old.keeper.writer.half (length now.keeper.state.batch)) stands.2
+      (subst (λ r. (device_of now).calls ≤ (device_of old).calls + commit_call_count r old.keeper.writer.used old.keeper.writer.half (length now.keeper.state.batch)) shows.keeper.register stop.calls))) in
       let fuse = stops_at g.passing (calls_for g (state_decided plan g)) (device_of old) (device_of now) tt stands.4 long_now need stop.last_fails in
       let stops : StopsCommit plan half g.is_second g.used g.register (state_decided plan g).batch (device_of old) (device_of now) =
       subst (λ (p : Plan). StopsCommit p half g.is_second g.used g.register (state_decided plan g).batch (device_of old) (device_of now)) shows.keeper.same_plan

@@ -22,7 +22,7 @@ use Rattle.lift_policy.specs.Run.{unknowns}
 use Rattle.lift_policy.specs.Step.{State}
 use Rattle.lift_policy.specs.View.{ViewState}
 use Rattle.lift_desk.specs.declared.words.Ask.{Ask}
-use Rattle.lift_keeper.specs.Writer.{room_calls, room_used, room_second, commit_calls, commit_used}
+use Rattle.lift_keeper.specs.Writer.{room_call_count, room_used, room_second, commit_call_count, commit_used}
 use Rattle.lift_keeper.specs.Writer.{commit_second}
 use Rattle.lift_clerk.specs.Visits.{command_at}
 use Rattle.lift_replay.specs.declared.line.ScriptLine.{ScriptLine}
@@ -151,7 +151,7 @@ state_decided plan g = state_by plan (state_to_decide_on g) (waiting_commands g)
 
 -- how many device calls the turn's commit makes where none fails
 abbrev pub calls_for : ScriptGroup → State → ℕ
-calls_for g state = commit_calls g.register g.used half (length state.batch)
+calls_for g state = commit_call_count g.register g.used half (length state.batch)
 
 -- whether this many calls pass
 abbrev pub passes : Option ℕ → ℕ → Bool
@@ -278,7 +278,7 @@ in_append outcome g batch made =
     (with_batch g batch) (with_batch g batch) (with_room g (length batch))
 
 abbrev pub room_for : ScriptGroup → List Entry → ℕ
-room_for g batch = room_calls g.register g.used half (length batch)
+room_for g batch = room_call_count g.register g.used half (length batch)
 
 -- what a cut leaves
 abbrev pub found_after_cut : Option Stopped → Outcome → ScriptGroup → Found

@@ -2,7 +2,7 @@
 use Rattle.std.specs.Prelude.{ℕ, suc, ◌≡◌, ◌<◌, true, false, List, [], ◌∷◌, ◌++◌, length, Option}
 use Rattle.std.specs.Prelude.{Some, None}
 use Rattle.lift_building.specs.Plan.{Plan}
-use Rattle.lift_disk.specs.Disk.{DiskState, Image, MayLeave, IsTold}
+use Rattle.lift_disk.specs.Disk.{DiskState, Image, MayLeave, IsArmedWith}
 use Rattle.lift_disk.specs.Faults.{AllAfter, FusedDisk, IfArmed, fuse_state_of}
 use Rattle.lift_disk.specs.Outcomes.{IsLeftBy}
 use Rattle.lift_disk.specs.declared.outcome.Outcome.{Outcome}
@@ -55,7 +55,7 @@ IsFound plan found image = IsImageIn plan half found.is_second found.used found.
 
 -- of the calls to come just those after this many fail, and no growth was refused
 pub record IsFused (passing : Option ℕ) (disk : DiskState) : Type 0 where
-  pub told : IsTold (IfArmed AllAfter passing disk.calls) disk
+  pub told : IsArmedWith (IfArmed AllAfter passing disk.calls) disk
   pub short : disk.is_short ≡ false
 
 -- what each cut leaves

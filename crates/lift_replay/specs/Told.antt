@@ -6,7 +6,7 @@ use Rattle.lift_base.specs.declared.command.Body.TheVariants.{Call as Calls, Sto
 use Rattle.lift_base.specs.declared.command.Body.TheVariants.{Place as Placing}
 use Rattle.lift_base.specs.declared.command.Reply.{Reply}
 use Rattle.lift_building.specs.Plan.{Plan, kiosk_floor_of}
-use Rattle.lift_disk.specs.Disk.{DiskState, IsUnchanged, IsTold}
+use Rattle.lift_disk.specs.Disk.{DiskState, IsUnchanged, IsArmedWith}
 use Rattle.lift_disk.specs.Faults.{AllAfter, FusedDisk, fuse_state_of}
 use Rattle.lift_policy.specs.Choices.{IsEtdChoice}
 use Rattle.lift_policy.specs.Step.{view_of}
@@ -15,7 +15,7 @@ use Rattle.lift_desk.specs.Seats.{TerminalSeat, ClerkPlace, Waits, view_at, cler
 use Rattle.lift_desk.specs.Spelled.{IsAsk}
 use Rattle.lift_desk.specs.Steps.{with_told_asks}
 use Rattle.lift_journal.specs.Told.{NoneFails, LastFails}
-use Rattle.lift_keeper.specs.Writer.{StopsCommit, commit_calls, commit_used, commit_second}
+use Rattle.lift_keeper.specs.Writer.{StopsCommit, commit_call_count, commit_used, commit_second}
 use Rattle.lift_clerk.specs.Clerk.{ClerkState}
 use Rattle.lift_clerk.specs.Turn.{IsTurn, IsFailedTurn, IsBrokenTurn}
 use Rattle.lift_clerk.specs.Visits.{Visit, Serves, commands_of}
@@ -79,7 +79,7 @@ pub record HasCommitted (old new : ScriptClerk) (accepted : ℕ) : Type 0 where
   pub whole : new.keeper.writer.is_broken ≡ false
   pub register : new.keeper.writer.register ≡ new.keeper.state.register
   pub calls : (device_of new).calls
-      ≡ (device_of old).calls + commit_calls old.keeper.writer.register old.keeper.writer.used
+      ≡ (device_of old).calls + commit_call_count old.keeper.writer.register old.keeper.writer.used
       old.keeper.writer.half accepted
   pub used : new.keeper.writer.used
       ≡ commit_used old.keeper.writer.register old.keeper.writer.used old.keeper.writer.half
@@ -95,7 +95,7 @@ pub record WasStopped (old new : ScriptClerk) : Type 0 where
   pub broken : new.keeper.writer.is_broken ≡ true
   pub register : new.keeper.writer.register ≡ old.keeper.writer.register
   pub calls : (device_of new).calls
-      ≤ (device_of old).calls + commit_calls old.keeper.writer.register old.keeper.writer.used
+      ≤ (device_of old).calls + commit_call_count old.keeper.writer.register old.keeper.writer.used
       old.keeper.writer.half (length new.keeper.state.batch)
   pub stops : StopsCommit old.keeper.writer.plan old.keeper.writer.half old.keeper.writer.is_second
       old.keeper.writer.used old.keeper.writer.register
@@ -146,7 +146,7 @@ shown_text clerk line text = unless_broken clerk.keeper.writer.is_broken line te
 
 -- The device of the clerk is told to fail every call after this many, and nothing else changes.
 pub record IsArmed (calls : ℕ) (old new : ScriptClerk) : Type 0 where
-  pub told : IsTold (AllAfter calls (fuse_state_of old.keeper.writer.device).calls)
+  pub told : IsArmedWith (AllAfter calls (fuse_state_of old.keeper.writer.device).calls)
       (fuse_state_of new.keeper.writer.device)
   pub unchanged : IsUnchanged (fuse_state_of old.keeper.writer.device)
       (fuse_state_of new.keeper.writer.device)

@@ -15,7 +15,7 @@ use Rattle.lift_keeper.specs.lemmas.Committed.{safe_register, whole_before}
 use Rattle.lift_clerk.specs.declared.counts.Counts.{Counts}
 use Rattle.lift_clerk.specs.Clerk.{ClerkState}
 use Rattle.lift_clerk.specs.Machine.{Turns, TurnFails}
-use Rattle.lift_clerk.specs.Turn.{IsTurn, IsFailedTurn, entries_in}
+use Rattle.lift_clerk.specs.Turn.{IsTurn, IsFailedTurn, batch_size}
 
 -- at each moment of one that begins whole, of any batch that leads to its register
 pub moment_of : {D T : Type 0} (state : D → DiskState) (old : WriterView D) (count : ℕ)
@@ -31,7 +31,7 @@ moment_of state old count register new result c whole batch same =
 -- what a turn's contract gives of the machine's turns
 module _ {D P : Type 0} (state : D → DiskState) (choice : Choice) (before after : ClerkState D P) where
   abbrev pub Committed : Result Counts KeeperFault → Type 0
-  Committed result = CommitsTo state before.keeper.writer (entries_in result after.keeper)
+  Committed result = CommitsTo state before.keeper.writer (batch_size result after.keeper)
       after.keeper.state.register after.keeper.writer result
 
   abbrev pub the_answer : Result Counts KeeperFault → Result Counts KeeperFault
