@@ -22,14 +22,14 @@ use Rattle.lift_desk.specs.Seats.{ClerkPlace, no_place, view_at, placed_at, Take
 use Rattle.lift_desk.specs.lemmas.Places.{view_at-here, view_at-else}
 use Rattle.lift_policy.specs.declared.command.Command.{Command}
 use Rattle.lift_world.specs.declared.event.Answer.{Answer}
-use Rattle.lift_world.specs.declared.event.Taken.{Taken as Held}
+use Rattle.lift_world.specs.declared.event.Taken.{Taken}
 use Rattle.lift_world.specs.World.{asks, is_answer_to}
 use Rattle.lift_world.specs.Next.{answer_of, unknown_to}
 use Rattle.lift_clerk.specs.Scanning.{reply_told}
 use Rattle.lift_clerk.specs.Visits.{Visit}
 use Rattle.lift_clerk.specs.lemmas.Visiting.{taken-new}
 use Rattle.lift_clerk.specs.lemmas.Words.{asks_both, asks_count, answers_both, answers_long}
-use Rattle.lift_parts.specs.declared.taken.Taken.{Taken}
+use Rattle.lift_parts.specs.declared.taken.NotedCommand.{NotedCommand}
 use Rattle.lift_parts.specs.Batch.{AreBelow, commands_in}
 use Rattle.lift_parts.specs.Flusher.{AnswersOne, Answered}
 use Rattle.lift_parts.specs.Tie.{held_as}
@@ -68,11 +68,11 @@ grown_join u v x cs ds old_answers new_answers g h =
     }
 
 -- the answer that is told
-abbrev pub answer_told : Bool → Taken → Answer
+abbrev pub answer_told : Bool → NotedCommand → Answer
 answer_told is_safe t = record { terminal = t.command.terminal; number = t.command.number; reply = reply_told is_safe t.reply }
 
 -- one command
-module _ (is_safe : Bool) (places next : List ClerkPlace) (taken : Taken) where
+module _ (is_safe : Bool) (places next : List ClerkPlace) (taken : NotedCommand) where
   abbrev t : ℕ
   t = taken.command.terminal
 
@@ -104,13 +104,13 @@ module _ (is_safe : Bool) (places next : List ClerkPlace) (taken : Taken) where
   same_long visit k = ap length k.answered ∙ length-set places t (placed_at (get_or places t no_place).table (told visit.word))
 
 -- all of them
-abbrev pub here : ℕ → List Taken → List Command
+abbrev pub here : ℕ → List NotedCommand → List Command
 here j batch = filter (asks j) (commands_in batch)
 
-abbrev pub told_here : Bool → ℕ → List Taken → List Answer
+abbrev pub told_here : Bool → ℕ → List NotedCommand → List Answer
 told_here is_safe j batch = filter (is_answer_to j) (map (answer_told is_safe) batch)
 
-one_grown : (is_safe : Bool) (places mid next : List ClerkPlace) (taken : Taken) (batch : List Taken) (visit : Visit) (j : ℕ) (b : Bool) → eqb taken.command.terminal j ≡ b
+one_grown : (is_safe : Bool) (places mid next : List ClerkPlace) (taken : NotedCommand) (batch : List NotedCommand) (visit : Visit) (j : ℕ) (b : Bool) → eqb taken.command.terminal j ≡ b
     → AnswersOne is_safe places taken visit mid → taken.command.terminal < length places → Grown (view_at mid j) (view_at next j) (here j batch) (told_here is_safe j batch)
     → Grown (view_at places j) (view_at next j) (cond b (taken.command ∷ here j batch) (here j batch)) (cond b (answer_told is_safe taken ∷ told_here is_safe j batch) (told_here is_safe j batch))
 one_grown is_safe places mid next taken batch visit j true e k inside g =
@@ -125,7 +125,7 @@ one_grown is_safe places mid next taken batch visit j false e k inside g =
 below_same : (m n : ℕ) (cs : List Command) → m ≡ n → AreBelow m cs → AreBelow n cs
 below_same m n cs e h = subst (λ (k : ℕ). AreBelow k cs) e h
 
-pub grows : (is_safe : Bool) (places next : List ClerkPlace) (batch : List Taken) → Answered is_safe places batch next → AreBelow (length places) (commands_in batch)
+pub grows : (is_safe : Bool) (places next : List ClerkPlace) (batch : List NotedCommand) → Answered is_safe places batch next → AreBelow (length places) (commands_in batch)
     → (length next ≡ length places) × ((j : ℕ) → Grown (view_at places j) (view_at next j) (here j batch) (told_here is_safe j batch))
 grows is_safe places next [] all under =
     (ap length all, λ j. subst (λ (s : List ClerkPlace). Grown (view_at places j) (view_at s j) [] []) (sym all) (grown_none (view_at places j)))
@@ -135,64 +135,64 @@ grows is_safe places next (t ∷ batch) all under =
     (rest.0 ∙ long, λ j. one_grown is_safe places all.1 next t batch all.0 j (eqb t.command.terminal j) refl all.2 under.0 (rest.1 j))
 
 -- a word can spell each command
-spelled_one : (is_safe : Bool) (places next : List ClerkPlace) (taken : Taken) (visit : Visit) → AnswersOne is_safe places taken visit next → IsAsk (ask_of taken.command)
+spelled_one : (is_safe : Bool) (places next : List ClerkPlace) (taken : NotedCommand) (visit : Visit) → AnswersOne is_safe places taken visit next → IsAsk (ask_of taken.command)
 spelled_one is_safe places next taken visit k = subst (λ (o : Option Ask). IfSome o IsAsk) k.gives k.finds.in_range
 
-spelled : (is_safe : Bool) (places next : List ClerkPlace) (batch : List Taken) → Answered is_safe places batch next → All IsAsk (map ask_of (commands_in batch))
+spelled : (is_safe : Bool) (places next : List ClerkPlace) (batch : List NotedCommand) → Answered is_safe places batch next → All IsAsk (map ask_of (commands_in batch))
 spelled is_safe places next [] all = All-nil IsAsk
 spelled is_safe places next (t ∷ batch) all =
     All-cons IsAsk (ask_of t.command) (map ask_of (commands_in batch)) (spelled_one is_safe places all.1 t all.0 all.2) (spelled is_safe all.1 next batch all.3)
 
 -- as many answers as commands
-one_more : (is_safe : Bool) (j : ℕ) (t : Taken) (batch : List Taken) (b : Bool) → length (here j batch) ≡ length (told_here is_safe j batch)
+one_more : (is_safe : Bool) (j : ℕ) (t : NotedCommand) (batch : List NotedCommand) (b : Bool) → length (here j batch) ≡ length (told_here is_safe j batch)
     → length (cond b (t.command ∷ here j batch) (here j batch)) ≡ length (cond b (answer_told is_safe t ∷ told_here is_safe j batch) (told_here is_safe j batch))
 one_more is_safe j t batch true e = ap suc e
 one_more is_safe j t batch false e = e
 
-pub as_many : (is_safe : Bool) (j : ℕ) (batch : List Taken) → length (here j batch) ≡ length (told_here is_safe j batch)
+pub as_many : (is_safe : Bool) (j : ℕ) (batch : List NotedCommand) → length (here j batch) ≡ length (told_here is_safe j batch)
 as_many is_safe j [] = refl
 as_many is_safe j (t ∷ batch) = one_more is_safe j t batch (eqb t.command.terminal j) (as_many is_safe j batch)
 
-pub answers_as : (batch : List Taken) → map answer_of (map held_as batch) ≡ map (answer_told true) batch
+pub answers_as : (batch : List NotedCommand) → map answer_of (map held_as batch) ≡ map (answer_told true) batch
 answers_as [] = refl
 answers_as (t ∷ batch) = ap (λ (xs : List Answer). answer_told true t ∷ xs) (answers_as batch)
 
-pub unknown_as : (batch : List Taken) → map answer_of (map unknown_to (map held_as batch)) ≡ map (answer_told false) batch
+pub unknown_as : (batch : List NotedCommand) → map answer_of (map unknown_to (map held_as batch)) ≡ map (answer_told false) batch
 unknown_as [] = refl
 unknown_as (t ∷ batch) = ap (λ (xs : List Answer). answer_told false t ∷ xs) (unknown_as batch)
 
 -- what a batch takes and answers
 module _ where
-  with_replies_as : (batch : List Taken) → with_replies (commands_in batch) (replies_in batch) ≡ map held_as batch
+  with_replies_as : (batch : List NotedCommand) → with_replies (commands_in batch) (replies_in batch) ≡ map held_as batch
   with_replies_as [] = refl
-  with_replies_as (t ∷ batch) = ap (λ (xs : List Held). held_as t ∷ xs) (with_replies_as batch)
+  with_replies_as (t ∷ batch) = ap (λ (xs : List Taken). held_as t ∷ xs) (with_replies_as batch)
 
-  with_unknowns_as : (batch : List Taken) → with_replies (commands_in batch) (unknowns (commands_in batch)) ≡ map unknown_to (map held_as batch)
+  with_unknowns_as : (batch : List NotedCommand) → with_replies (commands_in batch) (unknowns (commands_in batch)) ≡ map unknown_to (map held_as batch)
   with_unknowns_as [] = refl
-  with_unknowns_as (t ∷ batch) = ap (λ (xs : List Held). unknown_to (held_as t) ∷ xs) (with_unknowns_as batch)
+  with_unknowns_as (t ∷ batch) = ap (λ (xs : List Taken). unknown_to (held_as t) ∷ xs) (with_unknowns_as batch)
 
   -- the replies that are told
-  abbrev pub replies_of : Bool → List Taken → List Reply
+  abbrev pub replies_of : Bool → List NotedCommand → List Reply
   replies_of true batch = replies_in batch
   replies_of false batch = unknowns (commands_in batch)
 
-  abbrev pub held_of : Bool → List Taken → List Held
+  abbrev pub held_of : Bool → List NotedCommand → List Taken
   held_of true batch = map held_as batch
   held_of false batch = map unknown_to (map held_as batch)
 
-  pub held_is : (is_safe : Bool) (batch : List Taken) → with_replies (commands_in batch) (replies_of is_safe batch) ≡ held_of is_safe batch
+  pub held_is : (is_safe : Bool) (batch : List NotedCommand) → with_replies (commands_in batch) (replies_of is_safe batch) ≡ held_of is_safe batch
   held_is true batch = with_replies_as batch
   held_is false batch = with_unknowns_as batch
 
-  told_is : (is_safe : Bool) (batch : List Taken) → map answer_of (held_of is_safe batch) ≡ map (answer_told is_safe) batch
+  told_is : (is_safe : Bool) (batch : List NotedCommand) → map answer_of (held_of is_safe batch) ≡ map (answer_told is_safe) batch
   told_is true batch = answers_as batch
   told_is false batch = unknown_as batch
 
-  as_long : (is_safe : Bool) (batch : List Taken) → length (replies_of is_safe batch) ≡ length (commands_in batch)
-  as_long true batch = length-map batch (λ (t : Taken). t.reply) ∙ sym (length-map batch (λ (t : Taken). t.command))
+  as_long : (is_safe : Bool) (batch : List NotedCommand) → length (replies_of is_safe batch) ≡ length (commands_in batch)
+  as_long true batch = length-map batch (λ (t : NotedCommand). t.reply) ∙ sym (length-map batch (λ (t : NotedCommand). t.command))
   as_long false batch = length-map (commands_in batch) (λ (c : Command). Unknown)
 
-  pub answers_them : (is_safe : Bool) (places next : List ClerkPlace) (batch : List Taken) → AreBelow (length places) (commands_in batch) → AreApart (commands_in batch) → Answered is_safe places batch next
+  pub answers_them : (is_safe : Bool) (places next : List ClerkPlace) (batch : List NotedCommand) → AreBelow (length places) (commands_in batch) → AreApart (commands_in batch) → Answered is_safe places batch next
       → Answers places next (commands_in batch) (replies_of is_safe batch)
   answers_them is_safe places next batch below apart k =
       let grown = (grows is_safe places next batch k below).1 in
@@ -203,7 +203,7 @@ module _ where
         grows = λ t.
             let g = grown t in
             let same : filter (is_answer_to t) (answers_to (commands_in batch) (replies_of is_safe batch)) ≡ told_here is_safe t batch =
-            ap (λ (xs : List Held). filter (is_answer_to t) (map answer_of xs)) (held_is is_safe batch) ∙ ap (filter (is_answer_to t)) (told_is is_safe batch) in
+            ap (λ (xs : List Taken). filter (is_answer_to t) (map answer_of xs)) (held_is is_safe batch) ∙ ap (filter (is_answer_to t)) (told_is is_safe batch) in
             subst (λ (xs : List Answer). Grows (view_at places t) (view_at next t) (here t batch) xs) (sym same)
             (record { taken = g.taken; answered = g.answered; same = as_many is_safe t batch });
       }

@@ -21,7 +21,7 @@ use Rattle.lift_keeper.specs.Images.{IsImageOf, IsInDoubt}
 use Rattle.lift_keeper.specs.Writer.{WriterView}
 use Rattle.lift_keeper.specs.lemmas.Committed.{safe_register}
 use Rattle.lift_world.specs.declared.event.Event.{Event}
-use Rattle.lift_world.specs.declared.event.Taken.{Taken as Held}
+use Rattle.lift_world.specs.declared.event.Taken.{Taken}
 use Rattle.lift_world.specs.World.{World}
 use Rattle.lift_world.specs.Next.{unknown_to}
 use Rattle.lift_world.specs.Turns.{with_replies}
@@ -87,7 +87,7 @@ pub leaves_behind : {D : Type 0} (state : D → DiskState) (f g : FlusherState D
 leaves_behind state f g answer c leaves = leaves_by state f.writer c.batch g.writer answer c.is leaves
 
 -- ---- one turn
-module _ {D : Type 0} (state : D → DiskState) (crashes : CrashesKeep D) (law : MomentsKeep D state) (f g : FlusherState D) (base : RegisterState) (safe : List Entry) (given : List Held) (h : History base (group_behind f) safe given) where
+module _ {D : Type 0} (state : D → DiskState) (crashes : CrashesKeep D) (law : MomentsKeep D state) (f g : FlusherState D) (base : RegisterState) (safe : List Entry) (given : List Taken) (h : History base (group_behind f) safe given) where
   abbrev old : DiskState
   old = state f.writer.device
 
@@ -100,12 +100,12 @@ module _ {D : Type 0} (state : D → DiskState) (crashes : CrashesKeep D) (law :
   abbrev register : RegisterState
   register = f.writer.register
 
-  abbrev Now : List Entry → List Held → Type 0
+  abbrev Now : List Entry → List Taken → Type 0
   Now entries told = History base (group_behind g) entries told
 
   -- from its end on
   keeps_behind : (answer : Result FlushCounts KeeperFault) → CommitsTo {T = FlushCounts} state f.writer (entries_between f.end g.end) g.end.state.register g.writer answer
-      → (entries : List Entry) (told : List Held) → Now entries told → LeavesSafe f.writer old → KeepsNow base (group_behind g) entries told new
+      → (entries : List Entry) (told : List Taken) → Now entries told → LeavesSafe f.writer old → KeepsNow base (group_behind g) entries told new
   keeps_behind answer c entries told k leaves = kept_now crashes base (group_behind g) entries told k new (leaves_behind state f g answer c leaves)
 
   -- a turn that received nothing
@@ -133,7 +133,7 @@ module _ {D : Type 0} (state : D → DiskState) (crashes : CrashesKeep D) (law :
     empty_history =
         subst (λ (x : FlusherState D). History base (group_behind x) (safe ++ []) (given ++ [])) (sym e.same)
         (subst (λ (xs : List Entry). History base (group_behind f) xs (given ++ [])) (sym (append-nil safe))
-        (subst (λ (ts : List Held). History base (group_behind f) safe ts) (sym (append-nil given)) h))
+        (subst (λ (ts : List Taken). History base (group_behind f) safe ts) (sym (append-nil given)) h))
 
     empty_adds : Adds f g [] []
     empty_adds = record {
@@ -160,7 +160,7 @@ module _ {D : Type 0} (state : D → DiskState) (crashes : CrashesKeep D) (law :
         possible = refl;
         past = subst (λ (x : FlusherState D). IsPastOf w (group_behind x) terminals (safe ++ []) (given ++ [])) (sym e.same)
             (subst (λ (xs : List Entry). IsPastOf w (group_behind f) terminals xs (given ++ [])) (sym (append-nil safe))
-            (subst (λ (ts : List Held). IsPastOf w (group_behind f) terminals safe ts) (sym (append-nil given)) p));
+            (subst (λ (ts : List Taken). IsPastOf w (group_behind f) terminals safe ts) (sym (append-nil given)) p));
       };
     }
 
@@ -186,7 +186,7 @@ module _ {D : Type 0} (state : D → DiskState) (crashes : CrashesKeep D) (law :
     abbrev cs : List Command
     cs = commands_in batch.commands
 
-    abbrev with_given : Bool → List Held
+    abbrev with_given : Bool → List Taken
     with_given is_safe = given ++ with_replies cs (replies_of is_safe batch.commands)
 
     module _ (answer : Result FlushCounts KeeperFault) (t : IsBatchTurn f g batch answer) where
@@ -249,11 +249,11 @@ module _ {D : Type 0} (state : D → DiskState) (crashes : CrashesKeep D) (law :
       }
 
       kept_told : with_given true ≡ given ++ (held_in (batch ∷ []) ++ map unknown_to (held_in []))
-      kept_told = ap (λ (ts : List Held). given ++ ts)
+      kept_told = ap (λ (ts : List Taken). given ++ ts)
           (sym (append-nil (with_replies cs (replies_in batch.commands))) ∙ sym (append-nil (held_in (batch ∷ []))))
 
       lost_told : with_given false ≡ given ++ (held_in [] ++ map unknown_to (held_in (batch ∷ [])))
-      lost_told = ap (λ (ts : List Held). given ++ ts)
+      lost_told = ap (λ (ts : List Taken). given ++ ts)
           (held_is false batch.commands ∙ ap (map unknown_to) (sym (held_is true batch.commands) ∙ sym (append-nil (with_replies cs (replies_in batch.commands)))))
 
     -- it answers Ok
@@ -278,7 +278,7 @@ module _ {D : Type 0} (state : D → DiskState) (crashes : CrashesKeep D) (law :
 
       safe_history : Now (safe ++ entries_of_batches (batch ∷ [])) (given ++ (held_in (batch ∷ []) ++ map unknown_to (held_in [])))
       safe_history = subst (λ (xs : List Entry). Now (safe ++ xs) (given ++ (held_in (batch ∷ []) ++ map unknown_to (held_in [])))) (sym (append-nil batch.entries))
-          (subst (λ (ts : List Held). Now (safe ++ batch.entries) ts) (kept_told (Ok counts) t) (Turned h (Safe makes_safe)))
+          (subst (λ (ts : List Taken). Now (safe ++ batch.entries) ts) (kept_told (Ok counts) t) (Turned h (Safe makes_safe)))
 
       pub safe_stands : FlushStands f g base safe given old new
       safe_stands = record {
@@ -311,14 +311,14 @@ module _ {D : Type 0} (state : D → DiskState) (crashes : CrashesKeep D) (law :
             leads = λ folds.
                 let es : List Event = flush_events (batch ∷ []) true f.writer.is_broken k.0 folds in
                 subst (λ (xs : List Entry). LeadsToPast w es (group_behind g) terminals (safe ++ xs) (given ++ (held_in (batch ∷ []) ++ map unknown_to (held_in [])))) (sym (append-nil batch.entries))
-                (subst (λ (ts : List Held). LeadsToPast w es (group_behind g) terminals (safe ++ batch.entries) ts) (kept_told (Ok counts) t) (k.1 folds));
+                (subst (λ (ts : List Taken). LeadsToPast w es (group_behind g) terminals (safe ++ batch.entries) ts) (kept_told (Ok counts) t) (k.1 folds));
           }
 
     -- or it doesn't
     module _ (fault : KeeperFault) (t : IsBatchTurn f g batch (Err fault)) (c : CommitsTo {T = FlushCounts} state f.writer (entries_between f.end g.end) g.end.state.register g.writer (Err fault)) where
       lost_history : Now safe (with_given false) → Now (safe ++ []) (given ++ (held_in [] ++ map unknown_to (held_in (batch ∷ []))))
       lost_history k = subst (λ (xs : List Entry). Now xs (given ++ (held_in [] ++ map unknown_to (held_in (batch ∷ []))))) (sym (append-nil safe))
-          (subst (λ (ts : List Held). Now safe ts) (lost_told (Err fault) t) k)
+          (subst (λ (ts : List Taken). Now safe ts) (lost_told (Err fault) t) k)
 
       lost_now : Now safe (with_given false) → LeavesSafe f.writer old → KeepsNow base (group_behind g) (safe ++ []) (given ++ (held_in [] ++ map unknown_to (held_in (batch ∷ [])))) new
       lost_now k = keeps_behind (Err fault) c (safe ++ []) (given ++ (held_in [] ++ map unknown_to (held_in (batch ∷ [])))) (lost_history k)
@@ -388,7 +388,7 @@ module _ {D : Type 0} (state : D → DiskState) (crashes : CrashesKeep D) (law :
         letters = letters;
         leads = λ folds.
             subst (λ (b : Bool). LeadsToPast w (flush_events (batch ∷ []) false b letters folds) (group_behind g) terminals (safe ++ []) (given ++ (held_in [] ++ map unknown_to (held_in (batch ∷ []))))) (sym is)
-            (subst (λ (ts : List Held). LeadsToPast w (flush_events (batch ∷ []) false was letters folds) (group_behind g) terminals (safe ++ []) ts) (lost_told (Err fault) t) (leads folds));
+            (subst (λ (ts : List Taken). LeadsToPast w (flush_events (batch ∷ []) false was letters folds) (group_behind g) terminals (safe ++ []) ts) (lost_told (Err fault) t) (leads folds));
       }
 
       leads_by_cause : PastsGoOn D → (w : World) (terminals : Terminals) → IsPastOf w (group_behind f) terminals safe given → TakesAsks (group_behind g) terminals
@@ -442,11 +442,11 @@ entries_both (x ∷ xs) ys = ap (λ (es : List Entry). x.entries ++ es) (entries
 held_both : (xs ys : List BatchState) → held_in (xs ++ ys) ≡ held_in xs ++ held_in ys
 held_both [] ys = refl
 held_both (x ∷ xs) ys =
-    let told : List Held = with_replies (commands_in x.commands) (replies_in x.commands) in
-    ap (λ (hs : List Held). told ++ hs) (held_both xs ys) ∙ sym (append_assoc told (held_in xs) (held_in ys))
+    let told : List Taken = with_replies (commands_in x.commands) (replies_in x.commands) in
+    ap (λ (hs : List Taken). told ++ hs) (held_both xs ys) ∙ sym (append_assoc told (held_in xs) (held_in ys))
 
-module _ {D : Type 0} (f m g : FlusherState D) (base : RegisterState) (safe : List Entry) (given : List Held) where
-  adds_both : (a b : List Entry) (u v : List Held) → Adds f m a u → Adds m g b v → (was : Bool) → m.writer.is_broken ≡ was → Adds f g (a ++ b) (u ++ v)
+module _ {D : Type 0} (f m g : FlusherState D) (base : RegisterState) (safe : List Entry) (given : List Taken) where
+  adds_both : (a b : List Entry) (u v : List Taken) → Adds f m a u → Adds m g b v → (was : Bool) → m.writer.is_broken ≡ was → Adds f g (a ++ b) (u ++ v)
   adds_both a b u v x y true broken =
       let none : y.kept ≡ [] = (y.was_broken broken).0 in
       let now : g.writer.is_broken ≡ true = (y.was_broken broken).1 in
@@ -456,9 +456,9 @@ module _ {D : Type 0} (f m g : FlusherState D) (base : RegisterState) (safe : Li
         received = y.received ∙ ap (λ (bs : List BatchState). m.end.received ++ (bs ++ y.lost)) none ∙ ap (λ (bs : List BatchState). bs ++ y.lost) x.received
             ∙ append_assoc f.end.received (x.kept ++ x.lost) y.lost ∙ ap (λ (bs : List BatchState). f.end.received ++ bs) (append_assoc x.kept x.lost y.lost);
         more_is = ap (λ (es : List Entry). a ++ es) (y.more_is ∙ ap entries_of_batches none) ∙ append-nil a ∙ x.more_is;
-        told_is = ap (λ (hs : List Held). u ++ hs) (y.told_is ∙ ap (λ (bs : List BatchState). held_in bs ++ map unknown_to (held_in y.lost)) none)
-            ∙ ap (λ (hs : List Held). hs ++ map unknown_to (held_in y.lost)) x.told_is ∙ append_assoc (held_in x.kept) (map unknown_to (held_in x.lost)) (map unknown_to (held_in y.lost))
-            ∙ ap (λ (hs : List Held). held_in x.kept ++ hs) (sym (map-append unknown_to (held_in x.lost) (held_in y.lost)) ∙ ap (map unknown_to) (sym (held_both x.lost y.lost)));
+        told_is = ap (λ (hs : List Taken). u ++ hs) (y.told_is ∙ ap (λ (bs : List BatchState). held_in bs ++ map unknown_to (held_in y.lost)) none)
+            ∙ ap (λ (hs : List Taken). hs ++ map unknown_to (held_in y.lost)) x.told_is ∙ append_assoc (held_in x.kept) (map unknown_to (held_in x.lost)) (map unknown_to (held_in y.lost))
+            ∙ ap (λ (hs : List Taken). held_in x.kept ++ hs) (sym (map-append unknown_to (held_in x.lost) (held_in y.lost)) ∙ ap (map unknown_to) (sym (held_both x.lost y.lost)));
         was_broken = λ was. ((x.was_broken was).0, now);
         is_whole = λ whole. both g.writer.is_broken whole now;
       }
@@ -471,9 +471,9 @@ module _ {D : Type 0} (f m g : FlusherState D) (base : RegisterState) (safe : Li
         received = y.received ∙ ap (λ (bs : List BatchState). bs ++ (y.kept ++ y.lost)) (x.received ∙ ap (λ (bs : List BatchState). f.end.received ++ bs) kept)
             ∙ append_assoc f.end.received x.kept (y.kept ++ y.lost) ∙ ap (λ (bs : List BatchState). f.end.received ++ bs) (sym (append_assoc x.kept y.kept y.lost));
         more_is = ap (λ (es : List Entry). es ++ b) x.more_is ∙ ap (λ (es : List Entry). entries_of_batches x.kept ++ es) y.more_is ∙ sym (entries_both x.kept y.kept);
-        told_is = ap (λ (hs : List Held). hs ++ v) (x.told_is ∙ ap (λ (bs : List BatchState). held_in x.kept ++ map unknown_to (held_in bs)) none ∙ append-nil (held_in x.kept))
-            ∙ ap (λ (hs : List Held). held_in x.kept ++ hs) y.told_is ∙ sym (append_assoc (held_in x.kept) (held_in y.kept) (map unknown_to (held_in y.lost)))
-            ∙ ap (λ (hs : List Held). hs ++ map unknown_to (held_in y.lost)) (sym (held_both x.kept y.kept));
+        told_is = ap (λ (hs : List Taken). hs ++ v) (x.told_is ∙ ap (λ (bs : List BatchState). held_in x.kept ++ map unknown_to (held_in bs)) none ∙ append-nil (held_in x.kept))
+            ∙ ap (λ (hs : List Taken). held_in x.kept ++ hs) y.told_is ∙ sym (append_assoc (held_in x.kept) (held_in y.kept) (map unknown_to (held_in y.lost)))
+            ∙ ap (λ (hs : List Taken). hs ++ map unknown_to (held_in y.lost)) (sym (held_both x.kept y.kept));
         was_broken = λ was. both m.writer.is_broken whole (x.was_broken was).1;
         is_whole = y.is_whole;
       }
@@ -484,10 +484,10 @@ module _ {D : Type 0} (f m g : FlusherState D) (base : RegisterState) (safe : Li
     told = x.told ++ y.told;
     adds = adds_both x.more y.more x.told y.told x.adds y.adds m.writer.is_broken refl;
     history = subst (λ (es : List Entry). History base (group_behind g) es (given ++ (x.told ++ y.told))) (append_assoc safe x.more y.more)
-        (subst (λ (hs : List Held). History base (group_behind g) ((safe ++ x.more) ++ y.more) hs) (append_assoc given x.told y.told) y.history);
+        (subst (λ (hs : List Taken). History base (group_behind g) ((safe ++ x.more) ++ y.more) hs) (append_assoc given x.told y.told) y.history);
   }
 
-goes_nowhere : {D : Type 0} (f : FlusherState D) (base : RegisterState) (safe : List Entry) (given : List Held) → History base (group_behind f) safe given → GoesOnTo f f base safe given
+goes_nowhere : {D : Type 0} (f : FlusherState D) (base : RegisterState) (safe : List Entry) (given : List Taken) → History base (group_behind f) safe given → GoesOnTo f f base safe given
 goes_nowhere f base safe given h = record {
   more = [];
   told = [];
@@ -500,7 +500,7 @@ goes_nowhere f base safe given h = record {
     was_broken = λ broken. (refl, broken);
     is_whole = λ whole. refl;
   };
-  history = subst (λ (es : List Entry). History base (group_behind f) es (given ++ [])) (sym (append-nil safe)) (subst (λ (hs : List Held). History base (group_behind f) safe hs) (sym (append-nil given)) h);
+  history = subst (λ (es : List Entry). History base (group_behind f) es (given ++ [])) (sym (append-nil safe)) (subst (λ (hs : List Taken). History base (group_behind f) safe hs) (sym (append-nil given)) h);
 }
 
 module _ {D : Type 0} (state : D → DiskState) (crashes : CrashesKeep D) (law : MomentsKeep D state) where

@@ -18,13 +18,13 @@ use Rattle.lift_policy.specs.declared.command.Command.{Command}
 use Rattle.lift_world.specs.declared.event.Answer.{Answer}
 use Rattle.lift_world.specs.declared.event.Event.{Event}
 use Rattle.lift_world.specs.declared.event.Phase.TheVariants.{GateWritten}
-use Rattle.lift_world.specs.declared.event.Taken.{Taken as Held}
+use Rattle.lift_world.specs.declared.event.Taken.{Taken}
 use Rattle.lift_world.specs.World.{World, SealedBatch, asks, is_answer_to, safe_list}
 use Rattle.lift_world.specs.Next.{goes, answer_of, unknown_to}
 use Rattle.lift_world.specs.Relay.{answered_of, left_unanswered, flushed, flush_failed, flushed_broken, flusher_events, failing_flush, broken_flush}
 use Rattle.lift_clerk.specs.lemmas.Words.{asks_both, asks_count, answers_both, answers_long}
 use Rattle.lift_clerk.specs.lemmas.Asked.{not_both}
-use Rattle.lift_parts.specs.declared.taken.Taken.{Taken}
+use Rattle.lift_parts.specs.declared.taken.NotedCommand.{NotedCommand}
 use Rattle.lift_parts.specs.declared.counts.FlushCounts.{FlushCounts}
 use Rattle.lift_parts.specs.Batch.{BatchState, AreBelow, commands_in, entries_of_batches}
 use Rattle.lift_parts.specs.Line.{ReceivesOne}
@@ -36,27 +36,27 @@ use Rattle.lift_parts.proofs.Tied.{order, reaches}
 use Rattle.lift_parts.proofs.TiedTake.{safe_long}
 
 -- ---- what the machine answers
-pub all_answered : (cs : List Held) → answered_of all_found cs ≡ cs
+pub all_answered : (cs : List Taken) → answered_of all_found cs ≡ cs
 all_answered [] = refl
-all_answered (c ∷ cs) = ap (λ (xs : List Held). c ∷ xs) (all_answered cs)
+all_answered (c ∷ cs) = ap (λ (xs : List Taken). c ∷ xs) (all_answered cs)
 
-pub none_left : (cs : List Held) → left_unanswered all_found cs ≡ []
+pub none_left : (cs : List Taken) → left_unanswered all_found cs ≡ []
 none_left [] = refl
 none_left (c ∷ cs) = none_left cs
 
 -- Unknown, whatever was decided
-abbrev unknown_held : Command → Held
+abbrev unknown_held : Command → Taken
 unknown_held c = unknown_to (record { terminal = c.terminal; number = c.number; body = c.body; reply = Rattle.lift_base.specs.declared.command.Reply.TheVariants.Unknown })
 
-unknown_of : (cs : List Held) → map unknown_to cs ≡ map unknown_held (map command_of cs)
+unknown_of : (cs : List Taken) → map unknown_to cs ≡ map unknown_held (map command_of cs)
 unknown_of [] = refl
-unknown_of (c ∷ cs) = ap (λ (xs : List Held). unknown_to c ∷ xs) (unknown_of cs)
+unknown_of (c ∷ cs) = ap (λ (xs : List Taken). unknown_to c ∷ xs) (unknown_of cs)
 
-unknown_held_as : (batch : List Taken) → map unknown_to (map held_as batch) ≡ map unknown_held (commands_in batch)
+unknown_held_as : (batch : List NotedCommand) → map unknown_to (map held_as batch) ≡ map unknown_held (commands_in batch)
 unknown_held_as [] = refl
-unknown_held_as (t ∷ batch) = ap (λ (xs : List Held). unknown_held t.command ∷ xs) (unknown_held_as batch)
+unknown_held_as (t ∷ batch) = ap (λ (xs : List Taken). unknown_held t.command ∷ xs) (unknown_held_as batch)
 
-pub unknown_same : (cs : List Held) (batch : List Taken) → map command_of cs ≡ commands_in batch → map unknown_to cs ≡ map unknown_to (map held_as batch)
+pub unknown_same : (cs : List Taken) (batch : List NotedCommand) → map command_of cs ≡ commands_in batch → map unknown_to cs ≡ map unknown_to (map held_as batch)
 unknown_same cs batch e = unknown_of cs ∙ ap (map unknown_held) e ∙ sym (unknown_held_as batch)
 
 -- ---- the first batch of the queue
@@ -210,16 +210,16 @@ module _ {D P : Type 0} (laws : RelayLaws) (w : World) (a : AllocatorState P) (f
   flushes_well folds = record {
     end = end;
     possible = possible folds;
-    given_is = ap (λ (xs : List Held). w.given ++ xs) commands_are;
+    given_is = ap (λ (xs : List Taken). w.given ++ xs) commands_are;
     safe_is = safe_now;
     same_building = refl;
     same_base = refl;
-    answered_is = ap (λ (xs : List Held). w.answered ++ map answer_of xs) commands_are;
+    answered_is = ap (λ (xs : List Taken). w.answered ++ map answer_of xs) commands_are;
     same_asked = refl;
     same_heard = refl;
-    shows = shows laws w a f g batch t.turn.receives sent m true t.turn.answered end refl refl (ap (λ (xs : List Held). w.answered ++ map answer_of xs) commands_are ∙ ap (λ (xs : List Answer). w.answered ++ xs) (answers_as batch.commands))
+    shows = shows laws w a f g batch t.turn.receives sent m true t.turn.answered end refl refl (ap (λ (xs : List Taken). w.answered ++ map answer_of xs) commands_are ∙ ap (λ (xs : List Answer). w.answered ++ xs) (answers_as batch.commands))
         refl refl t.same_plan (flusher_events all_found fq.q folds (length batch.entries)) (possible folds) refl refl refl
-        (ap (λ (xs : List Held). w.due ++ xs) (none_left fq.q.commands) ∙ append-nil w.due ∙ m.nothing_due)
+        (ap (λ (xs : List Taken). w.due ++ xs) (none_left fq.q.commands) ∙ append-nil w.due ∙ m.nothing_due)
         register_now
         (λ e. record {
           between = record { running = k.between.running; idle = k.between.idle; nothing_flies = k.between.nothing_flies };
@@ -267,17 +267,17 @@ module _ {D P : Type 0} (laws : RelayLaws) (w : World) (a : AllocatorState P) (f
   fails_flush folds = record {
     end = fend;
     possible = fpossible folds;
-    given_is = ap (λ (xs : List Held). w.given ++ map unknown_to xs) fcommands_are;
+    given_is = ap (λ (xs : List Taken). w.given ++ map unknown_to xs) fcommands_are;
     safe_is = refl;
     same_building = refl;
     same_base = refl;
-    answered_is = ap (λ (xs : List Held). w.answered ++ map answer_of (map unknown_to xs)) fcommands_are;
+    answered_is = ap (λ (xs : List Taken). w.answered ++ map answer_of (map unknown_to xs)) fcommands_are;
     same_asked = refl;
     same_heard = refl;
     shows = shows laws w a f g batch t.turn.receives sent m false t.turn.answered fend refl refl
-        (ap (λ (xs : List Held). w.answered ++ map answer_of (map unknown_to xs)) fcommands_are ∙ ap (λ (xs : List Answer). w.answered ++ xs) (unknown_as batch.commands))
+        (ap (λ (xs : List Taken). w.answered ++ map answer_of (map unknown_to xs)) fcommands_are ∙ ap (λ (xs : List Answer). w.answered ++ xs) (unknown_as batch.commands))
         refl refl t.same_plan (failing_flush all_found ffq.q folds GateWritten (length batch.entries)) (fpossible folds) refl refl refl
-        (ap (λ (xs : List Held). w.due ++ map unknown_to xs) (none_left ffq.q.commands) ∙ append-nil w.due ∙ m.nothing_due)
+        (ap (λ (xs : List Taken). w.due ++ map unknown_to xs) (none_left ffq.q.commands) ∙ append-nil w.due ∙ m.nothing_due)
         (m.safe ∙ sym t.same_register)
         (λ e. not_both g.writer.is_broken e t.breaks)
         (λ e. record {
@@ -314,17 +314,17 @@ module _ {D P : Type 0} (laws : RelayLaws) (w : World) (a : AllocatorState P) (f
   broken_flushes = record {
     end = bend;
     possible = bpossible;
-    given_is = ap (λ (xs : List Held). w.given ++ xs) bcommands_are;
+    given_is = ap (λ (xs : List Taken). w.given ++ xs) bcommands_are;
     safe_is = refl;
     same_building = refl;
     same_base = refl;
-    answered_is = ap (λ (xs : List Held). w.answered ++ map answer_of xs) bcommands_are;
+    answered_is = ap (λ (xs : List Taken). w.answered ++ map answer_of xs) bcommands_are;
     same_asked = refl;
     same_heard = refl;
     shows = shows laws w a f g batch t.turn.receives sent m false t.turn.answered bend refl refl
-        (ap (λ (xs : List Held). w.answered ++ map answer_of xs) bcommands_are ∙ ap (λ (xs : List Answer). w.answered ++ xs) (unknown_as batch.commands))
+        (ap (λ (xs : List Taken). w.answered ++ map answer_of xs) bcommands_are ∙ ap (λ (xs : List Answer). w.answered ++ xs) (unknown_as batch.commands))
         refl refl (ap (λ (v : Rattle.lift_keeper.specs.Writer.WriterView D). v.plan) t.rests) (broken_flush all_found bq.q) bpossible refl refl refl
-        (ap (λ (xs : List Held). w.due ++ map unknown_to xs) (none_left bq.q.commands) ∙ append-nil w.due ∙ m.nothing_due)
+        (ap (λ (xs : List Taken). w.due ++ map unknown_to xs) (none_left bq.q.commands) ∙ append-nil w.due ∙ m.nothing_due)
         (m.safe ∙ ap (λ (v : Rattle.lift_keeper.specs.Writer.WriterView D). v.register) (sym t.rests))
         (λ e. not_both g.writer.is_broken e still_broken)
         (λ e. record {

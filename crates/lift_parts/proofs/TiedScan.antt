@@ -23,7 +23,7 @@ use Rattle.lift_policy.specs.Eligible.{Choice}
 use Rattle.lift_policy.specs.Step.{State}
 use Rattle.lift_policy.specs.Run.{Run}
 use Rattle.lift_policy.specs.declared.command.Command.{Command}
-use Rattle.lift_world.specs.declared.event.Taken.{Taken as Held}
+use Rattle.lift_world.specs.declared.event.Taken.{Taken}
 use Rattle.lift_world.specs.World.{World, SealedBatch, asks, is_off, is_answer_to, is_taken_of}
 use Rattle.lift_world.specs.Next.{unanswered}
 use Rattle.lift_world.specs.Among.{StandsAsk}
@@ -58,26 +58,26 @@ Reads (place ∷ places) (visit ∷ visits) = TakesOf place.view visit.word visi
 -- ---- what is on its way of a terminal
 module _ (t : ℕ) where
   -- no command is of the terminal
-  none_passes : (x : Held) (b : Bool) (xs : List Held) → eqb x.terminal t ≡ b → cond b (command_of x ∷ filter (asks t) (map command_of xs)) (filter (asks t) (map command_of xs)) ≡ []
+  none_passes : (x : Taken) (b : Bool) (xs : List Taken) → eqb x.terminal t ≡ b → cond b (command_of x ∷ filter (asks t) (map command_of xs)) (filter (asks t) (map command_of xs)) ≡ []
       → (x.terminal ≢ t) × (filter (asks t) (map command_of xs) ≡ [])
   none_passes x true xs e none = absurd (cc)
   none_passes x false xs e none = ((λ same. let yes : eqb x.terminal t ≡ true = eq-eqb x.terminal t same in absurd (false≢true (sym e ∙ yes))), none)
 
-  pub none_of : (xs : List Held) → filter (asks t) (map command_of xs) ≡ [] → AllByRecursion (λ (x : Held). x.terminal ≢ t) xs
+  pub none_of : (xs : List Taken) → filter (asks t) (map command_of xs) ≡ [] → AllByRecursion (λ (x : Taken). x.terminal ≢ t) xs
   none_of [] none = tt
   none_of (x ∷ xs) none = let k = none_passes x (eqb x.terminal t) xs refl none in (k.0, none_of xs k.1)
 
   -- how many there are
-  one_counted : (x : Held) (xs : List Held) (b : Bool) → length (filter (asks t) (map command_of xs)) ≡ length (filter (is_taken_of t) xs)
+  one_counted : (x : Taken) (xs : List Taken) (b : Bool) → length (filter (asks t) (map command_of xs)) ≡ length (filter (is_taken_of t) xs)
       → length (cond b (command_of x ∷ filter (asks t) (map command_of xs)) (filter (asks t) (map command_of xs))) ≡ length (cond b (x ∷ filter (is_taken_of t) xs) (filter (is_taken_of t) xs))
   one_counted x xs true e = ap suc e
   one_counted x xs false e = e
 
-  pub same_count : (xs : List Held) → length (filter (asks t) (map command_of xs)) ≡ length (filter (is_taken_of t) xs)
+  pub same_count : (xs : List Taken) → length (filter (asks t) (map command_of xs)) ≡ length (filter (is_taken_of t) xs)
   same_count [] = refl
   same_count (x ∷ xs) = one_counted x xs (eqb x.terminal t) (same_count xs)
 
-abbrev pub flat : List SealedBatch → List Held
+abbrev pub flat : List SealedBatch → List Taken
 flat queue = flat_map (λ (q : SealedBatch). q.commands) queue
 
 pub queued_is : (queue : List SealedBatch) → queued_in queue ≡ map command_of (flat queue)
@@ -91,9 +91,9 @@ pub record OnlyQueued (w : World) : Type 0 where
 
 pub only_queued : (w : World) → w.due ≡ [] → w.flight.commands ≡ [] → w.taken ≡ [] → unanswered w ≡ flat w.queue
 only_queued w d f t =
-    ap (λ (xs : List Held). xs ++ w.flight.commands ++ flat w.queue ++ w.taken) d
-    ∙ ap (λ (xs : List Held). xs ++ flat w.queue ++ w.taken) f
-    ∙ ap (λ (xs : List Held). flat w.queue ++ xs) t ∙ append-nil (flat w.queue)
+    ap (λ (xs : List Taken). xs ++ w.flight.commands ++ flat w.queue ++ w.taken) d
+    ∙ ap (λ (xs : List Taken). xs ++ flat w.queue ++ w.taken) f
+    ∙ ap (λ (xs : List Taken). flat w.queue ++ xs) t ∙ append-nil (flat w.queue)
 
 pub is_queued : {D P : Type 0} (w : World) (a : AllocatorState P) (f : FlusherState D) → IsRelayOf w a f → OnlyQueued w
 is_queued w a f m = by_state f.writer.is_broken refl
@@ -133,7 +133,7 @@ module _ (laws : RelayLaws) (w : World) (reached : IsReached w) (only : OnlyQueu
 
   on_way_is : length (on_way w t) ≡ count_by (is_taken_of t) (unanswered w)
   on_way_is =
-      ap (λ (cs : List Command). length (filter (asks t) cs)) (queued_is w.queue) ∙ same_count t (flat w.queue) ∙ ap (λ (xs : List Held). length (filter (is_taken_of t) xs)) (sym only.all)
+      ap (λ (cs : List Command). length (filter (asks t) cs)) (queued_is w.queue) ∙ same_count t (flat w.queue) ∙ ap (λ (xs : List Taken). length (filter (is_taken_of t) xs)) (sym only.all)
       ∙ length-filter (is_taken_of t) (unanswered w)
 
   -- at most one ask waits, and then nothing is on its way
@@ -174,7 +174,7 @@ module _ (laws : RelayLaws) (w : World) (reached : IsReached w) (only : OnlyQueu
             length-append s.first (on_way w t),
             length-filter (asks t) w.asked,
           );
-          not_taken = subst (λ (xs : List Held). AllByRecursion (λ (x : Held). x.terminal ≢ t) xs) (sym only.all)
+          not_taken = subst (λ (xs : List Taken). AllByRecursion (λ (x : Taken). x.terminal ≢ t) xs) (sym only.all)
               (none_of t (flat w.queue) (ap (filter (asks t)) (sym (queued_is w.queue)) ∙ empty));
           asked_last = finds_last (asks t) w.asked fa command split;
         };

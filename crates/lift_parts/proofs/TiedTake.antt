@@ -19,7 +19,7 @@ use Rattle.lift_policy.specs.Eligible.{Choice, any_eligible}
 use Rattle.lift_policy.specs.Step.{State}
 use Rattle.lift_policy.specs.Run.{Run}
 use Rattle.lift_policy.specs.declared.command.Command.{Command}
-use Rattle.lift_world.specs.declared.event.Taken.{Taken as Held}
+use Rattle.lift_world.specs.declared.event.Taken.{Taken}
 use Rattle.lift_world.specs.World.{World, SealedBatch, asks, state_of, safe_list, batch_in_flight}
 use Rattle.lift_world.specs.Next.{goes}
 use Rattle.lift_world.specs.Policies.{RunsAreAny}
@@ -35,7 +35,7 @@ use Rattle.lift_clerk.specs.lemmas.Words.{asks_both, asks_count}
 use Rattle.lift_clerk.specs.lemmas.Asked.{not_both, run_in}
 use Rattle.lift_parts.specs.Scan.{looked_at}
 use Rattle.lift_parts.specs.lemmas.Looking.{length-looked}
-use Rattle.lift_parts.specs.declared.taken.Taken.{Taken}
+use Rattle.lift_parts.specs.declared.taken.NotedCommand.{NotedCommand}
 use Rattle.lift_parts.specs.Batch.{BatchState, AreBelow, commands_in, replies_in, entries_of_batches}
 use Rattle.lift_parts.specs.Allocator.{AllocatorState, IsScanTurn}
 use Rattle.lift_parts.specs.Flusher.{FlusherState}
@@ -98,9 +98,9 @@ run_commands plan choice state next [] rs r = refl
 run_commands plan choice state next (c ∷ cs) [] r = absurd r
 run_commands plan choice state next (c ∷ cs) (reply ∷ rs) r = ap (λ (ds : List Command). c ∷ ds) (run_commands plan choice r.0 next cs rs r.2)
 
-pub held_all : (taken : List Taken) → with_replies (commands_in taken) (replies_in taken) ≡ map held_as taken
+pub held_all : (taken : List NotedCommand) → with_replies (commands_in taken) (replies_in taken) ≡ map held_as taken
 held_all [] = refl
-held_all (t ∷ taken) = ap (λ (xs : List Held). held_as t ∷ xs) (held_all taken)
+held_all (t ∷ taken) = ap (λ (xs : List Taken). held_as t ∷ xs) (held_all taken)
 
 -- the register of the decided state is that of all that is accepted then
 runs_go_on : (plan : Plan) (choice : Choice) (base : RegisterState) (prefix : List Entry) (state next : State) (cs : List Command) (rs : List Reply) → GoesOn base prefix state → Run plan choice state cs rs next → GoesOn base prefix next

@@ -14,11 +14,11 @@ use Rattle.lift_policy.specs.Eligible.{any_eligible}
 use Rattle.lift_policy.specs.Step.{State}
 use Rattle.lift_policy.specs.Run.{Run}
 use Rattle.lift_clerk.specs.Answered.{AreApart}
-use Rattle.lift_parts.specs.declared.taken.Taken.{Taken}
+use Rattle.lift_parts.specs.declared.taken.NotedCommand.{NotedCommand}
 
 pub record BatchState : Type 0 where
   -- what was taken, by rising terminal, each with its reply
-  pub commands : List Taken
+  pub commands : List NotedCommand
   -- what was accepted of it
   pub entries : List Entry
   -- the building that it was decided in, what decisions read before it and behind it, and the desk
@@ -30,19 +30,19 @@ pub record BatchState : Type 0 where
   -- the turn of the last ask that was taken before it, of each terminal
   pub turns : List ℕ
 
-abbrev pub commands_in : List Taken → List Command
-commands_in taken = map (λ (t : Taken). t.command) taken
+abbrev pub commands_in : List NotedCommand → List Command
+commands_in taken = map (λ (t : NotedCommand). t.command) taken
 
-abbrev pub replies_in : List Taken → List Reply
-replies_in taken = map (λ (t : Taken). t.reply) taken
+abbrev pub replies_in : List NotedCommand → List Reply
+replies_in taken = map (λ (t : NotedCommand). t.reply) taken
 
 -- what was accepted of these batches
 abbrev pub entries_of_batches : List BatchState → List Entry
 entries_of_batches batches = flat_map (λ (b : BatchState). b.entries) batches
 
 -- the words that their notes say
-abbrev pub noted_in : List Taken → List ℕ
-noted_in taken = map (λ (t : Taken). t.note.word) taken
+abbrev pub noted_in : List NotedCommand → List ℕ
+noted_in taken = map (λ (t : NotedCommand). t.note.word) taken
 
 -- these commands are of the first so many terminals
 abbrev pub AreBelow : ℕ → List Command → Type 0
@@ -53,17 +53,17 @@ abbrev pub turns_of : List ClerkPlace → List ℕ
 turns_of places = map (λ (p : ClerkPlace). turn_of (last_of p.view.taken)) places
 
 -- the turns once this command was taken
-abbrev pub turns_with : List ℕ → Taken → List ℕ
+abbrev pub turns_with : List ℕ → NotedCommand → List ℕ
 turns_with turns taken = slice_set turns taken.command.terminal (turn_of taken.note.word)
 
 -- the turns once all of these were taken
-abbrev pub turns_after : List ℕ → List Taken → List ℕ
+abbrev pub turns_after : List ℕ → List NotedCommand → List ℕ
 turns_after turns [] = turns
 turns_after turns (taken ∷ commands) = turns_after (turns_with turns taken) commands
 
 -- The command's note is of its terminal's table, it says the ask that the command is, and that ask
 -- is later than all that was taken there before.
-pub record IsNoted (desk : List TableId) (turns : List ℕ) (taken : Taken) : Type 0 where
+pub record IsNoted (desk : List TableId) (turns : List ℕ) (taken : NotedCommand) : Type 0 where
   pub of_table : IsNoteOf desk taken.command.terminal taken.note
   pub in_range : IsAsk (record { number = taken.command.number; body = taken.command.body })
   pub says : taken.note.word
@@ -72,7 +72,7 @@ pub record IsNoted (desk : List TableId) (turns : List ℕ) (taken : Taken) : Ty
   pub later : slice_index_or turns taken.command.terminal 0 < turn_of taken.note.word
 
 -- so is each of these, one after another
-abbrev pub AreNoted : List TableId → List ℕ → List Taken → Type 0
+abbrev pub AreNoted : List TableId → List ℕ → List NotedCommand → Type 0
 AreNoted desk turns [] = Unit {0}
 AreNoted desk turns (taken ∷ commands) = IsNoted desk turns taken
     × AreNoted desk (turns_with turns taken) commands

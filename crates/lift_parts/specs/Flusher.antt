@@ -12,7 +12,7 @@ use Rattle.lift_keeper.specs.declared.fault.KeeperFault.TheVariants.{Journal}
 use Rattle.lift_keeper.specs.Writer.{WriterView}
 use Rattle.lift_clerk.specs.Scanning.{reply_told}
 use Rattle.lift_clerk.specs.Visits.{Visit, FindsAt}
-use Rattle.lift_parts.specs.declared.taken.Taken.{Taken}
+use Rattle.lift_parts.specs.declared.taken.NotedCommand.{NotedCommand}
 use Rattle.lift_parts.specs.declared.counts.FlushCounts.{FlushCounts}
 use Rattle.lift_clerk.specs.Answered.{AreApart, ask_of}
 use Rattle.lift_parts.specs.Batch.{BatchState, IsDecided, AreBelow, commands_in}
@@ -45,7 +45,7 @@ pub record IsFlusher {D : Type 0} (f : FlusherState D) : Type 0 where
 -- One command: its terminal was looked at once, the look read the word that its note says and gave
 -- the command, and its answer was stored: its reply where that is safe, else Unknown; and nothing
 -- else.
-pub record AnswersOne (is_safe : Bool) (places : List ClerkPlace) (taken : Taken) (visit : Visit)
+pub record AnswersOne (is_safe : Bool) (places : List ClerkPlace) (taken : NotedCommand) (visit : Visit)
     (next : List ClerkPlace) : Type 0 where
   pub finds : FindsAt (slice_index_or places taken.command.terminal no_place) visit
   pub gives : visit.found ≡ Some (ask_of taken.command)
@@ -56,7 +56,7 @@ pub record AnswersOne (is_safe : Bool) (places : List ClerkPlace) (taken : Taken
       taken.command.number (reply_told is_safe taken.reply)))
 
 -- each command of a batch, one after another
-abbrev pub Answered : Bool → List ClerkPlace → List Taken → List ClerkPlace → Type 0
+abbrev pub Answered : Bool → List ClerkPlace → List NotedCommand → List ClerkPlace → Type 0
 Answered is_safe places [] next = next ≡ places
 Answered is_safe places (taken ∷ batch) next = (visit : Visit) × (mid : List ClerkPlace)
     × AnswersOne is_safe places taken visit mid × Answered is_safe mid batch next

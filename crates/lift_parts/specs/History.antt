@@ -6,7 +6,7 @@ use Rattle.lift_base.specs.declared.history.Entry.{Entry}
 use Rattle.lift_disk.specs.Disk.{DiskState}
 use Rattle.lift_register.specs.Register.{RegisterState}
 use Rattle.lift_keeper.specs.declared.fault.KeeperFault.{KeeperFault}
-use Rattle.lift_world.specs.declared.event.Taken.{Taken as Held}
+use Rattle.lift_world.specs.declared.event.Taken.{Taken}
 use Rattle.lift_world.specs.Next.{unknown_to}
 use Rattle.lift_world.specs.Turns.{with_replies}
 use Rattle.lift_clerk.specs.Clerk.{ClerkState}
@@ -29,14 +29,14 @@ group_behind f = record {
 }
 
 -- the commands of these batches, with their replies
-abbrev pub held_in : List BatchState → List Held
+abbrev pub held_in : List BatchState → List Taken
 held_in batches =
     flat_map (λ (b : BatchState). with_replies (commands_in b.commands) (replies_in b.commands)) batches
 
 -- What a flusher's turns add. Of the batches that they received the first are safe, and their
 -- commands have their replies; those behind a fault are not, and theirs were answered Unknown.
 pub record Adds {D : Type 0} (old new : FlusherState D) (more : List Entry)
-    (told : List Held) : Type 0 where
+    (told : List Taken) : Type 0 where
   pub kept : List BatchState
   pub lost : List BatchState
   pub received : new.end.received ≡ old.end.received ++ (kept ++ lost)
@@ -47,9 +47,9 @@ pub record Adds {D : Type 0} (old new : FlusherState D) (more : List Entry)
 
 -- The group's history goes on by that.
 pub record GoesOnTo {D : Type 0} (f g : FlusherState D) (base : RegisterState)
-    (safe : List Entry) (given : List Held) : Type 0 where
+    (safe : List Entry) (given : List Taken) : Type 0 where
   pub more : List Entry
-  pub told : List Held
+  pub told : List Taken
   pub adds : Adds f g more told
   pub history : History base (group_behind g) (safe ++ more) (given ++ told)
 
@@ -57,7 +57,7 @@ pub record GoesOnTo {D : Type 0} (f g : FlusherState D) (base : RegisterState)
 -- received, or the one that a fault left in doubt. From its end on a crash leaves what keeps all of
 -- it, where one before it left what was safe or in doubt.
 pub record FlushStands {D : Type 0} (f g : FlusherState D) (base : RegisterState)
-    (safe : List Entry) (given : List Held) (old new : DiskState) : Type 0 where
+    (safe : List Entry) (given : List Taken) (old new : DiskState) : Type 0 where
   pub goes_on : GoesOnTo f g base safe given
   pub received : List BatchState
   pub receives : g.end.received ≡ f.end.received ++ received
@@ -72,7 +72,7 @@ pub record FlushStands {D : Type 0} (f g : FlusherState D) (base : RegisterState
 abbrev pub FlushesStand : (D : Type 0) → (D → DiskState) → Type 0
 FlushesStand D state = (f g : FlusherState D) (answer : Result FlushCounts KeeperFault)
     → IsFlush state f g answer
-    → (base : RegisterState) (safe : List Entry) (given : List Held)
+    → (base : RegisterState) (safe : List Entry) (given : List Taken)
     → History base (group_behind f) safe given
     → FlushStands f g base safe given (state f.writer.device) (state g.writer.device)
 
@@ -80,19 +80,19 @@ FlushesStand D state = (f g : FlusherState D) (answer : Result FlushCounts Keepe
 abbrev pub TurnsGoOn : (D : Type 0) → (D → DiskState) → Type 0
 TurnsGoOn D state = (f g : FlusherState D) (first last : Option KeeperFault)
     → FlusherTurns state f first g last
-    → (base : RegisterState) (safe : List Entry) (given : List Held)
+    → (base : RegisterState) (safe : List Entry) (given : List Taken)
     → History base (group_behind f) safe given → GoesOnTo f g base safe given
 
 -- A clerk may be split: what has happened to it has happened to the flusher,
 abbrev pub SplitsGoOn : (D P : Type 0) → Type 0
 SplitsGoOn D P = (clerk : ClerkState D P) (f : FlusherState D) (base : RegisterState)
-    (safe : List Entry) (given : List Held) → f.desk ≡ clerk.desk → f.seat ≡ clerk.seat → f.writer ≡ clerk.keeper.writer
+    (safe : List Entry) (given : List Taken) → f.desk ≡ clerk.desk → f.seat ≡ clerk.seat → f.writer ≡ clerk.keeper.writer
     → (clerk.keeper.writer.is_broken ≡ false → f.end.state ≡ clerk.keeper.state)
     → History base (group_of clerk) safe given → History base (group_behind f) safe given
 
 -- and of a clerk that is joined of both parts.
 abbrev pub JoinedGoOn : (D P : Type 0) → Type 0
 JoinedGoOn D P = (clerk : ClerkState D P) (f : FlusherState D) (base : RegisterState)
-    (safe : List Entry) (given : List Held) → clerk.desk ≡ f.desk → clerk.seat ≡ f.seat → clerk.keeper.writer ≡ f.writer
+    (safe : List Entry) (given : List Taken) → clerk.desk ≡ f.desk → clerk.seat ≡ f.seat → clerk.keeper.writer ≡ f.writer
     → clerk.keeper.state ≡ f.end.state
     → History base (group_behind f) safe given → History base (group_of clerk) safe given

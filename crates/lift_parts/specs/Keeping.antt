@@ -3,7 +3,7 @@ use Rattle.std.specs.Prelude.{List, ◌++◌, Option, Result}
 use Rattle.lift_base.specs.declared.history.Entry.{Entry}
 use Rattle.lift_disk.specs.Disk.{DiskState}
 use Rattle.lift_register.specs.Register.{RegisterState}
-use Rattle.lift_world.specs.declared.event.Taken.{Taken as Held}
+use Rattle.lift_world.specs.declared.event.Taken.{Taken}
 use Rattle.lift_keeper.specs.declared.fault.KeeperFault.{KeeperFault}
 use Rattle.lift_clerk.specs.History.{History}
 use Rattle.lift_clerk.specs.Keeping.{LeavesSafe, KeepsNow}
@@ -14,13 +14,13 @@ use Rattle.lift_parts.specs.History.{FlushStands, group_behind}
 
 -- Turns of a flusher, one after another, from these safe entries and answers to those.
 pub data KeepingTurns {D : Type 0} (state : D → DiskState) (base : RegisterState)
-    : FlusherState D → List Entry → List Held → FlusherState D → List Entry → List Held
+    : FlusherState D → List Entry → List Taken → FlusherState D → List Entry → List Taken
     → Type 0 where
-  NoneYet : {f : FlusherState D} {safe : List Entry} {given : List Held}
+  NoneYet : {f : FlusherState D} {safe : List Entry} {given : List Taken}
       → KeepingTurns state base f safe given f safe given
   -- At each moment of one more turn all is kept that was safe and given before it. What the turn
   -- makes safe and answers is added behind.
-  OneKept : {f g h : FlusherState D} {safe mid : List Entry} {given now : List Held}
+  OneKept : {f g h : FlusherState D} {safe mid : List Entry} {given now : List Taken}
       {answer : Result FlushCounts KeeperFault}
       → KeepingTurns state base f safe given g mid now → IsFlush state g h answer
       → (s : FlushStands g h base mid now (state g.writer.device) (state h.writer.device))
@@ -30,9 +30,9 @@ pub data KeepingTurns {D : Type 0} (state : D → DiskState) (base : RegisterSta
 -- answered: that is the history of its group. A crash now leaves what keeps them, where one before
 -- the first turn left what was safe or in doubt.
 pub record HaveKept {D : Type 0} (state : D → DiskState) (base : RegisterState)
-    (f g : FlusherState D) (safe : List Entry) (given : List Held) : Type 0 where
+    (f g : FlusherState D) (safe : List Entry) (given : List Taken) : Type 0 where
   pub now_safe : List Entry
-  pub now_given : List Held
+  pub now_given : List Taken
   pub turns : KeepingTurns state base f safe given g now_safe now_given
   pub history : History base (group_behind g) now_safe now_given
   pub kept : LeavesSafe f.writer (state f.writer.device)
@@ -42,5 +42,5 @@ pub record HaveKept {D : Type 0} (state : D → DiskState) (base : RegisterState
 -- whatever the allocator took and sent meanwhile.
 abbrev pub TurnsKeep : (D : Type 0) → (D → DiskState) → Type 0
 TurnsKeep D state = (f g : FlusherState D) (first last : Option KeeperFault) (base : RegisterState)
-    (safe : List Entry) (given : List Held) → History base (group_behind f) safe given → FlusherTurns state f first g last
+    (safe : List Entry) (given : List Taken) → History base (group_behind f) safe given → FlusherTurns state f first g last
     → HaveKept state base f g safe given

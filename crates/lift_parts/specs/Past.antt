@@ -7,7 +7,7 @@ use Rattle.lift_disk.specs.Disk.{DiskState}
 use Rattle.lift_keeper.specs.declared.fault.KeeperFault.{KeeperFault}
 use Rattle.lift_world.specs.declared.event.Event.{Event}
 use Rattle.lift_world.specs.declared.event.Phase.TheVariants.{GateWritten}
-use Rattle.lift_world.specs.declared.event.Taken.{Taken as Held}
+use Rattle.lift_world.specs.declared.event.Taken.{Taken}
 use Rattle.lift_world.specs.World.{World}
 use Rattle.lift_world.specs.Turns.{failed_events}
 use Rattle.lift_clerk.specs.Clerk.{ClerkState}
@@ -34,11 +34,11 @@ flush_events (b ∷ batches) false true letters folds =
 
 -- One turn leads on from this world by just these events, with what it adds.
 pub record FlushLeadsOn {D : Type 0} (f g : FlusherState D) (answer : Result FlushCounts KeeperFault)
-    (w : World) (terminals : Terminals) (safe : List Entry) (given : List Held) : Type 0 where
+    (w : World) (terminals : Terminals) (safe : List Entry) (given : List Taken) : Type 0 where
   pub received : List BatchState
   pub receives : g.end.received ≡ f.end.received ++ received
   pub more : List Entry
-  pub told : List Held
+  pub told : List Taken
   pub adds : Adds f g more told
   pub letters : List (Option ℕ)
   pub leads : (folds : ℕ) → LeadsToPast w
@@ -50,14 +50,14 @@ pub record FlushLeadsOn {D : Type 0} (f g : FlusherState D) (answer : Result Flu
 abbrev pub FlushesLeadOn : (D : Type 0) → (D → DiskState) → Type 0
 FlushesLeadOn D state = (f g : FlusherState D) (answer : Result FlushCounts KeeperFault)
     → IsFlush state f g answer
-    → (w : World) (terminals : Terminals) (safe : List Entry) (given : List Held)
+    → (w : World) (terminals : Terminals) (safe : List Entry) (given : List Taken)
     → IsPastOf w (group_behind f) terminals safe given → TakesAsks (group_behind g) terminals
     → FlushLeadsOn f g answer w terminals safe given
 
 -- A split of a clerk is no event,
 abbrev pub SplitsKeepPasts : (D P : Type 0) → Type 0
 SplitsKeepPasts D P = (w : World) (clerk : ClerkState D P) (f : FlusherState D)
-    (terminals : Terminals) (safe : List Entry) (given : List Held)
+    (terminals : Terminals) (safe : List Entry) (given : List Taken)
     → f.desk ≡ clerk.desk → f.seat ≡ clerk.seat → f.writer ≡ clerk.keeper.writer
     → (clerk.keeper.writer.is_broken ≡ false → f.end.state ≡ clerk.keeper.state)
     → IsPastOf w (group_of clerk) terminals safe given
@@ -66,7 +66,7 @@ SplitsKeepPasts D P = (w : World) (clerk : ClerkState D P) (f : FlusherState D)
 -- and nor is a rejoining of its parts.
 abbrev pub JoinedKeepPasts : (D P : Type 0) → Type 0
 JoinedKeepPasts D P = (w : World) (clerk : ClerkState D P) (f : FlusherState D)
-    (terminals : Terminals) (safe : List Entry) (given : List Held)
+    (terminals : Terminals) (safe : List Entry) (given : List Taken)
     → clerk.desk ≡ f.desk → clerk.seat ≡ f.seat → clerk.keeper.writer ≡ f.writer
     → clerk.keeper.state ≡ f.end.state
     → IsPastOf w (group_behind f) terminals safe given

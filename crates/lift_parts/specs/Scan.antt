@@ -11,7 +11,7 @@ use Rattle.lift_policy.specs.Eligible.{Choice}
 use Rattle.lift_policy.specs.Step.{State}
 use Rattle.lift_policy.specs.Run.{Run}
 use Rattle.lift_clerk.specs.Visits.{Visit, commands_of}
-use Rattle.lift_parts.specs.declared.taken.Taken.{Taken}
+use Rattle.lift_parts.specs.declared.taken.NotedCommand.{NotedCommand}
 use Rattle.lift_parts.specs.Batch.{commands_in, replies_in, noted_in}
 
 -- The look takes what its word says where that is later than all that was taken there before. A
@@ -63,7 +63,7 @@ words_of (visit ∷ visits) = word_at visit.word visit.found ++ words_of visits
 -- The first n places were looked at once each and nothing else was, and what was found was decided,
 -- each command on the state that the earlier ones left.
 pub record ScansAhead (choice : Choice) (plan : Plan) (places seat : List ClerkPlace)
-    (before after : State) (taken : List Taken) (n : ℕ) : Type 0 where
+    (before after : State) (taken : List NotedCommand) (n : ℕ) : Type 0 where
   pub visits : List Visit
   pub count : length visits ≡ n
   pub takes : TakesEach places visits

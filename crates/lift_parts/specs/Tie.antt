@@ -17,7 +17,7 @@ use Rattle.lift_keeper.specs.declared.fault.KeeperFault.TheVariants.{Journal}
 use Rattle.lift_world.specs.declared.event.Event.{Event}
 use Rattle.lift_world.specs.declared.event.Kept.TheVariants.{WithBatch}
 use Rattle.lift_world.specs.declared.event.Phase.TheVariants.{GateWritten}
-use Rattle.lift_world.specs.declared.event.Taken.{Taken as Held}
+use Rattle.lift_world.specs.declared.event.Taken.{Taken}
 use Rattle.lift_world.specs.World.{World, SealedBatch, asks, is_answer_to, state_of}
 use Rattle.lift_world.specs.World.{safe_list, batch_in_flight, may_keep}
 use Rattle.lift_world.specs.Next.{next, goes, answer_of, unknown_to}
@@ -28,7 +28,7 @@ use Rattle.lift_clerk.specs.declared.counts.Counts.{Counts}
 use Rattle.lift_clerk.specs.Clerk.{ClerkState}
 use Rattle.lift_clerk.specs.Visits.{commands_of}
 use Rattle.lift_clerk.specs.Machine.{IsReached, IsMachineOf}
-use Rattle.lift_parts.specs.declared.taken.Taken.{Taken}
+use Rattle.lift_parts.specs.declared.taken.NotedCommand.{NotedCommand}
 use Rattle.lift_parts.specs.declared.counts.FlushCounts.{FlushCounts}
 use Rattle.lift_parts.specs.Batch.{BatchState, AreBelow, commands_in, entries_of_batches}
 use Rattle.lift_parts.specs.Line.{Begins}
@@ -39,7 +39,7 @@ use Rattle.lift_parts.specs.Turns.{IsSending, IsTelling}
 use Rattle.lift_parts.specs.Parts.{AreParts, IsRejoined}
 
 -- a command that was taken, with the reply decided to it, as the machine holds it
-abbrev pub held_as : Taken → Held
+abbrev pub held_as : NotedCommand → Taken
 held_as t = record {
   terminal = t.command.terminal;
   number = t.command.number;
@@ -47,7 +47,7 @@ held_as t = record {
   reply = t.reply;
 }
 
-abbrev pub command_of : Held → Command
+abbrev pub command_of : Taken → Command
 command_of h = record { terminal = h.terminal; number = h.number; body = h.body }
 
 -- the commands of the machine's queue, and those of one terminal
@@ -125,7 +125,7 @@ pub record IsRelayOf {D P : Type 0} (w : World) (a : AllocatorState P)
 
 -- These events, each possible in its place, lead to a world that is these parts'. These commands
 -- were given their answers meanwhile, and these entries are safe then. Terminals did nothing.
-pub record LeadsOn {D P : Type 0} (w : World) (events : List Event) (given : List Held)
+pub record LeadsOn {D P : Type 0} (w : World) (events : List Event) (given : List Taken)
     (safe : List Entry) (a : AllocatorState P) (f : FlusherState D) : Type 0 where
   pub end : World
   pub possible : goes events w ≡ Some end

@@ -7,7 +7,7 @@ mod taken;
 mod tie;
 
 pub use counts::FlushCounts;
-pub use taken::Taken;
+pub use taken::NotedCommand;
 pub use tie::{
     flushes_are_steps, parts_are_clerks, relays_are_the_machines, turns_keep_what_was_given,
 };

@@ -6,15 +6,15 @@ use lift_policy::Command;
 
 /// A command that was taken, a note of its ask, and the reply that it gets once its batch is safe.
 #[derive(Drop)]
-pub struct Taken {
+pub struct NotedCommand {
     pub command: Command,
     pub reply: Reply,
     pub note: Note,
 }
 
-impl Default for Taken {
+impl Default for NotedCommand {
     fn default() -> Self {
-        Taken {
+        NotedCommand {
             command: Command {
                 terminal: Terminal::default(),
                 number: Number::default(),

@@ -17,7 +17,7 @@ use Rattle.lift_clerk.specs.Turn.{settled}
 use Rattle.lift_policy.specs.declared.command.Command.{Command}
 use Rattle.lift_clerk.specs.Visits.{commands_of}
 use Rattle.std.proofs.lemmas.List.{length-map}
-use Rattle.lift_parts.specs.declared.taken.Taken.{Taken}
+use Rattle.lift_parts.specs.declared.taken.NotedCommand.{NotedCommand}
 use Rattle.lift_parts.specs.Batch.{BatchState, turns_behind, turns_of, turns_after, commands_in, replies_in, noted_in}
 use Rattle.lift_parts.specs.Line.{SendState, Tries, tried, Begins, IsNextBatch, SendsOne, WasFull, FindsNoRoom}
 use Rattle.lift_parts.specs.Scan.{ScansAhead, TakesEach, turns_in, looked_at}
@@ -46,7 +46,7 @@ allocator_of s end hand = record { desk = s.desk; seat = s.seat; plan = s.plan; 
 abbrev pub half_of : {P : Type 0} → AllocatorState P → ScannerState P
 half_of a = record { desk = a.desk; seat = a.seat; plan = a.plan; state = a.state; start = a.start; policy = a.policy }
 
-pub makes : {P : Type 0} (choice : Choice) (a : ScannerState P) (seat : List ClerkPlace) (decided : State) (taken : List Taken) (entries : List Entry) (plan : Plan) (before after : State) (seats : List ClerkPlace) (batch : BatchState)
+pub makes : {P : Type 0} (choice : Choice) (a : ScannerState P) (seat : List ClerkPlace) (decided : State) (taken : List NotedCommand) (entries : List Entry) (plan : Plan) (before after : State) (seats : List ClerkPlace) (batch : BatchState)
     → batch ≡ record { commands = taken; entries = entries; building = plan; before = before; after = after; desk = a.desk; turns = turns_of seats } → IsClerkOf a.desk seat
     → Run a.plan choice a.state (commands_in taken) (replies_in taken) decided → entries ≡ decided.batch → plan ≡ a.plan → before ≡ a.state
     → after ≡ settled decided → turns_in a.seat + 1 ≤ turns_in seat
@@ -54,7 +54,7 @@ pub makes : {P : Type 0} (choice : Choice) (a : ScannerState P) (seat : List Cle
 makes choice a seat decided taken entries plan before after seats batch is seated run same building on leads uses of_seat turns = record {
   uses = uses;
   seated = seated;
-  run = subst (λ (l : List Taken). Run a.plan choice a.state (commands_in l) (replies_in l) decided) (sym (ap (λ (b : BatchState). b.commands) is)) run;
+  run = subst (λ (l : List NotedCommand). Run a.plan choice a.state (commands_in l) (replies_in l) decided) (sym (ap (λ (b : BatchState). b.commands) is)) run;
   entries = ap (λ (b : BatchState). b.entries) is ∙ same;
   next = record { of_building = ap (λ (b : BatchState). b.building) is ∙ building; at_desk = ap (λ (b : BatchState). b.desk) is; on_state = ap (λ (b : BatchState). b.before) is ∙ on; on_turns = ap (λ (b : BatchState). b.turns) is ∙ ap turns_of of_seat };
   leads = ap (λ (b : BatchState). b.after) is ∙ leads;
@@ -127,10 +127,10 @@ pub record Between {P : Type 0} (old a : AllocatorState P) : Type 0 where
 then_later : (first mid last : List BatchState) → Begins first mid → Begins mid last → Begins first last
 then_later first mid last a b = (a.0 ++ b.0, b.1 ∙ ap (λ l. l ++ b.0) a.1 ∙ append_assoc first a.0 b.0)
 
-no_command : (taken : List Taken) (commands : List Command) → commands_in taken ≡ commands → commands ≡ [] → length taken ≡ 0
-no_command taken commands is none = sym (length-map taken (λ (t : Taken). t.command)) ∙ ap length is ∙ ap length none
+no_command : (taken : List NotedCommand) (commands : List Command) → commands_in taken ≡ commands → commands ≡ [] → length taken ≡ 0
+no_command taken commands is none = sym (length-map taken (λ (t : NotedCommand). t.command)) ∙ ap length is ∙ ap length none
 
-some_command : (taken : List Taken) (commands : List Command) → commands_in taken ≡ commands → commands ≢ [] → 0 < length taken
+some_command : (taken : List NotedCommand) (commands : List Command) → commands_in taken ≡ commands → commands ≢ [] → 0 < length taken
 some_command [] commands is some = absurd (some (sym is))
 some_command (t ∷ taken) commands is some = omega arith
 
@@ -140,7 +140,7 @@ refused_full old new refused =
     let full = refused.was_full in
     subst WasFull (sym refused.tries) (record { items = full.items; four = full.four; received = full.received; all = full.all; later = full.later })
 
-pub scan_turn : {P : Type 0} (choice : Choice) (old a new : AllocatorState P) (counts : Counts) (taken : List Taken) (decided : State) (batch : BatchState) → Between old a
+pub scan_turn : {P : Type 0} (choice : Choice) (old a new : AllocatorState P) (counts : Counts) (taken : List NotedCommand) (decided : State) (batch : BatchState) → Between old a
     → (scans : ScansAhead choice a.plan a.seat new.seat a.state decided taken (length a.desk))
     → batch.commands ≡ taken → batch.entries ≡ decided.batch
     → new.state ≡ settled decided
@@ -164,7 +164,7 @@ scan_turn {P} choice old a new counts taken decided batch between scans commands
       looked = scans.looked ∙ ap (λ (s : AllocatorState P). looked_at s.seat visits) same;
       commands = ap commands_in commands ∙ scans.commands;
       notes = ap noted_in commands ∙ scans.notes;
-      run = subst (λ (p : AllocatorState P × List Command × List Taken). Run p.0.plan choice p.0.state p.1 (replies_in p.2) decided) (λ i. (same i, scans.commands i, sym commands i)) scans.run;
+      run = subst (λ (p : AllocatorState P × List Command × List NotedCommand). Run p.0.plan choice p.0.state p.1 (replies_in p.2) decided) (λ i. (same i, scans.commands i, sym commands i)) scans.run;
       entries = entries;
       after = settles;
       nothing = λ none. let n = nothing (no_command taken (commands_of 0 visits) scans.commands none) in (n.0 ∙ between.sent, n.1);
@@ -179,13 +179,13 @@ scan_turn {P} choice old a new counts taken decided batch between scans commands
         place.3 ∙ ap (λ (s : AllocatorState P). s.start) same,
         place.4 ∙ between.line,
       );
-      taken = many ∙ sym (length-map taken (λ (t : Taken). t.command)) ∙ ap length scans.commands;
+      taken = many ∙ sym (length-map taken (λ (t : NotedCommand). t.command)) ∙ ap length scans.commands;
       accepted = accepted;
       later = then_later old.end.gone a.end.gone new.end.gone between.later later;
     }
 
 -- ---- behind a scan, its batch is sent or held, if it made one
-no_items : (taken : List Taken) → length taken ≡ 0 → taken ≡ []
+no_items : (taken : List NotedCommand) → length taken ≡ 0 → taken ≡ []
 no_items [] is = refl
 no_items (t ∷ taken) is = absurd (omega arith)
 
@@ -206,7 +206,7 @@ module _ {P : Type 0} (chooses : P → Choice) (s n : ScannerState P) (end : Sen
 
     stays : n.state ≡ s.state
     stays =
-        let run : scan.decided ≡ s.state = subst (λ (l : List Taken). Run s.plan (chooses s.policy) s.state (commands_in l) (replies_in l) scan.decided) nothing_taken scan.scans.run in
+        let run : scan.decided ≡ s.state = subst (λ (l : List NotedCommand). Run s.plan (chooses s.policy) s.state (commands_in l) (replies_in l) scan.decided) nothing_taken scan.scans.run in
         scan.after ∙ ap settled run ∙ ap (λ (b : List Entry). record s.state { batch = b }) (sym is.all_sealed)
 
     same_turns : turns_of n.seat ≡ turns_of s.seat

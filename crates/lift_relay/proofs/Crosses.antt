@@ -32,8 +32,8 @@ use Rattle.lift_desk.proofs.desk.TakeSeat.TheSendSync as seat_is
 use Rattle.lift_decider.specs.contracts.decider.Decider as Decider
 use Rattle.lift_decider.proofs.decider.Decider.TheSendSync as decider_is
 use Rattle.lift_policy.specs.declared.policy.Policy.{Ghosts}
-use Rattle.lift_parts.proofs.taken.Taken.TheSendSync as taken_is
-use Rattle.lift_parts.specs.contracts.taken.Taken as Taken
+use Rattle.lift_parts.proofs.taken.NotedCommand.TheSendSync as taken_is
+use Rattle.lift_parts.specs.contracts.taken.NotedCommand as NotedCommand
 use Rattle.lift_relay.specs.contracts.basis.Basis as Basis
 use Rattle.lift_relay.specs.contracts.basis.Basis.TheInside as basis_inside
 use Rattle.lift_relay.specs.contracts.batch.Batch as Batch
@@ -66,7 +66,7 @@ basis_send = view_send _ _ _ _ _ (declared_send basis_inside.the_type (snapshot_
 
 pub batch_send : IsSend Batch.the_row
 batch_send = view_send _ _ _ _ _ (declared_send batch_inside.the_type (
-  as_row_send (ArrayVec.the_field Taken.the_row (number 63) unit) (arrays.the_send Taken.the_row (number 63) unit taken_is.the_send unit_send),
+  as_row_send (ArrayVec.the_field NotedCommand.the_row (number 63) unit) (arrays.the_send NotedCommand.the_row (number 63) unit taken_is.the_send unit_send),
   (
     as_row_send (ArrayVec.the_field Entry.the_row (number 63) unit) (arrays.the_send Entry.the_row (number 63) unit entry_send unit_send),
     (

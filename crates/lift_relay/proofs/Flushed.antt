@@ -18,7 +18,7 @@ use Rattle.lift_clerk.specs.Visits.{Visit, FindsAt}
 use Rattle.lift_clerk.specs.Answered.{ask_of}
 use Rattle.lift_clerk.specs.lemmas.Visiting.{finds-at, taken-new}
 use Rattle.lift_clerk.specs.lemmas.Scanned.{Looked}
-use Rattle.lift_parts.specs.declared.taken.Taken.{Taken}
+use Rattle.lift_parts.specs.declared.taken.NotedCommand.{NotedCommand}
 use Rattle.lift_parts.specs.Batch.{AreBelow, commands_in, turns_of, turns_with, turns_after, IsNoted, AreNoted}
 use Rattle.lift_parts.specs.Flusher.{AnswersOne, Answered, IsSettled}
 use Rattle.lift_parts.specs.lemmas.Used.{is_below}
@@ -27,14 +27,14 @@ use Rattle.lift_relay.specs.Settler.{IsToBeAnswered}
 finds : (places next : List ClerkPlace) (n word : ℕ) (found : Option Ask) → Looked places next n word found → FindsAt (get_or places n no_place) (record { word = word; found = found })
 finds places next n word found look = finds-at (get_or places n no_place) word found look.takes look.even look.number look.in_range look.known look.told
 
-number_given : (taken : Taken) (found : Option Ask) (n : ℕ) → IfSome found (λ (ask : Ask). n ≡ ask.number) → found ≡ Some (ask_of taken.command) → n ≡ taken.command.number
+number_given : (taken : NotedCommand) (found : Option Ask) (n : ℕ) → IfSome found (λ (ask : Ask). n ≡ ask.number) → found ≡ Some (ask_of taken.command) → n ≡ taken.command.number
 number_given taken found n is gives = subst (λ (o : Option Ask). IfSome o (λ (ask : Ask). n ≡ ask.number)) gives is
 
 one_end : (xs : List ℕ) (x y : ℕ) → xs ++ x ∷ [] ≡ xs ++ y ∷ [] → x ≡ y
 one_end xs x y e = let same = append_cancel_left xs (x ∷ []) (y ∷ []) e in cc
 
 -- what is taken is the word that was read
-one_word : (view : ClerkView) (word other : ℕ) (found : Option Ask) (taken : Taken) → TakesOf view word found → found ≡ Some (ask_of taken.command) → (with_taking view word).taken ≡ view.taken ++ other ∷ [] → word ≡ other
+one_word : (view : ClerkView) (word other : ℕ) (found : Option Ask) (taken : NotedCommand) → TakesOf view word found → found ≡ Some (ask_of taken.command) → (with_taking view word).taken ≡ view.taken ++ other ∷ [] → word ≡ other
 one_word view word other found taken takes gives now =
     let is : TakesOf view word (Some (ask_of taken.command)) = subst (TakesOf view word) gives takes in
     one_end view.taken word other (sym (taken-new view word is.0) ∙ now)
@@ -46,7 +46,7 @@ changed_twice (p ∷ places) zero v w = refl
 changed_twice (p ∷ places) (suc t) v w = ap (λ (l : List ClerkPlace). p ∷ l) (changed_twice places t v w)
 
 -- the look gave the command, and its answer is stored
-pub gives_one : (is_safe : Bool) (places mid next : List ClerkPlace) (taken : Taken) (word : ℕ) (found : Option Ask) (reply : Reply) → Looked places mid taken.command.terminal word found → found ≡ Some (ask_of taken.command)
+pub gives_one : (is_safe : Bool) (places mid next : List ClerkPlace) (taken : NotedCommand) (word : ℕ) (found : Option Ask) (reply : Reply) → Looked places mid taken.command.terminal word found → found ≡ Some (ask_of taken.command)
     → view_at mid taken.command.terminal ≡ with_taking (view_at places taken.command.terminal) word
     → next ≡ clerk_with mid taken.command.terminal (with_answer (view_at mid taken.command.terminal)
     (reply_word (length (view_at mid taken.command.terminal).taken) (number_of (last_of (view_at mid taken.command.terminal).taken)) reply))
@@ -76,7 +76,7 @@ is_other : (m n : ℕ) → nat_eq m n ≡ false → m ≢ n
 is_other m n e = grind (arith, nat_tests)
 
 -- nothing is owed at the terminal, and its turn is the command's; the others are as they were
-pub settles_one : (places mid next : List ClerkPlace) (turns : List ℕ) (taken : Taken) (looked stored : ClerkView) → taken.command.terminal < length places → taken.command.terminal < length turns
+pub settles_one : (places mid next : List ClerkPlace) (turns : List ℕ) (taken : NotedCommand) (looked stored : ClerkView) → taken.command.terminal < length places → taken.command.terminal < length turns
     → mid ≡ clerk_with places taken.command.terminal looked → looked.taken ≡ (view_at places taken.command.terminal).taken ++ taken.note.word ∷ []
     → next ≡ clerk_with mid taken.command.terminal stored → stored.taken ≡ looked.taken → ¬ Owes (view_at next taken.command.terminal)
     → IsSettled places turns → IsSettled next (turns_with turns taken)
@@ -106,7 +106,7 @@ settles_one places mid next turns taken looked stored inside counted first takes
         let was = settled j in
         (subst (λ (v : ClerkView). ¬ Owes v) (sym still) was.0, subst (λ (v : ClerkView). turn_of (last_of v.taken) ≤ get_or (turns_with turns taken) j 0) (sym still) (omega arith))
 
-more : (is_safe : Bool) (places mid next : List ClerkPlace) (batch : List Taken) (taken : Taken) (visit : Visit) → Answered is_safe places batch mid
+more : (is_safe : Bool) (places mid next : List ClerkPlace) (batch : List NotedCommand) (taken : NotedCommand) (visit : Visit) → Answered is_safe places batch mid
     → AnswersOne is_safe mid taken visit next → Answered is_safe places (batch ++ taken ∷ []) next
 more is_safe places mid next [] taken visit all last = (visit, next, subst (λ (l : List ClerkPlace). AnswersOne is_safe l taken visit next) all last, refl)
 more is_safe places mid next (t ∷ batch) taken visit all last = (all.0, all.1, all.2, more is_safe all.1 mid next batch taken visit all.3 last)
@@ -115,44 +115,44 @@ pub answered_none : (is_safe : Bool) (places : List ClerkPlace) → Answered is_
 answered_none is_safe places = refl
 
 -- the commands up to one, with it
-take_one : (commands : List Taken) (n : ℕ) (taken : Taken) → n < length commands → taken ≡ get_or commands n taken → take (n + 1) commands ≡ take n commands ++ taken ∷ []
+take_one : (commands : List NotedCommand) (n : ℕ) (taken : NotedCommand) → n < length commands → taken ≡ get_or commands n taken → take (n + 1) commands ≡ take n commands ++ taken ∷ []
 take_one commands n taken inside is =
     let suc_n : suc n ≡ n + 1 = omega arith in
-    sym (ap (λ m. take m commands) suc_n) ∙ take-suc commands n taken inside ∙ ap (λ (t : Taken). take n commands ++ t ∷ []) (sym is)
+    sym (ap (λ m. take m commands) suc_n) ∙ take-suc commands n taken inside ∙ ap (λ (t : NotedCommand). take n commands ++ t ∷ []) (sym is)
 
 -- one command more
-pub answered_more : (is_safe : Bool) (places mid next : List ClerkPlace) (commands : List Taken) (n : ℕ) (taken : Taken) (visit : Visit) → n < length commands → taken ≡ get_or commands n taken
+pub answered_more : (is_safe : Bool) (places mid next : List ClerkPlace) (commands : List NotedCommand) (n : ℕ) (taken : NotedCommand) (visit : Visit) → n < length commands → taken ≡ get_or commands n taken
     → Answered is_safe places (take n commands) mid → AnswersOne is_safe mid taken visit next → Answered is_safe places (take (n + 1) commands) next
 answered_more is_safe places mid next commands n taken visit inside is before last =
-    subst (λ (l : List Taken). Answered is_safe places l next) (sym (take_one commands n taken inside is)) (more is_safe places mid next (take n commands) taken visit before last)
+    subst (λ (l : List NotedCommand). Answered is_safe places l next) (sym (take_one commands n taken inside is)) (more is_safe places mid next (take n commands) taken visit before last)
 
-pub answered_all : (is_safe : Bool) (places next : List ClerkPlace) (commands : List Taken) (n : ℕ) → length commands ≤ n → Answered is_safe places (take n commands) next → Answered is_safe places commands next
-answered_all is_safe places next commands n all is = subst (λ (l : List Taken). Answered is_safe places l next) (take_all n commands all) is
+pub answered_all : (is_safe : Bool) (places next : List ClerkPlace) (commands : List NotedCommand) (n : ℕ) → length commands ≤ n → Answered is_safe places (take n commands) next → Answered is_safe places commands next
+answered_all is_safe places next commands n all is = subst (λ (l : List NotedCommand). Answered is_safe places l next) (take_all n commands all) is
 
 -- the command behind these, with its note
-pub noted_at : (desk : List TableId) (turns : List ℕ) (commands : List Taken) (n : ℕ) (d : Taken) → n < length commands → AreNoted desk turns commands → IsNoted desk (turns_after turns (take n commands)) (get_or commands n d)
+pub noted_at : (desk : List TableId) (turns : List ℕ) (commands : List NotedCommand) (n : ℕ) (d : NotedCommand) → n < length commands → AreNoted desk turns commands → IsNoted desk (turns_after turns (take n commands)) (get_or commands n d)
 noted_at desk turns [] n d inside all = absurd (omega arith)
 noted_at desk turns (t ∷ commands) zero d inside all = all.0
 noted_at desk turns (t ∷ commands) (suc n) d inside all = noted_at desk (turns_with turns t) commands n d (omega arith) all.1
 
-after_last : (turns : List ℕ) (xs : List Taken) (x : Taken) → turns_after turns (xs ++ x ∷ []) ≡ turns_with (turns_after turns xs) x
+after_last : (turns : List ℕ) (xs : List NotedCommand) (x : NotedCommand) → turns_after turns (xs ++ x ∷ []) ≡ turns_with (turns_after turns xs) x
 after_last turns [] x = refl
 after_last turns (y ∷ xs) x = after_last (turns_with turns y) xs x
 
-pub after_more : (turns : List ℕ) (commands : List Taken) (n : ℕ) (taken : Taken) → n < length commands → taken ≡ get_or commands n taken → turns_with (turns_after turns (take n commands)) taken ≡ turns_after turns (take (n + 1) commands)
+pub after_more : (turns : List ℕ) (commands : List NotedCommand) (n : ℕ) (taken : NotedCommand) → n < length commands → taken ≡ get_or commands n taken → turns_with (turns_after turns (take n commands)) taken ≡ turns_after turns (take (n + 1) commands)
 after_more turns commands n taken inside is = sym (after_last turns (take n commands) taken) ∙ ap (turns_after turns) (sym (take_one commands n taken inside is))
 
-pub after_all : (turns : List ℕ) (commands : List Taken) (n : ℕ) → length commands ≤ n → turns_after turns (take n commands) ≡ turns_after turns commands
+pub after_all : (turns : List ℕ) (commands : List NotedCommand) (n : ℕ) → length commands ≤ n → turns_after turns (take n commands) ≡ turns_after turns commands
 after_all turns commands n all = ap (turns_after turns) (take_all n commands all)
 
 -- each command's terminal is one of the desk's
-below_one : (count : ℕ) (commands : List Taken) (n : ℕ) (d : Taken) → n < length commands → AreBelow count (commands_in commands) → (get_or commands n d).command.terminal < count
+below_one : (count : ℕ) (commands : List NotedCommand) (n : ℕ) (d : NotedCommand) → n < length commands → AreBelow count (commands_in commands) → (get_or commands n d).command.terminal < count
 below_one count [] n d inside below = absurd (omega arith)
 below_one count (t ∷ commands) zero d inside below = below.0
 below_one count (t ∷ commands) (suc n) d inside below = below_one count commands n d (omega arith) below.1
 
 -- what is not later than these turns isn't as late as the command behind them
-pub due_at : (desk : List TableId) (places : List ClerkPlace) (turns : List ℕ) (commands : List Taken) (n : ℕ) (d : Taken) → n < length commands → AreBelow (length desk) (commands_in commands)
+pub due_at : (desk : List TableId) (places : List ClerkPlace) (turns : List ℕ) (commands : List NotedCommand) (n : ℕ) (d : NotedCommand) → n < length commands → AreBelow (length desk) (commands_in commands)
     → AreNoted desk turns commands → IsSettled places (turns_after turns (take n commands)) → IsToBeAnswered desk places (get_or commands n d)
 due_at desk places turns commands n d inside below all settled =
     let noted = noted_at desk turns commands n d inside all in

@@ -15,16 +15,16 @@ use Rattle.lift_desk.specs.lemmas.WordLists.{last_of-push}
 use Rattle.lift_policy.specs.declared.command.Command.{Command}
 use Rattle.lift_clerk.specs.Visits.{command_at}
 use Rattle.lift_clerk.specs.lemmas.Visiting.{taken-new, taken-old}
-use Rattle.lift_parts.specs.declared.taken.Taken.{Taken}
+use Rattle.lift_parts.specs.declared.taken.NotedCommand.{NotedCommand}
 use Rattle.lift_parts.specs.Batch.{commands_in, noted_in, turns_of, turns_with, turns_after, IsNoted, AreNoted}
 use Rattle.lift_parts.specs.Scan.{word_at}
 use Rattle.lift_parts.specs.lemmas.Used.{below_is}
 
-noted_last : (desk : List TableId) (turns : List ℕ) (xs : List Taken) (x : Taken) → AreNoted desk turns xs → IsNoted desk (turns_after turns xs) x → AreNoted desk turns (xs ++ x ∷ [])
+noted_last : (desk : List TableId) (turns : List ℕ) (xs : List NotedCommand) (x : NotedCommand) → AreNoted desk turns xs → IsNoted desk (turns_after turns xs) x → AreNoted desk turns (xs ++ x ∷ [])
 noted_last desk turns [] x all one = (one, tt)
 noted_last desk turns (y ∷ xs) x all one = (all.0, noted_last desk (turns_with turns y) xs x all.1 one)
 
-after_last : (turns : List ℕ) (xs : List Taken) (x : Taken) → turns_after turns (xs ++ x ∷ []) ≡ turns_with (turns_after turns xs) x
+after_last : (turns : List ℕ) (xs : List NotedCommand) (x : NotedCommand) → turns_after turns (xs ++ x ∷ []) ≡ turns_with (turns_after turns xs) x
 after_last turns [] x = refl
 after_last turns (y ∷ xs) x = after_last (turns_with turns y) xs x
 
@@ -42,10 +42,10 @@ turns_still places t v same =
     turns_set places t v ∙ ap (λ n. set (turns_of places) t n) (ap (λ l. turn_of (last_of l)) same ∙ sym (turns_at places t)) ∙ set-get_or (turns_of places) t 0
 
 -- what one look adds
-pub noted_more : (desk : List TableId) (turns : List ℕ) (taken : List Taken) (more : Option Taken) (seat next : List ClerkPlace) (t word : ℕ) (found : Option Ask)
+pub noted_more : (desk : List TableId) (turns : List ℕ) (taken : List NotedCommand) (more : Option NotedCommand) (seat next : List ClerkPlace) (t word : ℕ) (found : Option Ask)
     → t < length seat → next ≡ clerk_with seat t (with_taking (view_at seat t) word) → TakesAheadOf (view_at seat t) word found → IfSome found IsAsk
     → IfSome found (λ (ask : Ask). last_of (view_at next t).taken ≡ ask_word (turn_of (last_of (view_at next t).taken)) ask.number ask.body)
-    → IfSome more (λ (k : Taken). IsNoteOf desk t k.note × (k.note.word ≡ last_of (view_at next t).taken))
+    → IfSome more (λ (k : NotedCommand). IsNoteOf desk t k.note × (k.note.word ≡ last_of (view_at next t).taken))
     → commands_in (option_to_list more) ≡ command_at t found
     → AreNoted desk turns taken → turns_after turns taken ≡ turns_of seat
     → AreNoted desk turns (taken ++ option_to_list more) × (turns_after turns (taken ++ option_to_list more) ≡ turns_of next)

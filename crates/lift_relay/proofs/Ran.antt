@@ -3,7 +3,7 @@ use Rattle.std.proofs.Common.{◌≡◌, true, List, [], ◌++◌, length, Optio
 use Rattle.std.proofs.lemmas.List.{append-nil}
 use Rattle.std.specs.Prelude.{option_map}
 use Rattle.lift_base.specs.declared.history.Entry.{Entry}
-use Rattle.lift_world.specs.declared.event.Taken.{Taken as Held}
+use Rattle.lift_world.specs.declared.event.Taken.{Taken}
 use Rattle.lift_disk.specs.Disk.{DiskState}
 use Rattle.lift_register.specs.Register.{RegisterState}
 use Rattle.lift_policy.specs.Eligible.{Choice}
@@ -68,7 +68,7 @@ module _ {D P : Type 0} (choice : Choice) (state : D → DiskState) (a b : Alloc
 
 -- What a run adds to what has happened: nothing, if no thread could be made.
 pub goes_on : {D P : Type 0} (choice : Choice) (state : D → DiskState) (a b : AllocatorState P) (f g : FlusherState D) (fault : Option RunFault) → TurnsGoOn D state
-    → IsRun choice state a b f g fault → (base : RegisterState) (safe : List Entry) (given : List Held) → History base (group_behind f) safe given → GoesOnTo f g base safe given
+    → IsRun choice state a b f g fault → (base : RegisterState) (safe : List Entry) (given : List Taken) → History base (group_behind f) safe given → GoesOnTo f g base safe given
 goes_on {D} choice state a b f g fault law (inl refused) base safe given h =
     subst (λ (x : FlusherState D). GoesOnTo f x base safe given) (sym refused.1.1) (law f f None None NoFlush base safe given h)
 goes_on choice state a b f g fault law (inr run) base safe given h = law f g None run.first run.flusher base safe given h

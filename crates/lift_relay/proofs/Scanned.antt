@@ -22,7 +22,7 @@ use Rattle.lift_keeper.specs.lemmas.Keepers.{decided_keeper, settled_keeper}
 use Rattle.lift_clerk.specs.Visits.{Visit, command_at, commands_of}
 use Rattle.lift_clerk.specs.lemmas.Visiting.{commands-more}
 use Rattle.lift_parts.specs.lemmas.Looking.{looked-more, untouched}
-use Rattle.lift_parts.specs.declared.taken.Taken.{Taken}
+use Rattle.lift_parts.specs.declared.taken.NotedCommand.{NotedCommand}
 use Rattle.lift_parts.specs.Batch.{commands_in, replies_in, noted_in, AreBelow}
 use Rattle.lift_parts.specs.Scan.{TakesAt, TakesEach, ScansAhead, word_at, words_of}
 
@@ -66,7 +66,7 @@ looked-at seat next n word found inside is takes in_range turn known told =
       told = subst (λ (w : ClerkView). (ask : Ask) → IsToldAhead (view_at seat n) ask → IsSome found × (turn_of (last_of w.taken) ≡ length (view_at seat n).told → found ≡ Some ask)) here told;
     }
 
-pub scans-more : (choice : Choice) (plan : Plan) (places seat next : List ClerkPlace) (before mid after : State) (taken others : List Taken) (n word : ℕ) (found : Option Ask)
+pub scans-more : (choice : Choice) (plan : Plan) (places seat next : List ClerkPlace) (before mid after : State) (taken others : List NotedCommand) (n word : ℕ) (found : Option Ask)
     → RunsJoin choice → n < length places → ScansAhead choice plan places seat before mid taken n → Looked seat next n word found
     → commands_in others ≡ command_at n found → noted_in others ≡ word_at word found
     → Run plan choice mid (commands_in others) (replies_in others) after
@@ -88,9 +88,9 @@ scans-more choice plan places seat next before mid after taken others n word fou
       count = omega (arith, length-append visits (v ∷ []));
       takes = takes-more places visits n v count inside old.takes takes;
       looked = look.seat_is ∙ ap (λ l. clerk_with l n (with_taking (view_at l n) word)) old.looked ∙ looked-more places visits n v count inside;
-      notes = map-append (λ (t : Taken). t.note.word) taken others ∙ ap (λ l. l ++ noted_in others) old.notes ∙ ap (λ l. words_of visits ++ l) noted ∙ sym (words-more visits v);
-      commands = map-append (λ (t : Taken). t.command) taken others ∙ ap (λ l. l ++ commands_in others) old.commands ∙ ap (λ l. commands_of 0 visits ++ l) same ∙ sym (commands-more 0 n visits v (omega arith));
-      run = subst (λ (p : List Command × List Reply). Run plan choice before p.0 p.1 after) (λ i. (sym (map-append (λ (t : Taken). t.command) taken others) i, sym (map-append (λ (t : Taken). t.reply) taken others) i))
+      notes = map-append (λ (t : NotedCommand). t.note.word) taken others ∙ ap (λ l. l ++ noted_in others) old.notes ∙ ap (λ l. words_of visits ++ l) noted ∙ sym (words-more visits v);
+      commands = map-append (λ (t : NotedCommand). t.command) taken others ∙ ap (λ l. l ++ commands_in others) old.commands ∙ ap (λ l. commands_of 0 visits ++ l) same ∙ sym (commands-more 0 n visits v (omega arith));
+      run = subst (λ (p : List Command × List Reply). Run plan choice before p.0 p.1 after) (λ i. (sym (map-append (λ (t : NotedCommand). t.command) taken others) i, sym (map-append (λ (t : NotedCommand). t.reply) taken others) i))
           (join plan before mid after (commands_in taken) (commands_in others) (replies_in taken) (replies_in others) old.run decides);
     }
 

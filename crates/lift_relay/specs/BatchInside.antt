@@ -5,13 +5,13 @@ use Rattle.lift_base.specs.declared.history.Entry.{Entry}
 use Rattle.lift_building.specs.Plan.{Plan}
 use Rattle.lift_desk.specs.Seats.{ClerkPlace}
 use Rattle.lift_policy.specs.Step.{State}
-use Rattle.lift_parts.specs.declared.taken.Taken.{Taken}
+use Rattle.lift_parts.specs.declared.taken.NotedCommand.{NotedCommand}
 use Rattle.lift_parts.specs.Batch.{BatchState, turns_of}
 use Rattle.lift_relay.specs.declared.batch.Batch.TheInside.{Inside}
 
 -- these commands and entries, decided in this building from one state to another, of what these
 -- seats of this desk took next
-abbrev pub batch_taken : List Taken → List Entry → Plan → State → State → List TableId
+abbrev pub batch_taken : List NotedCommand → List Entry → Plan → State → State → List TableId
     → List ClerkPlace → BatchState
 batch_taken commands entries building before after desk seats = record {
   commands = commands;

@@ -8,7 +8,7 @@ use Rattle.lift_policy.specs.Step.{State}
 use Rattle.lift_policy.specs.Run.{Run}
 use Rattle.lift_clerk.specs.declared.counts.Counts.{Counts}
 use Rattle.lift_clerk.specs.Turn.{settled}
-use Rattle.lift_parts.specs.declared.taken.Taken.{Taken}
+use Rattle.lift_parts.specs.declared.taken.NotedCommand.{NotedCommand}
 use Rattle.lift_parts.specs.Batch.{BatchState, turns_of, turns_behind, turns_after, commands_in, replies_in}
 use Rattle.lift_parts.specs.Line.{IsNextBatch}
 use Rattle.lift_parts.specs.Scan.{ScansAhead, turns_in}
@@ -37,7 +37,7 @@ pub record MakesBatch {P : Type 0} (choice : Choice) (a : ScannerState P) (seat 
   pub uses : turns_in a.seat + 1 ≤ turns_in seat
 
 -- there is one just where something was taken
-abbrev pub MakesIt : {P : Type 0} → Choice → ScannerState P → List ClerkPlace → State → List Taken
+abbrev pub MakesIt : {P : Type 0} → Choice → ScannerState P → List ClerkPlace → State → List NotedCommand
     → Option BatchState → Type 0
 MakesIt choice old seat decided taken None = length taken ≡ 0
 MakesIt choice old seat decided taken (Some batch) = (0 < length taken)
@@ -46,7 +46,7 @@ MakesIt choice old seat decided taken (Some batch) = (0 < length taken)
 -- One scan of the desk, and what it took decided.
 pub record HasScanned {P : Type 0} (choice : Choice) (old new : ScannerState P) (counts : Counts)
     (made : Option BatchState) : Type 0 where
-  pub taken : List Taken
+  pub taken : List NotedCommand
   pub decided : State
   pub scans : ScansAhead choice old.plan old.seat new.seat old.state decided taken (length old.desk)
   pub makes : MakesIt choice old new.seat decided taken made

@@ -8,7 +8,7 @@ use Rattle.lift_keeper.specs.Writer.{WriterView}
 use Rattle.lift_keeper.specs.declared.fault.KeeperFault.{KeeperFault}
 use Rattle.lift_parts.specs.declared.counts.FlushCounts.{FlushCounts}
 use Rattle.lift_clerk.specs.Answered.{AreApart, ask_of}
-use Rattle.lift_parts.specs.declared.taken.Taken.{Taken}
+use Rattle.lift_parts.specs.declared.taken.NotedCommand.{NotedCommand}
 use Rattle.lift_parts.specs.Batch.{BatchState, IsDecided, AreBelow, commands_in, turns_behind}
 use Rattle.lift_parts.specs.Flusher.{Answered, IsSettled}
 
@@ -20,7 +20,7 @@ pub record SettlerState (D : Type 0) : Type 0 where
 
 -- The command is of a terminal of the desk, and its note says it: an ask there, behind all that these
 -- seats took.
-pub record IsToBeAnswered (desk : List TableId) (seat : List ClerkPlace) (taken : Taken) : Type 0 where
+pub record IsToBeAnswered (desk : List TableId) (seat : List ClerkPlace) (taken : NotedCommand) : Type 0 where
   pub terminal : taken.command.terminal < length desk
   pub noted : IsNoteOf desk taken.command.terminal taken.note
   pub says : Says (view_at seat taken.command.terminal) taken.note.word (ask_of taken.command)

@@ -9,7 +9,7 @@ use arrayvec::ArrayVec;
 use lift_base::{Entry, MOST_ENTRIES};
 use lift_building::Building;
 use lift_desk::{Desk, TakeSeat};
-use lift_parts::Taken;
+use lift_parts::NotedCommand;
 use std::marker::Model;
 use std::snapshot::Snapshot;
 
@@ -18,7 +18,7 @@ use std::snapshot::Snapshot;
 /// that was taken before, of each terminal.
 #[derive(Drop)]
 pub struct Batch {
-    commands: ArrayVec<Taken, MOST_ENTRIES>,
+    commands: ArrayVec<NotedCommand, MOST_ENTRIES>,
     entries: ArrayVec<Entry, MOST_ENTRIES>,
     building: Snapshot<Building>,
     before: Basis,
@@ -45,7 +45,7 @@ impl Batch {
     /// A batch that was decided in this building from one state to another, of commands that these
     /// seats of this desk took next.
     pub(crate) fn new(
-        commands: ArrayVec<Taken, MOST_ENTRIES>,
+        commands: ArrayVec<NotedCommand, MOST_ENTRIES>,
         entries: ArrayVec<Entry, MOST_ENTRIES>,
         building: &Building,
         before: Basis,
@@ -87,7 +87,7 @@ impl Batch {
         &self.entries
     }
     /// What was taken, by rising terminal, at most one command of each.
-    pub fn into_commands(self) -> ArrayVec<Taken, MOST_ENTRIES>
+    pub fn into_commands(self) -> ArrayVec<NotedCommand, MOST_ENTRIES>
         ensures value { result.items ≡ self.commands }
         ensures at_desk { AreBelow (length self.desk) (commands_in self.commands) }
         ensures noted { AreNoted self.desk self.turns self.commands }

@@ -13,7 +13,7 @@ ghost use Rattle.lift_parts.specs.Parts.{AreOfOne};
 ghost use Rattle.lift_parts.specs.Flusher.{IsFlusher, IsSettled, IsBatchTurn, entries_received};
 ghost use Rattle.lift_parts.specs.Turns.{IsFlush};
 ghost use Rattle.lift_base.specs.declared.history.Entry.{Entry};
-ghost use Rattle.lift_world.specs.declared.event.Taken.{Taken as Held};
+ghost use Rattle.lift_world.specs.declared.event.Taken.{Taken};
 ghost use Rattle.lift_clerk.specs.History.{History};
 ghost use Rattle.lift_parts.specs.History.{FlushStands, group_behind};
 ghost use Rattle.lift_relay.specs.Heard.{FailureHeard};
@@ -198,7 +198,7 @@ impl<'d, 'b, D: Disk, K> Flusher<'d, 'b, D, K> {
         // Whatever has happened, its group's history goes on: what was received is safe, and its
         // commands have their replies, or are answered Unknown after a fault. Each image that a
         // crash at any moment of the turn may leave shows all that was given before.
-        ensures history { (base : RegisterState) (safe : List Entry) (given : List Held)
+        ensures history { (base : RegisterState) (safe : List Entry) (given : List Taken)
             → History base (group_behind self.old) safe given
             → FlushStands self.old self.new base safe given
             (D.state self.old.writer.device) (D.state self.new.writer.device) }

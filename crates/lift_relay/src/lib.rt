@@ -27,7 +27,7 @@ pub use deciding::Scanner;
 pub use flusher::Flusher;
 pub use gate::Gate;
 pub use held::{HeldClerk, HeldKeeper, rejoin_held, split_held};
-pub use lift_parts::{FlushCounts, Taken};
+pub use lift_parts::{FlushCounts, NotedCommand};
 pub use pair::{RunFault, run};
 pub use refused::NoThread;
 pub use relay::{Key, rejoin, split, tell};

@@ -16,7 +16,7 @@ use arrayvec::ArrayVec;
 use lift_base::{MOST_ENTRIES, Terminal};
 use lift_decider::Decider;
 use lift_desk::{Ask, Desk, TakeSeat};
-use lift_parts::Taken;
+use lift_parts::NotedCommand;
 use lift_policy::{Command, Policy, decisions_keep};
 
 /// What a terminal was just found to ask, with a note of that and decided, if it asked.
@@ -27,7 +27,7 @@ fn decide<P: Policy>(
     policy: &P,
     terminal: Terminal,
     ask: &Option<Ask>,
-) -> Option<Taken>
+) -> Option<NotedCommand>
     requires seated { IsClerkOf desk.now seat.old }
     requires terminal { terminal < length desk.now }
     requires room { length decider.old.state.batch < 63 }
@@ -50,7 +50,7 @@ fn decide<P: Policy>(
                 number: ask.number,
                 body: ask.body,
             };
-            Some(Taken {
+            Some(NotedCommand {
                 command,
                 reply,
                 note,
@@ -61,7 +61,7 @@ fn decide<P: Policy>(
 }
 
 /// Adds a command to a list of 63 at most, if there is one.
-fn keep(list: &mut ArrayVec<Taken, MOST_ENTRIES>, item: Option<Taken>)
+fn keep(list: &mut ArrayVec<NotedCommand, MOST_ENTRIES>, item: Option<NotedCommand>)
     requires { length list.old.items < 63 }
     ensures { list.new.items ≡ list.old.items ++ option_to_list item }
 {
@@ -78,7 +78,7 @@ pub fn scan<P: Policy>(
     seat: &mut TakeSeat,
     decider: &mut Decider<'_>,
     policy: &P,
-) -> ArrayVec<Taken, MOST_ENTRIES>
+) -> ArrayVec<NotedCommand, MOST_ENTRIES>
     requires seated { IsClerkOf desk.now seat.old }
     requires settled { decider.old.state.batch ≡ [] }
     ensures scans { ScansAhead (P.chooses policy.now) decider.old.plan seat.old seat.new
@@ -99,7 +99,7 @@ pub fn scan<P: Policy>(
 {
     decisions_keep(policy);
     let _shown = decider.register();
-    let mut taken: ArrayVec<Taken, MOST_ENTRIES> = ArrayVec::new();
+    let mut taken: ArrayVec<NotedCommand, MOST_ENTRIES> = ArrayVec::new();
     for t in 0..desk.len() {
         let terminal = Terminal::new(t as u8).unwrap();
         let ask = desk.take(seat, terminal);

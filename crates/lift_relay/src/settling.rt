@@ -22,7 +22,7 @@ use lift_decider::Decider;
 use lift_desk::{ClerkSeat, Desk, Seat, TakeSeat};
 use lift_disk::Disk;
 use lift_keeper::{Keeper, KeeperFault, Writer};
-use lift_parts::{FlushCounts, Taken};
+use lift_parts::{FlushCounts, NotedCommand};
 use lift_policy::Policy;
 use lift_register::Register;
 use std::marker::{Model, PhantomData};
@@ -55,7 +55,7 @@ impl<'d, 'b, D: Disk, K> Model for Settler<'d, 'b, D, K> {
 
 /// Looks once at the terminal of a command, which the look gives, as its note says; and answers it:
 /// with its reply where it is safe, else Unknown.
-fn answer(desk: &Desk, seat: &mut ClerkSeat, taken: Taken, is_safe: bool)
+fn answer(desk: &Desk, seat: &mut ClerkSeat, taken: NotedCommand, is_safe: bool)
     requires seated { IsClerkOf desk.now seat.old }
     requires due { IsToBeAnswered desk.now seat.old taken }
     ensures answers { (visit : Visit) × AnswersOne is_safe seat.old taken visit seat.new }
@@ -63,7 +63,7 @@ fn answer(desk: &Desk, seat: &mut ClerkSeat, taken: Taken, is_safe: bool)
         → taken.command.terminal < length turns → IsSettled seat.new (turns_with turns taken) }
     ensures seated { IsClerkOf desk.now seat.new }
 {
-    let Taken {
+    let NotedCommand {
         command,
         reply,
         note,

@@ -8,7 +8,7 @@ use Rattle.lift_desk.specs.Seats.{ClerkPlace, ahead_from}
 use Rattle.lift_policy.specs.Eligible.{any_eligible}
 use Rattle.lift_policy.specs.Step.{State}
 use Rattle.lift_policy.specs.Run.{Run}
-use Rattle.lift_parts.specs.declared.taken.Taken.{Taken}
+use Rattle.lift_parts.specs.declared.taken.NotedCommand.{NotedCommand}
 use Rattle.lift_parts.specs.Batch.{BatchState, turns_of, commands_in, replies_in}
 use Rattle.lift_parts.specs.Line.{ReceiveState}
 use Rattle.lift_parts.specs.Flusher.{IsSettled}
@@ -32,7 +32,7 @@ new-first-requires-clause-decided g c =
     let same : last ≡ c.of.result = (λ i. record (two i) { batch = c.new-2.ensures i }) ∙ sym one in
     let read : (s : State) → RegisterState = λ s. s.register in
     record {
-      run = subst (λ (l : List Taken). Run c.building.result.now any_eligible c.of.result (commands_in l) (replies_in l) last) (sym c.new.ensures) same;
+      run = subst (λ (l : List NotedCommand). Run c.building.result.now any_eligible c.of.result (commands_in l) (replies_in l) last) (sym c.new.ensures) same;
       shows = ap read c.of-2.ensures ∙ c.register-2.ensures.value ∙ sym c.register.ensures.value ∙ sym (register_of-nothing c.register.result.now c.register.ensures.lawful)
           ∙ (λ i. register_of (sym (ap read c.of.ensures) i) (sym c.new-2.ensures i));
       sealed = (ap (λ (s : State). s.batch) c.of.ensures, ap (λ (s : State). s.batch) c.of-2.ensures);

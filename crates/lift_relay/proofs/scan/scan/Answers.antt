@@ -11,7 +11,7 @@ use Rattle.lift_clerk.specs.Visits.{command_at}
 use Rattle.lift_clerk.specs.lemmas.Scanned.{few-more}
 use Rattle.lift_keeper.specs.lemmas.Keepers.{nothing_more}
 use Rattle.lift_parts.specs.Batch.{AreBelow, AreNoted, commands_in, replies_in, turns_of, turns_after}
-use Rattle.lift_parts.specs.declared.taken.Taken.{Taken}
+use Rattle.lift_parts.specs.declared.taken.NotedCommand.{NotedCommand}
 use Rattle.lift_parts.specs.Scan.{ScansAhead, turns_in}
 use Rattle.lift_relay.proofs.Noted.{noted_more}
 use Rattle.lift_parts.specs.lemmas.Used.{uses}
@@ -39,16 +39,16 @@ loop-t-preserved g c =
     let decides = subst (λ (p : Plan). Run p choice c.loop-t.decider.state (commands_in more) (replies_in more) after) i.plan c.decide-decided.ensures.decides in
     let next : suc t ≡ t + 1 = omega arith in
     let kept : c.take-ask.new.ahead ≡ c.decide-decided.new.seat = sym c.decide-decided.ensures.same in
-    let note = subst (λ n. IfSome c.decide-decided.result (λ (k : Taken). IsNoteOf c.args.desk.now n k.note × (k.note.word ≡ last_of (view_at c.take-ask.new.ahead n).taken))) terminal c.decide-decided.ensures.noted in
+    let note = subst (λ n. IfSome c.decide-decided.result (λ (k : NotedCommand). IsNoteOf c.args.desk.now n k.note × (k.note.word ≡ last_of (view_at c.take-ask.new.ahead n).taken))) terminal c.decide-decided.ensures.noted in
     let last = subst (λ n. IfSome found (λ (ask : Ask). last_of (view_at c.take-ask.new.ahead n).taken ≡ ask_word (turn_of (last_of (view_at c.take-ask.new.ahead n).taken)) ask.number ask.body)) terminal look.last in
     let noted = noted_more c.args.desk.now (turns_of c.args.seat.now) c.loop-t.taken.items c.decide-decided.result c.loop-t.seat c.take-ask.new.ahead t look.looked.0 found
     (omega arith) looked.seat_is looked.takes look.in_range last note same i.noted i.turns in
     let scans = scans-more choice c.args.decider.now.plan c.args.seat.now c.loop-t.seat c.take-ask.new.ahead c.args.decider.now.state
     c.loop-t.decider.state after c.loop-t.taken.items more t look.looked.0 found c.decisions_keep.ensures.runs (omega arith) i.scans looked same noted.2 decides in
-    let added : List Taken = c.keep.new.list.items in
+    let added : List NotedCommand = c.keep.new.list.items in
     record {
       scans = subst (λ n. ScansAhead choice c.args.decider.now.plan c.args.seat.now c.decide-decided.new.seat c.args.decider.now.state after added n) next
-          (subst (λ (p : List Taken × List ClerkPlace). ScansAhead choice c.args.decider.now.plan c.args.seat.now p.1 c.args.decider.now.state after p.0 (suc t)) (λ k. (sym c.keep.ensures k, kept k)) scans);
+          (subst (λ (p : List NotedCommand × List ClerkPlace). ScansAhead choice c.args.decider.now.plan c.args.seat.now p.1 c.args.decider.now.state after p.0 (suc t)) (λ k. (sym c.keep.ensures k, kept k)) scans);
       noted = subst (AreNoted c.args.desk.now (turns_of c.args.seat.now)) (sym c.keep.ensures) noted.0;
       turns = ap (turns_after (turns_of c.args.seat.now)) c.keep.ensures ∙ noted.1 ∙ ap turns_of kept;
       seated = subst (IsClerkOf c.args.desk.now) kept look.stays;
@@ -92,4 +92,4 @@ pub returns-clause-uses : goal.returns-clause-uses
 returns-clause-uses g c =
     let scans = c.loop-t.invariant.scans in
     let used = uses 0 c.args.seat.now scans.visits scans.takes in
-    omega (arith, ap length scans.commands, length-map c.loop-t.taken.items (λ (t : Taken). t.command), ap turns_in scans.looked)
+    omega (arith, ap length scans.commands, length-map c.loop-t.taken.items (λ (t : NotedCommand). t.command), ap turns_in scans.looked)
