@@ -22,7 +22,7 @@ use Rattle.lift_keeper.specs.Writer.{WriterView}
 use Rattle.lift_keeper.specs.lemmas.Committed.{under_ok, under_err, calls_under_ok, calls_under_err}
 use Rattle.lift_clerk.specs.declared.counts.Counts.{Counts}
 use Rattle.lift_clerk.specs.declared.scan.Answer.{Answer}
-use Rattle.lift_clerk.specs.Visits.{Visit, commands_of, served, Serves}
+use Rattle.lift_clerk.specs.Visits.{Visit, commands_of, served, LooksAndAnswers}
 use Rattle.lift_clerk.specs.Clerk.{ClerkState}
 use Rattle.lift_clerk.specs.Scanning.{Decides, IsScanned, Scans, replies_in, replies_told}
 use Rattle.lift_clerk.specs.Turn.{IsFailedTurn, IsBrokenTurn}
@@ -31,7 +31,7 @@ use Rattle.lift_clerk.proofs.Answered.{many-commands, told_unknown}
 
 -- each look is answered
 pub serves_all : (desk : List TableId) (places seat next : List ClerkPlace) (visits : List Visit) (answers : List Answer) (is_safe : Bool) → length visits ≡ length desk → IsClerkOf desk places
-    → IsScanned places visits seat answers → next ≡ served places visits (replies_told is_safe answers) → All IsReply (replies_told is_safe answers) → Serves places next visits (replies_told is_safe answers)
+    → IsScanned places visits seat answers → next ≡ served places visits (replies_told is_safe answers) → All IsReply (replies_told is_safe answers) → LooksAndAnswers places next visits (replies_told is_safe answers)
 serves_all desk places seat next visits answers is_safe count seated scanned is in_range = record {
   each_once = count ∙ sym (ap length seated) ∙ length-map places (λ (p : ClerkPlace). p.table);
   finds = scanned.finds;
@@ -41,7 +41,7 @@ serves_all desk places seat next visits answers is_safe count seated scanned is 
 }
 
 -- and then nothing is owed
-pub serves_rest : (old new : List ClerkPlace) (visits : List Visit) (replies : List Reply) → Serves old new visits replies → OwesNothing old → OwesNothing new
+pub serves_rest : (old new : List ClerkPlace) (visits : List Visit) (replies : List Reply) → LooksAndAnswers old new visits replies → OwesNothing old → OwesNothing new
 serves_rest old new visits replies serves rests = subst OwesNothing (sym serves.stored) (nothing_owed 0 old visits replies serves.finds serves.one_reply_each rests)
 
 pub not_empty : {A : Type 0} (xs : List A) → (xs ≡ [] → ⊥) → 0 < length xs
@@ -88,7 +88,7 @@ failed_turn desk choice old new seat decided answers seated scans stored in_rang
       visits = scans.visits;
       decided_so = replies_in answers;
       desk = same_desk;
-      serves = subst (Serves old.seat new.seat scans.visits) (told_unknown answers commands many) (serves_all desk old.seat seat new.seat scans.visits answers false scans.count seated scans.scanned stored in_range);
+      serves = subst (LooksAndAnswers old.seat new.seat scans.visits) (told_unknown answers commands many) (serves_all desk old.seat seat new.seat scans.visits answers false scans.count seated scans.scanned stored in_range);
       begins = nothing_waits old.keeper.state.batch old.keeper.writer.is_broken settled whole;
       run = subst (Run old.keeper.writer.plan choice old.keeper.state commands (replies_in answers)) (sym same)
           (run_of choice old.keeper.writer.plan old.keeper.writer.is_broken old.keeper.state decided commands (replies_in answers) whole scans.decides);
@@ -112,7 +112,7 @@ broken_turn desk choice old new seat answers between seated scans stored in_rang
     record {
       visits = scans.visits;
       desk = same_desk;
-      serves = subst (Serves old.seat new.seat scans.visits) (told_unknown answers commands many) (serves_all desk old.seat seat new.seat scans.visits answers false scans.count seated scans.scanned stored in_range);
+      serves = subst (LooksAndAnswers old.seat new.seat scans.visits) (told_unknown answers commands many) (serves_all desk old.seat seat new.seat scans.visits answers false scans.count seated scans.scanned stored in_range);
       rests = same ∙ same_keeper between old.keeper rests writer;
     }
 

@@ -8,7 +8,7 @@ use Rattle.lift_policy.specs.Run.{Run, unknowns}
 use Rattle.lift_keeper.specs.declared.fault.KeeperFault.{KeeperFault}
 use Rattle.lift_keeper.specs.Keeper.{KeeperView}
 use Rattle.lift_clerk.specs.declared.counts.Counts.{Counts}
-use Rattle.lift_clerk.specs.Visits.{Visit, commands_of, Serves}
+use Rattle.lift_clerk.specs.Visits.{Visit, commands_of, LooksAndAnswers}
 use Rattle.lift_clerk.specs.Clerk.{ClerkState}
 
 -- the state with nothing left to make safe
@@ -23,7 +23,7 @@ pub record IsTurn {D P : Type 0} (choice : Choice) (old new : ClerkState D P)
   pub replies : List Reply
   pub decided : State
   pub desk : new.desk ≡ old.desk
-  pub serves : Serves old.seat new.seat visits replies
+  pub serves : LooksAndAnswers old.seat new.seat visits replies
   pub begins : old.keeper.state.batch ≡ []
   pub run : Run old.keeper.writer.plan choice old.keeper.state
       (commands_of 0 visits) replies decided
@@ -38,7 +38,7 @@ pub record IsFailedTurn {D P : Type 0} (choice : Choice) (old new : ClerkState D
   pub visits : List Visit
   pub decided_so : List Reply
   pub desk : new.desk ≡ old.desk
-  pub serves : Serves old.seat new.seat visits (unknowns (commands_of 0 visits))
+  pub serves : LooksAndAnswers old.seat new.seat visits (unknowns (commands_of 0 visits))
   pub begins : old.keeper.state.batch ≡ []
   pub run : Run old.keeper.writer.plan choice old.keeper.state
       (commands_of 0 visits) decided_so new.keeper.state
@@ -52,7 +52,7 @@ pub record IsFailedTurn {D P : Type 0} (choice : Choice) (old new : ClerkState D
 pub record IsBrokenTurn {D P : Type 0} (old new : ClerkState D P) : Type 0 where
   pub visits : List Visit
   pub desk : new.desk ≡ old.desk
-  pub serves : Serves old.seat new.seat visits (unknowns (commands_of 0 visits))
+  pub serves : LooksAndAnswers old.seat new.seat visits (unknowns (commands_of 0 visits))
   pub rests : new.keeper ≡ old.keeper
 
 -- how many entries a turn's batch had: all are safe, or all are in doubt

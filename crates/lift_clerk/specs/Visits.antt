@@ -69,7 +69,7 @@ served (place ∷ places) (visit ∷ visits) replies =
 -- The clerk has looked once at each of its terminals, has stored one reply for each ask that it
 -- took, and nothing else. What was taken is decided in rising order of terminals; in which order
 -- the looks were is not said. So each reply's word has no other reading.
-pub record Serves (old new : List ClerkPlace) (visits : List Visit)
+pub record LooksAndAnswers (old new : List ClerkPlace) (visits : List Visit)
     (replies : List Reply) : Type 0 where
   pub each_once : length visits ≡ length old
   pub finds : Finds old visits

@@ -29,7 +29,7 @@ use Rattle.lift_keeper.specs.Keeper.{KeeperView}
 use Rattle.lift_clerk.specs.declared.counts.Counts.{Counts}
 use Rattle.lift_clerk.specs.Turn.{IsTurn, IsFailedTurn, IsBrokenTurn, settled}
 use Rattle.lift_clerk.specs.lemmas.Visiting.{length-served}
-use Rattle.lift_clerk.specs.Visits.{Visit, Serves, commands_of as commands_at}
+use Rattle.lift_clerk.specs.Visits.{Visit, LooksAndAnswers, commands_of as commands_at}
 use Rattle.lift_replay.specs.Group.{Asking, ScriptGroup, Stopped, Found, half, waiting_from, waiting_commands, having_heard, heard_replies_text, state_by, replies_by, state_to_decide_on, state_decided, calls_for, passes, passing_after, calls_to_stop, after_turn, after_stop, after_commit, commit_text, turned, turn_told, by_mark, at_mark, found_while_whole, folded, with_room, with_batch, in_folding, in_append, room_for, found_after_cut}
 use Rattle.lift_replay.specs.Report.{turn_text, fault_text}
 use Rattle.lift_replay.specs.Terminals.{AllHear, AreTold, seat_at}
@@ -79,7 +79,7 @@ pub record TakesAll (terminals : List Asking) (visits : List Visit) (replies : L
   pub in_step : AreInStep (having_heard terminals) after known
 
 pub takes_all : (terminals : List Asking) (seats told after : List TerminalSeat) (places turned known : List ClerkPlace) (visits : List Visit) (replies : List Reply) (heard : List ℕ)
-    → AreInStep terminals seats places → Serves places turned visits replies → AreTold seats told turned known → AllHear told after heard → TakesAll terminals visits replies after known heard
+    → AreInStep terminals seats places → LooksAndAnswers places turned visits replies → AreTold seats told turned known → AllHear told after heard → TakesAll terminals visits replies after known heard
 takes_all terminals seats told after places turned known visits replies heard step serves knows hear =
     let seat : ℕ → _ = λ (i : ℕ). (seat_at seats i).view in
     let many : length visits ≡ length terminals = serves.each_once ∙ step.place_count in

@@ -16,7 +16,7 @@ use Rattle.lift_desk.specs.Rule.{CountTurns, IsInOrder, stamp_of}
 use Rattle.lift_desk.specs.Steps.{is_new_word, with_taking, lists_of}
 use Rattle.lift_desk.specs.Seats.{TerminalSeat, ClerkPlace, Waits, TakesOf, view_at, no_place}
 use Rattle.lift_desk.specs.lemmas.WordLists.{prefix_refl}
-use Rattle.lift_clerk.specs.Visits.{Visit, FindsAt, Finds, Serves, with_reply, replies_behind, served}
+use Rattle.lift_clerk.specs.Visits.{Visit, FindsAt, Finds, LooksAndAnswers, with_reply, replies_behind, served}
 use Rattle.lift_replay.specs.declared.line.ScriptLine.{ScriptLine}
 use Rattle.lift_replay.specs.declared.line.ScriptLine.TheVariants.{Place, Call, Stop, Turn, Stops, Cost, Rows, Fuse, Cut}
 use Rattle.lift_replay.specs.declared.lines.End.{End}
@@ -125,7 +125,7 @@ settled_one a seat told after turned known line both hears step =
 turn_ready : (old new : ScriptClerk) (seats after : List TerminalSeat) (text : List ℕ) → AreReady seats old.seat → OutcomeTells old new seats after text → AreReady after new.seat
 turn_ready old new seats after text ready outcome = by_turn outcome.tells
   where
-    by_looks : (visits : List Visit) (replies : List Reply) → Serves old.seat outcome.turned.seat visits replies → AreReady after new.seat
+    by_looks : (visits : List Visit) (replies : List Reply) → LooksAndAnswers old.seat outcome.turned.seat visits replies → AreReady after new.seat
     by_looks visits replies serves =
         let step = (takes_all ready.terminals seats outcome.told after old.seat outcome.turned.seat new.seat visits replies outcome.heard ready.in_step serves outcome.knows outcome.hear).in_step in
         let count : length after ≡ length outcome.told = same_length outcome.told after outcome.heard outcome.hear in

@@ -18,7 +18,7 @@ use Rattle.lift_journal.specs.Told.{NoneFails, LastFails}
 use Rattle.lift_keeper.specs.Writer.{StopsCommit, commit_call_count, commit_used, commit_second}
 use Rattle.lift_clerk.specs.Clerk.{ClerkState}
 use Rattle.lift_clerk.specs.Turn.{IsTurn, IsFailedTurn, IsBrokenTurn}
-use Rattle.lift_clerk.specs.Visits.{Visit, Serves, commands_of}
+use Rattle.lift_clerk.specs.Visits.{Visit, LooksAndAnswers, commands_of}
 use Rattle.lift_clerk.specs.declared.counts.Counts.{Counts}
 use Rattle.lift_replay.specs.declared.line.ScriptLine.{ScriptLine}
 use Rattle.lift_replay.specs.declared.line.ScriptLine.TheVariants.{Place, Call, Stop, Turn, Stops}
@@ -116,7 +116,7 @@ TurnTells old new text =
 -- The clerk's looks at its terminals have taken so many commands.
 abbrev pub HasTaken : (old new : List ClerkPlace) → ℕ → Type 0
 HasTaken old new count = (visits : List Visit) × (replies : List Reply)
-    × Serves old new visits replies × (count ≡ length (commands_of 0 visits))
+    × LooksAndAnswers old new visits replies × (count ≡ length (commands_of 0 visits))
 
 -- what a turn leaves as it was
 pub record KeepsPlace (old new : ScriptClerk) : Type 0 where

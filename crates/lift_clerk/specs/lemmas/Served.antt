@@ -19,7 +19,7 @@ use Rattle.lift_desk.specs.Seats.{ClerkPlace, view_at}
 use Rattle.lift_policy.specs.declared.command.Command.{Command}
 use Rattle.lift_world.specs.declared.event.Answer.{Answer}
 use Rattle.lift_world.specs.World.{asks, is_answer_to}
-use Rattle.lift_clerk.specs.Visits.{Visit, FindsAt, Finds, Serves, commands_of, command_at, served}
+use Rattle.lift_clerk.specs.Visits.{Visit, FindsAt, Finds, LooksAndAnswers, commands_of, command_at, served}
 use Rattle.lift_clerk.specs.lemmas.Lists.{no_asks, no_answers}
 
 grows_as : (before after : ClerkView) (cs ds : List Command) (xs ys : List Answer) → ds ≡ cs
@@ -208,7 +208,7 @@ spelled (place ∷ places) (visit ∷ visits) first finds =
 
 -- what a scan takes and answers
 pub answers_of : (old new : List ClerkPlace) (visits : List Visit) (replies : List Reply)
-    → Serves old new visits replies → Answers old new (commands_of 0 visits) replies
+    → LooksAndAnswers old new visits replies → Answers old new (commands_of 0 visits) replies
 answers_of old new visits replies serves = record {
   one_each = serves.one_reply_each;
   apart = all_apart 0 visits;
