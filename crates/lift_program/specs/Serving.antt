@@ -13,7 +13,7 @@ use Rattle.lift_world.specs.declared.event.Taken.{Taken}
 use Rattle.lift_clerk.specs.Keeping.{KeepsFront}
 use Rattle.lift_serve.specs.Keeping.{KeepsOver}
 use Rattle.lift_serve.specs.Open.{AreEndedAt, ServingEndState}
-use Rattle.lift_serve.specs.Relaying.{ComesTo}
+use Rattle.lift_serve.specs.Relaying.{IsServingOutcome}
 use Rattle.lift_program.specs.Faults.{served_fault}
 use Rattle.lift_program.specs.Stages.{HasBuilding, HasKeeperOf}
 use Rattle.lift_program.specs.declared.fault.Fault.{Fault}
@@ -38,7 +38,7 @@ pub record IsServedOver {D : Type 0} (state : D → DiskState) (policy : Shipped
     (ending : ServingEndState) : Type 0 where
   pub last : KeeperView D
   pub is_left : last.writer.device ≡ left
-  pub comes : ComesTo IsShipped state policy keeper last ending.fault
+  pub comes : IsServingOutcome IsShipped state policy keeper last ending.fault
   pub told : fault ≡ served_fault last.writer.is_broken ending.fault
   pub ends : IfSome ending.ended (AreEndedAt listener sessions)
   pub counted : ending.fault ≡ None → IsSome ending.ended

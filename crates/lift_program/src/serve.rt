@@ -4,7 +4,7 @@ ghost use Rattle.std.specs.Prelude.{◌≡◌, None, false, IfSome, IsSome};
 ghost use Rattle.lift_policy.specs.Choices.{IsShipped};
 ghost use Rattle.lift_relay.specs.Heard.{FailureHeard};
 ghost use Rattle.lift_serve.specs.Open.{AreEndedAt};
-ghost use Rattle.lift_serve.specs.Relaying.{ComesTo};
+ghost use Rattle.lift_serve.specs.Relaying.{IsServingOutcome};
 ghost use Rattle.lift_program.specs.Ends.{IsFailureTold, TellsLine, line_at_once_in};
 ghost use Rattle.lift_program.specs.Faults.{served_fault};
 ghost use Rattle.lift_program.specs.Serving.{IsServedOver};
@@ -75,7 +75,7 @@ where
     R: Threads + Wait + Clock + Sync,
     D: Disk + Drop,
     E: Write + Drop,
-    ensures comes { ComesTo IsShipped D.state prepared.entry.policy prepared.entry.keeper result.1.keeper
+    ensures comes { IsServingOutcome IsShipped D.state prepared.entry.policy prepared.entry.keeper result.1.keeper
         result.1.end.fault }
     ensures heard { FailureHeard (IsFailureTold E.contents) prepared.entry.keeper.writer.is_broken
         result.1.keeper.writer.is_broken errors result.0 }
@@ -111,7 +111,7 @@ where
     R: Threads + Wait + Clock + Sync,
     D: Disk + Drop,
     E: Write + Drop,
-    ensures comes { ComesTo IsShipped D.state prepared.entry.policy prepared.entry.keeper result.keeper
+    ensures comes { IsServingOutcome IsShipped D.state prepared.entry.policy prepared.entry.keeper result.keeper
         result.end.fault }
     ensures heard { FailureHeard (IsFailureTold E.contents) prepared.entry.keeper.writer.is_broken
         result.keeper.writer.is_broken errors.old errors.new }
@@ -126,7 +126,7 @@ where
             Watched<E>,
             ServingOutcome<D, ImageKey<E>, NoWitness>,
         )
-            ensures comes { ComesTo IsShipped D.state prepared.entry.policy prepared.entry.keeper
+            ensures comes { IsServingOutcome IsShipped D.state prepared.entry.policy prepared.entry.keeper
                 result.1.keeper result.1.end.fault }
             ensures heard { FailureHeard (IsFailureTold E.contents)
                 prepared.entry.keeper.writer.is_broken result.1.keeper.writer.is_broken errors

@@ -31,7 +31,7 @@ use Rattle.lift_serve.specs.declared.serving.ServeFault.{ServeFault}
 use Rattle.lift_serve.specs.declared.serving.ServeFault.TheVariants.{Thread}
 use Rattle.std.specs.declared.net.tcp.TcpListener.{TcpListener as Listener}
 use Rattle.lift_serve.specs.Open.{AreEndedAt, EndedState, IsEndAt, ended_in, told_behind}
-use Rattle.lift_serve.specs.Relaying.{ComeOf, HaveRunOn, IsLastTurn, KeptRelay, Relayed, has_failed}
+use Rattle.lift_serve.specs.Relaying.{ComeOf, HaveRunOrNot, IsLastTurn, KeptInParts, RanInParts, has_failed}
 
 abbrev is_spawn : Option RunFault → Type 0
 is_spawn None = ⊥
@@ -48,12 +48,12 @@ not_spawn : (of : KeeperFault) → Some (Keeper of) ≡ Some (Spawn tt) → ⊥
 not_spawn of is = subst is_spawn (sym is) tt
 
 module _ {D P : Type 0} (choice : Choice) (state : D → DiskState) (before : ClerkState D P) (a b : AllocatorState P) (f g : FlusherState D) where
-  pub none_in_hand : (fault : Option RunFault) → AreParts before a f → HaveRunOn choice state a b f g fault → b.hand ≡ []
+  pub none_in_hand : (fault : Option RunFault) → AreParts before a f → HaveRunOrNot choice state a b f g fault → b.hand ≡ []
   none_in_hand None parts run = (run.ran no_fault).nothing_in_hand
   none_in_hand (Some (Keeper of)) parts run = (run.ran (not_spawn of)).nothing_in_hand
   none_in_hand (Some (Spawn no_thread)) parts run = ap (λ (x : AllocatorState P). x.hand) (run.refused refl).0 ∙ parts.nothing_sent.4
 
-  pub all_received : (fault : Option RunFault) → AreParts before a f → HaveRunOn choice state a b f g fault → b.end.sent ≡ g.end.received
+  pub all_received : (fault : Option RunFault) → AreParts before a f → HaveRunOrNot choice state a b f g fault → b.end.sent ≡ g.end.received
   all_received None parts run = run.received no_fault
   all_received (Some (Keeper of)) parts run = run.received (not_spawn of)
   all_received (Some (Spawn no_thread)) parts run =
@@ -69,7 +69,7 @@ module _ {D P : Type 0} (choice : Choice) (state : D → DiskState) (before : Cl
   stays_broken old after of (Ok counts) once broken = absurd (let other = once.commits.is.broken.1 broken in cc)
   stays_broken old after of (Err fault) once broken = refl
 
-  breaks : (chooses : P → Choice) (fault : Option RunFault) (after : ClerkState D P) → HaveRunOn choice state a b f g fault → (last : IsLastTurn chooses state b g after)
+  breaks : (chooses : P → Choice) (fault : Option RunFault) (after : ClerkState D P) → HaveRunOrNot choice state a b f g fault → (last : IsLastTurn chooses state b g after)
       → after.keeper.writer.is_broken ≡ (has_failed fault || is_err last.result)
   breaks chooses None after run last = ends_broken last.joined after (chooses last.joined.policy) last.result last.turn
   breaks chooses (Some (Spawn no_thread)) after run last = ends_broken last.joined after (chooses last.joined.policy) last.result last.turn
@@ -84,13 +84,13 @@ module _ {D P : Type 0} (chooses : P → Choice) (state : D → DiskState) (law 
   kept_run : (fault : Option RunFault) → HaveRun (chooses a.policy) state a b f g fault → HaveKept state base f g safe given
   kept_run fault run = law f g None run.first base safe given history run.flusher
 
-  kept_on : (fault : Option RunFault) → HaveRunOn (chooses a.policy) state a b f g fault → HaveKept state base f g safe given
+  kept_on : (fault : Option RunFault) → HaveRunOrNot (chooses a.policy) state a b f g fault → HaveKept state base f g safe given
   kept_on None run = kept_run None (run.ran no_fault)
   kept_on (Some (Keeper of)) run = kept_run (Some (Keeper of)) (run.ran (not_spawn of))
   kept_on (Some (Spawn no_thread)) run = subst (λ (x : FlusherState D). HaveKept state base f x safe given) (sym (run.refused refl).1) (law f f None None base safe given history NoFlush)
 
-  kept_relay : (fault : Option RunFault) (after : ClerkState D P) → HaveRunOn (chooses a.policy) state a b f g fault → (last : IsLastTurn chooses state b g after)
-      → KeptRelay chooses state b f g after last base safe given
+  kept_relay : (fault : Option RunFault) (after : ClerkState D P) → HaveRunOrNot (chooses a.policy) state a b f g fault → (last : IsLastTurn chooses state b g after)
+      → KeptInParts chooses state b f g after last base safe given
   kept_relay fault after run last =
       let k = kept_on fault run in
       let r = last.rejoined in
@@ -116,14 +116,14 @@ of_one {D} before a f parts = record {
 -- the choice is that of the clerk's policy, which stays
 pub relayed_on : {D P : Type 0} (chooses : P → Choice) (state : D → DiskState) → TurnsKeep D state → JoinedGoOn D P → (before after : ClerkState D P) (a b : AllocatorState P) (f g : FlusherState D)
     (fault : Option RunFault) → AreParts before a f
-    → ((base : RegisterState) (safe : List Entry) (given : List Taken) → History base (group_of before) safe given → History base (group_behind f) safe given) → HaveRunOn (chooses a.policy) state a b f g fault → IsLastTurn chooses state b g after → Relayed chooses state before after fault
+    → ((base : RegisterState) (safe : List Entry) (given : List Taken) → History base (group_of before) safe given → History base (group_behind f) safe given) → HaveRunOrNot (chooses a.policy) state a b f g fault → IsLastTurn chooses state b g after → RanInParts chooses state before after fault
 relayed_on {D} {P} chooses state law joins before after a b f g fault parts split run last = record {
   allocator = a;
   flusher = f;
   parts = parts;
   allocator' = b;
   flusher' = g;
-  ran = subst (λ (p : P). HaveRunOn (chooses p) state a b f g fault) parts.policy run;
+  ran = subst (λ (p : P). HaveRunOrNot (chooses p) state a b f g fault) parts.policy run;
   last = last;
   broken = breaks (chooses a.policy) state before a b f g chooses fault after run last;
   desk = last.turn.kept.0 ∙ last.rejoined.desk ∙ run.stay.same_allocator.desk ∙ parts.desks.0;
@@ -132,7 +132,7 @@ relayed_on {D} {P} chooses state law joins before after a b f g fault parts spli
 }
 
 -- parts that no thread could be made for are as they were
-pub not_run : {D P : Type 0} (choice : Choice) (state : D → DiskState) (a : AllocatorState P) (f : FlusherState D) → AreOfOne a f → HaveRunOn choice state a a f f (Some (Spawn tt))
+pub not_run : {D P : Type 0} (choice : Choice) (state : D → DiskState) (a : AllocatorState P) (f : FlusherState D) → AreOfOne a f → HaveRunOrNot choice state a a f f (Some (Spawn tt))
 not_run choice state a f of_one = record {
   refused = λ spawn. (refl, refl);
   ran = λ other. absurd (other refl);
@@ -147,7 +147,7 @@ not_run choice state a f of_one = record {
 
 -- ---- who hears that the device fails
 module _ {D P : Type 0} (chooses : P → Choice) (choice : Choice) (state : D → DiskState) (a b : AllocatorState P) (f g : FlusherState D) where
-  run_stays : (fault : Option RunFault) → HaveRunOn choice state a b f g fault → f.writer.is_broken ≡ true → g.writer.is_broken ≡ true
+  run_stays : (fault : Option RunFault) → HaveRunOrNot choice state a b f g fault → f.writer.is_broken ≡ true → g.writer.is_broken ≡ true
   run_stays None run = let ran = run.ran no_fault in turns_stay state f g None ran.first ran.flusher
   run_stays (Some (Keeper of)) run = let ran = run.ran (not_spawn of) in turns_stay state f g None ran.first ran.flusher
   run_stays (Some (Spawn no_thread)) run = λ was. ap (λ (x : FlusherState D). x.writer.is_broken) (run.refused refl).1 ∙ was
@@ -158,7 +158,7 @@ module _ {D P : Type 0} (chooses : P → Choice) (choice : Choice) (state : D �
       ap (λ (w : WriterView D). w.is_broken) (last.turn.commits.is.rests joined) ∙ joined
 
   -- of a run and of the last turn behind it
-  pub heard_behind : {V : Type 0} (hears : V → V → Type 0) (before after : ClerkState D P) (fault : Option RunFault) (u v w : V) → AreParts before a f → HaveRunOn choice state a b f g fault
+  pub heard_behind : {V : Type 0} (hears : V → V → Type 0) (before after : ClerkState D P) (fault : Option RunFault) (u v w : V) → AreParts before a f → HaveRunOrNot choice state a b f g fault
       → IsLastTurn chooses state b g after → FailureHeard hears f.writer.is_broken g.writer.is_broken u v → FailureHeard hears g.writer.is_broken after.keeper.writer.is_broken v w
       → FailureHeard hears before.keeper.writer.is_broken after.keeper.writer.is_broken u w
   heard_behind hears before after fault u v w parts run last first then =

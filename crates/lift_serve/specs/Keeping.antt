@@ -13,18 +13,18 @@ use Rattle.lift_keeper.specs.Keeper.{KeeperView}
 use Rattle.lift_world.specs.declared.event.Taken.{Taken}
 use Rattle.lift_clerk.specs.Keeping.{ImageKeeps, KeepsFront}
 use Rattle.lift_serve.specs.declared.serving.ServeFault.{ServeFault}
-use Rattle.lift_serve.specs.Relaying.{ComesTo, IsServedKeeper, IsUnserved, KeptRelay}
+use Rattle.lift_serve.specs.Relaying.{IsServingOutcome, IsServedKeeper, IsUnserved, KeptInParts}
 
 -- A serving, from these safe entries and answers to those.
 pub data KeptServing {D P : Type 0} (chooses : P → Choice) (state : D
     → DiskState) (base : RegisterState) (policy : P) (keeper last : KeeperView D) (fault : Option ServeFault)
-    : ComesTo chooses state policy keeper last fault → List Entry → List Taken → List Entry
+    : IsServingOutcome chooses state policy keeper last fault → List Entry → List Taken → List Entry
     → List Taken → Type 0 where
   -- At each moment of each turn all is kept that was safe and given before it. What the turns make
   -- safe and answer is added behind.
   Served : {safe : List Entry} {given : List Taken}
       (served : IsServedKeeper chooses state policy keeper last fault)
-      → (k : KeptRelay chooses state served.relayed.relayed.allocator'
+      → (k : KeptInParts chooses state served.relayed.relayed.allocator'
       served.relayed.relayed.flusher served.relayed.relayed.flusher' served.relayed.after
       served.relayed.relayed.last base safe given)
       → KeptServing chooses state base policy keeper last fault (inl served) safe given
@@ -43,7 +43,7 @@ KeepsAll D plan base given left = (entries : List Entry) × (now : List Taken) �
 -- the entries and all the answers, then
 pub record KeepsOver {D P : Type 0} (chooses : P → Choice) (state : D
     → DiskState) (plan : Plan) (opened : D) (policy : P) (keeper last : KeeperView D)
-    (fault : Option ServeFault) (comes : ComesTo chooses state policy keeper last fault)
+    (fault : Option ServeFault) (comes : IsServingOutcome chooses state policy keeper last fault)
     (base : RegisterState) (accepted : List Entry) (given : List Taken) : Type 0 where
   -- so does each that a crash at any moment of the recovery may leave;
   pub recovery : LeavesOnly (state opened) (state keeper.writer.device)

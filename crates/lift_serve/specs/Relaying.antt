@@ -41,7 +41,7 @@ pub record ComeOf {D P : Type 0} (chooses : P → Choice) (state : D → DiskSta
 
 -- Both parts ran, and all that was sent is received and answered; or no thread could be made, and
 -- they are as they were.
-pub record HaveRunOn {D P : Type 0} (choice : Choice) (state : D
+pub record HaveRunOrNot {D P : Type 0} (choice : Choice) (state : D
     → DiskState) (a b : AllocatorState P) (f g : FlusherState D)
     (fault : Option RunFault) : Type 0 where
   pub refused : fault ≡ Some (Spawn tt) → (b ≡ a) × (g ≡ f)
@@ -63,7 +63,7 @@ pub record IsLastTurn {D P : Type 0} (chooses : P → Choice) (state : D
 
 -- What was safe and had been answered was kept by the flusher's turns, of which each kept all that
 -- those before it left, and then by the last one of the clerk of both parts.
-pub record KeptRelay {D P : Type 0} (chooses : P → Choice) (state : D → DiskState)
+pub record KeptInParts {D P : Type 0} (chooses : P → Choice) (state : D → DiskState)
     (a : AllocatorState P) (f g : FlusherState D) (after : ClerkState D P)
     (last : IsLastTurn chooses state a g after) (base : RegisterState) (safe : List Entry)
     (given : List Taken) : Type 0 where
@@ -86,21 +86,21 @@ has_failed (Some (Keeper fault)) = true
 -- flusher failed or this last one. Desk and policy stay. Whatever was safe and answered before is
 -- kept, and what was answered meanwhile: at each moment of each turn a crash leaves an image that
 -- does.
-pub record Relayed {D P : Type 0} (chooses : P → Choice) (state : D
+pub record RanInParts {D P : Type 0} (chooses : P → Choice) (state : D
     → DiskState) (before after : ClerkState D P) (fault : Option RunFault) : Type 0 where
   pub allocator : AllocatorState P
   pub flusher : FlusherState D
   pub parts : AreParts before allocator flusher
   pub allocator' : AllocatorState P
   pub flusher' : FlusherState D
-  pub ran : HaveRunOn (chooses before.policy) state allocator allocator' flusher flusher' fault
+  pub ran : HaveRunOrNot (chooses before.policy) state allocator allocator' flusher flusher' fault
   pub last : IsLastTurn chooses state allocator' flusher' after
   pub broken : after.keeper.writer.is_broken ≡ (has_failed fault || is_err last.result)
   pub desk : after.desk ≡ before.desk
   pub policy : after.policy ≡ before.policy
   pub keeps : (base : RegisterState) (safe : List Entry) (given : List Taken)
       → History base (group_of before) safe given
-      → KeptRelay chooses state allocator' flusher flusher' after last base safe given
+      → KeptInParts chooses state allocator' flusher flusher' after last base safe given
 
 -- The keeper came to this by the turns of the two parts of a clerk with this policy, and by the
 -- clerk's last one. The clerk began at a new desk: it had taken and answered nothing there.
@@ -112,7 +112,7 @@ pub record IsRelayedKeeper {D P : Type 0} (chooses : P → Choice) (state : D
   pub begins : before.keeper ≡ keeper
   pub unused : before.seat ≡ clerk_of before.desk
   pub policy_is : before.policy ≡ policy
-  pub relayed : Relayed chooses state before after fault
+  pub relayed : RanInParts chooses state before after fault
   pub ends : after.keeper ≡ keeper'
 
 -- The keeper was relayed to this at a desk with a seat for each terminal that its building may
@@ -134,7 +134,7 @@ pub record IsUnserved {D : Type 0} (keeper keeper' : KeeperView D)
   pub tells : (fault ≡ Some Network) ⊎ (fault ≡ Some Memory)
 
 -- what a serving comes to
-abbrev pub ComesTo : {D P : Type 0} → (P → Choice) → (D → DiskState) → (policy : P)
+abbrev pub IsServingOutcome : {D P : Type 0} → (P → Choice) → (D → DiskState) → (policy : P)
     → (keeper keeper' : KeeperView D) → (fault : Option ServeFault) → Type 0
-ComesTo chooses state policy keeper keeper' fault =
+IsServingOutcome chooses state policy keeper keeper' fault =
     IsServedKeeper chooses state policy keeper keeper' fault ⊎ IsUnserved keeper keeper' fault

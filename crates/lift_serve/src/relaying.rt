@@ -10,7 +10,7 @@ ghost use Rattle.lift_clerk.specs.Steps.{group_of};
 ghost use Rattle.lift_parts.specs.History.{group_behind};
 ghost use Rattle.lift_parts.specs.Parts.{AreOfOne, AreParts};
 ghost use Rattle.lift_relay.specs.Heard.{FailureHeard};
-ghost use Rattle.lift_serve.specs.Relaying.{ComeOf, HaveRunOn, IsLastTurn};
+ghost use Rattle.lift_serve.specs.Relaying.{ComeOf, HaveRunOrNot, IsLastTurn};
 
 use crate::serving::ServeFault;
 use crate::shortages::{Shortage, part};
@@ -88,7 +88,7 @@ impl<'d, 'b, D: Disk + Drop, P: Policy + Drop, K: Drop, V: Witness + Drop> Parts
 pub(crate) fn unrun<'d, 'b, D: Disk + Drop, P: Policy + Drop, K: Drop, V: Witness + Drop>(
     parts: Parts<'d, 'b, D, P, K, V>,
 ) -> Parts<'d, 'b, D, P, K, V>
-    ensures unrun { HaveRunOn (P.chooses parts.entry.allocator.policy) D.state parts.entry.allocator
+    ensures unrun { HaveRunOrNot (P.chooses parts.entry.allocator.policy) D.state parts.entry.allocator
         result.allocator parts.entry.flusher result.flusher (Some (RunFault.Spawn tt)) }
     ensures heard { FailureHeard V.hears parts.entry.flusher.writer.is_broken
         result.flusher.writer.is_broken parts.entry.witness result.witness }
@@ -111,7 +111,7 @@ where
     P: Policy + Drop + Send,
     K: HeardBy<V> + Drop,
     V: Witness + Drop,
-    ensures ran { HaveRunOn (P.chooses parts.entry.allocator.policy) D.state parts.entry.allocator
+    ensures ran { HaveRunOrNot (P.chooses parts.entry.allocator.policy) D.state parts.entry.allocator
         result.allocator parts.entry.flusher result.flusher result.fault }
     // Where the device failed first in it, the witness heard of that, once.
     ensures heard { FailureHeard V.hears parts.entry.flusher.writer.is_broken

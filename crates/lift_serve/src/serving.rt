@@ -14,7 +14,7 @@ ghost use Rattle.lift_serve.specs.Lobby.{AreInOrder, found_seats};
 ghost use Rattle.lift_relay.specs.Heard.{FailureHeard};
 ghost use Rattle.lift_relay.specs.declared.pair.RunFault.{RunFault as Fault};
 ghost use Rattle.lift_serve.specs.Open.{AreEndedAt, EndedState, IsEndAt};
-ghost use Rattle.lift_serve.specs.Relaying.{ComesTo, HaveRunOn, Relayed};
+ghost use Rattle.lift_serve.specs.Relaying.{IsServingOutcome, HaveRunOrNot, RanInParts};
 
 use crate::connections::{Connection, Connections, CountedEnd, Over};
 use crate::lobby::Lobby;
@@ -164,7 +164,7 @@ where
     K: HeardBy<V> + Drop,
     V: Witness + Drop,
     // All are given up where no thread could be had.
-    ensures ran { (fault : Option Fault) × HaveRunOn (P.chooses parts.entry.allocator.policy)
+    ensures ran { (fault : Option Fault) × HaveRunOrNot (P.chooses parts.entry.allocator.policy)
         D.state parts.entry.allocator result.0.allocator parts.entry.flusher result.0.flusher fault
         × (fault ≡ Some (Fault.Spawn tt) → IsErr result.1) }
     ensures heard { FailureHeard V.hears parts.entry.flusher.writer.is_broken
@@ -177,7 +177,7 @@ where
         move |scope| -> (Parts<D, P, K, V>, Over)
             requires { IsSync R.row × IsSync G.row × IsSend P.row }
             ensures ran { (fault : Option Fault)
-                × HaveRunOn (P.chooses parts.entry.allocator.policy) D.state parts.entry.allocator
+                × HaveRunOrNot (P.chooses parts.entry.allocator.policy) D.state parts.entry.allocator
                 result.0.allocator parts.entry.flusher result.0.flusher fault
                 × (fault ≡ Some (Fault.Spawn tt) → IsErr result.1) }
             ensures heard { FailureHeard V.hears parts.entry.flusher.writer.is_broken
@@ -226,7 +226,7 @@ where
         → History base (group_of parts.clerk.value) entries given
         → History base (group_behind parts.flusher) entries given }
     ensures ran { (fault : Option Fault)
-        × Relayed P.chooses D.state parts.entry.clerk.value result.0 fault
+        × RanInParts P.chooses D.state parts.entry.clerk.value result.0 fault
         × (fault ≡ Some (Fault.Spawn tt) → IsErr result.1) }
     ensures heard { FailureHeard V.hears parts.entry.clerk.value.keeper.writer.is_broken
         result.0.keeper.writer.is_broken parts.entry.witness result.2 }
@@ -265,7 +265,7 @@ where
     V: Witness + Drop,
     // What the keeper has at the end came to it by the turns of the two parts of a clerk with this
     // policy, and by its last one; or it is as it was, and why is told.
-    ensures comes { ComesTo P.chooses D.state prepared.entry.policy prepared.entry.keeper result.keeper
+    ensures comes { IsServingOutcome P.chooses D.state prepared.entry.policy prepared.entry.keeper result.keeper
         result.end.fault }
     // The witness has heard that the device failed, once, where the keeper is broken that wasn't;
     // else it is as it was.

@@ -27,7 +27,7 @@ use Rattle.lift_clerk.specs.lemmas.Keeps.{either_front}
 use Rattle.lift_parts.specs.Flusher.{FlusherState}
 use Rattle.lift_parts.specs.Keeping.{KeepingTurns, NoneYet, OneKept}
 use Rattle.lift_serve.specs.declared.serving.ServeFault.{ServeFault}
-use Rattle.lift_serve.specs.Relaying.{ComesTo, IsRelayedKeeper, KeptRelay}
+use Rattle.lift_serve.specs.Relaying.{IsServingOutcome, IsRelayedKeeper, KeptInParts}
 use Rattle.lift_serve.specs.Keeping.{KeepsAll, KeepsOver, Served, Unserved}
 
 -- what keeps all answers until now keeps those that were given first
@@ -140,7 +140,7 @@ module _ {D P : Type 0} (chooses : P → Choice) (state : D → DiskState) (plan
       no_doubt = subst (λ (k : KeeperView D). k.writer.doubt ≡ []) (sym r.begins) no_doubt;
     }
 
-    kept : KeptRelay chooses state r.relayed.allocator' r.relayed.flusher r.relayed.flusher' r.after
+    kept : KeptInParts chooses state r.relayed.allocator' r.relayed.flusher r.relayed.flusher' r.after
         r.relayed.last base safe given
     kept = r.relayed.keeps base safe given (goes_on r.before r.begins begins)
 
@@ -189,7 +189,7 @@ module _ {D P : Type 0} (chooses : P → Choice) (state : D → DiskState) (plan
     ends = subst Ends r.ends behind
 
   pub keeps_over : (policy : P) (last : KeeperView D) (fault : Option ServeFault)
-      (comes : ComesTo chooses state policy keeper last fault)
+      (comes : IsServingOutcome chooses state policy keeper last fault)
       → KeepsOver chooses state plan opened policy keeper last fault comes base accepted given
   keeps_over policy last fault (inl served) =
       let k = kept policy last served.relayed in
