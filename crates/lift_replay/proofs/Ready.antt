@@ -1,5 +1,5 @@
 -- Between two lines clerk and terminals are in step, and nothing is to be told of a terminal that doesn't wait.
-use Rattle.std.proofs.Common.{◌≡◌, ◌≢◌, ℕ, zero, suc, ◌+◌, ◌<◌, ◌≤◌, false, cond, List, [], ◌∷◌, ◌++◌, length, map, All, Option, Some, None, IfSome, refl, sym, ap, ◌∙◌, subst, inl, inr, arith, get_or-set_other, slice_set, length-append}
+use Rattle.std.proofs.Common.{◌≡◌, ℕ, zero, suc, ◌+◌, ◌<◌, ◌≤◌, false, cond, List, [], ◌∷◌, ◌++◌, length, map, All, Option, Some, None, refl, sym, ap, ◌∙◌, subst, inl, inr, arith, get_or-set_other, length-append}
 use Rattle.std.proofs.lemmas.List.{length-set}
 use Rattle.std.proofs.lemmas.Grind.{get_or-set_at}
 use Rattle.std.proofs.lemmas.Bool.{cases_eq}
@@ -12,8 +12,8 @@ use Rattle.lift_desk.specs.declared.words.Ask.{Ask}
 use Rattle.lift_desk.specs.declared.view.TerminalView.{TerminalView}
 use Rattle.lift_desk.specs.declared.view.ClerkView.{ClerkView}
 use Rattle.lift_desk.specs.Words.{ask_word, IsAskWord, IsReplyWord}
-use Rattle.lift_desk.specs.Rule.{CountTurns, IsInOrder, stamp_of}
-use Rattle.lift_desk.specs.Steps.{is_new_word, with_taking, lists_of}
+use Rattle.lift_desk.specs.Rule.{CountTurns, stamp_of}
+use Rattle.lift_desk.specs.Steps.{is_new_word, with_taking}
 use Rattle.lift_desk.specs.Seats.{TerminalSeat, ClerkPlace, Waits, TakesOf, view_at, no_place}
 use Rattle.lift_desk.specs.lemmas.WordLists.{prefix_refl}
 use Rattle.lift_clerk.specs.Visits.{Visit, FindsAt, Finds, LooksAndAnswers, with_reply, replies_behind, served}
@@ -23,8 +23,8 @@ use Rattle.lift_replay.specs.declared.lines.End.{End}
 use Rattle.lift_replay.specs.Grammar.{IsLineInRange}
 use Rattle.lift_replay.specs.Group.{Asking, asking_at, after_ask, having_heard}
 use Rattle.lift_replay.specs.Known.{IsKnown}
-use Rattle.lift_replay.specs.Shows.{WaitsFor, IsInStep, AreInStep, AreReady}
-use Rattle.lift_replay.specs.Terminals.{AllHear, Hears, AreTold, AreSettled, BothTold, no_seat, seat_at, told_seat, having_asked, count_waiting}
+use Rattle.lift_replay.specs.Shows.{WaitsFor, IsInStep, AreReady}
+use Rattle.lift_replay.specs.Terminals.{AllHear, Hears, AreSettled, BothTold, no_seat, seat_at, told_seat, having_asked, count_waiting}
 use Rattle.lift_replay.specs.Told.{ScriptClerk, Asks, HasAsked, HasTaken, OutcomeTells, TurnTells, ScriptRests, Tells, LineTells}
 use Rattle.lift_replay.proofs.Telling.{same_told}
 use Rattle.lift_replay.proofs.InStep.{AllFound, found_counted, waits_so}

@@ -120,6 +120,8 @@ fn add_cut<W: Outlet>(
 
 /// Opens a desk for the building, and carries out lines over it and the keeper, up to a power cut
 /// or to the end of the run.
+// (in a frame of its own, where that of `first_keeper` was)
+#[inline(never)]
 pub fn add_segment<'b, W: Outlet>(
     alloc: Global,
     building: &'b Building,

@@ -63,6 +63,8 @@ fn keeper_over(disk: FuseDisk, building: &Building) -> Keeper<'_, FuseDisk>
 
 /// The keeper over a formatted device in memory, of two halves and the two sectors before them:
 /// nobody has called. It is refused only where the device takes its memory.
+// (in a frame of its own, which is free again for the lines)
+#[inline(never)]
 pub fn first_keeper(alloc: Global, building: &Building) -> Result<Keeper<'_, FuseDisk>, NoMemory>
     ensures empty { IfOk result (λ keeper. keeper.writer.register ≡ empty) }
     ensures unarmed { IfOk result (λ keeper. IsUnarmed (fuse_state_of keeper.writer.device)) }
@@ -112,6 +114,8 @@ impl<'d, 'b> Station<'d, 'b> {
 
     /// The power is cut, and comes back: the keeper that recovers what is left, over a device that
     /// fails no call by itself.
+    // (few lines cut the power: in a frame of its own it costs the others nothing)
+    #[inline(never)]
     pub fn cut(self, outcome: Outcome) -> Keeper<'b, FuseDisk>
         ensures left { IsLeftBy outcome (fuse_state_of self.entry.clerk.keeper.writer.device)
             (fuse_state_of result.writer.device).image }
