@@ -1,7 +1,5 @@
-//! Tests of `lift_clerk`: turns whose device fails, reopenings, histories after cuts, and a late
-//! session and a drive over a clerk. Turns of scripts and sessions are data, tried by
-//! `tools/try/cases`.
+//! Tests of `lift_clerk`: histories after cuts, and a late session and a drive over a clerk. Turns
+//! of scripts and sessions are data, tried by `tools/try/cases`.
 
-mod faults;
 mod histories;
 mod sessions;

@@ -29,48 +29,19 @@ places = 8
 places = 8
 ";
 
-/// The same with car A alone.
-const ONE_CAR: &str = "\
-floors = 10
-door_ms = 6000
-kiosks = [0, 5, 7]
-flight = [
-[0,3000,4000,5000,6000,7000,8000,9000,10000,11000],
-[3000,0,3000,4000,5000,6000,7000,8000,9000,10000],
-[4000,3000,0,3000,4000,5000,6000,7000,8000,9000],
-[5000,4000,3000,0,3000,4000,5000,6000,7000,8000],
-[6000,5000,4000,3000,0,3000,4000,5000,6000,7000],
-[7000,6000,5000,4000,3000,0,3000,4000,5000,6000],
-[8000,7000,6000,5000,4000,3000,0,3000,4000,5000],
-[9000,8000,7000,6000,5000,4000,3000,0,3000,4000],
-[10000,9000,8000,7000,6000,5000,4000,3000,0,3000],
-[11000,10000,9000,8000,7000,6000,5000,4000,3000,0]]
-[[cars]]
-places = 8
-";
-
 // (a function that has a long text and calls others is dear to prove)
 fn group_text() -> &'static str {
     GROUP
 }
 
-fn one_car_text() -> &'static str {
-    ONE_CAR
-}
-
-fn building_of(rt: &impl Abort, alloc: Global, text: &str) -> Building {
-    Building::read(alloc, text).ok().expect(rt, "refused")
-}
-
 pub(crate) fn group(rt: &impl Abort, alloc: Global) -> Building {
-    building_of(rt, alloc, group_text())
+    Building::read(alloc, group_text())
+        .ok()
+        .expect(rt, "refused")
 }
 
-pub(crate) fn group_of_one_car(rt: &impl Abort, alloc: Global) -> Building {
-    building_of(rt, alloc, one_car_text())
-}
-
-fn blank(rt: &impl Abort, alloc: Global) -> MemDisk {
+/// A device of zeros.
+pub(crate) fn blank(rt: &impl Abort, alloc: Global) -> MemDisk {
     MemDisk::new(alloc, 130).ok().expect(rt, "memory")
 }
 

@@ -1,6 +1,6 @@
-//! Tests of what serves a group: `clerk` has a clerk whose device fails, its history after cuts,
-//! and sessions over it; `relay` both parts of a clerk, by turns and on threads; `faults` commits,
-//! turns and lines of batches that are stopped at each call of the device.
+//! Tests of what serves a group: `clerk` has a clerk's history after cuts, and sessions over it;
+//! `relay` both parts of a clerk, by turns and on threads; `faults` turns and lines of batches that
+//! are stopped at each call of the device.
 #![tactic(auto)]
 
 #[cfg(test)]

@@ -1,12 +1,8 @@
 //! Both parts of one split, held together.
 ghost use Rattle.std.specs.Prelude.{◌≡◌, IfOk};
-ghost use Rattle.lift_desk.specs.Seats.{IsClerkOf, OwesNothing};
 ghost use Rattle.lift_parts.specs.Parts.{AreOfOne};
 
-use crate::terminals::clerk_of;
-use lift_building::Building;
 use lift_clerk::{Clerk, Counts};
-use lift_desk::{ClerkSeat, Desk};
 use lift_disk::Disk;
 use lift_keeper::KeeperFault;
 use lift_policy::Policy;
@@ -36,23 +32,6 @@ impl<'a, D: Disk + Drop, P: Policy + Drop> Relay<'a, D, P> {
         }
     }
 
-    /// The parts of a clerk at a desk, of a device that begins as it is.
-    pub(crate) fn begin(
-        rt: &impl Abort,
-        alloc: Global,
-        desk: &'a Desk,
-        seat: ClerkSeat,
-        disk: D,
-        building: &'a Building,
-        policy: P,
-    ) -> Self
-        requires clerk { IsClerkOf desk.now seat }
-        requires owes { OwesNothing seat }
-    {
-        let clerk = clerk_of(rt, desk, seat, disk, building, policy);
-        Self::of(rt, alloc, clerk)
-    }
-
     pub(crate) fn allocate<R: Wait>(&mut self, rt: &R) -> Counts {
         self.allocator.turn(rt)
     }
@@ -74,21 +53,8 @@ impl<'a, D: Disk + Drop, P: Policy + Drop> Relay<'a, D, P> {
         self.allocator.sent() == sent && self.flusher.received() == received
     }
 
-    pub(crate) fn run<R: Threads + Wait + Sync, G: Gate + Sync>(
-        &mut self,
-        rt: &R,
-        gate: &G,
-    ) -> Option<RunFault>
-    where
-        P: Send,
-        ensures { self.new.allocator.desk ≡ self.old.allocator.desk }
-    {
-        let (_, fault) = self.run_before(rt, gate, NoWitness);
-        fault
-    }
-
     /// The witness, once the run is over, beside its fault.
-    pub(crate) fn run_before<R: Threads + Wait + Sync, G: Gate + Sync, V: Witness + Drop>(
+    pub(crate) fn run<R: Threads + Wait + Sync, G: Gate + Sync, V: Witness + Drop>(
         &mut self,
         rt: &R,
         gate: &G,
@@ -99,14 +65,6 @@ impl<'a, D: Disk + Drop, P: Policy + Drop> Relay<'a, D, P> {
         ensures { self.new.allocator.desk ≡ self.old.allocator.desk }
     {
         run(rt, &mut self.allocator, &mut self.flusher, gate, witness)
-    }
-
-    /// How many calls the clerk of both parts shows, if they may join.
-    pub(crate) fn open_calls(self) -> Option<u32> {
-        match self.rejoined() {
-            Ok(clerk) => Some(clerk.keeper().register().open_count()),
-            Err(_) => None,
-        }
     }
 
     pub(crate) fn rejoined(self) -> Result<Clerk<'a, 'a, D, P>, Self>

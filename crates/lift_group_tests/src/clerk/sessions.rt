@@ -107,8 +107,7 @@ fn a_late_answer_greets(rt: HostRuntime) {
     let disk = formatted(&rt, rt.alloc(), &building);
     let mut clerk = clerk_of(&rt, &desk, clerk, disk, &building, Etd);
     assert!(rt; group.ask(Who::CarA, 0, place(0, Dir::Up)) && turns(&mut clerk));
-    let (_car, kiosk, _other) = group.into_seats();
-    let mut port = DeskPort::new(&desk, kiosk);
+    let mut port = DeskPort::new(&desk, group.take_last(&rt));
     let last = is_late(&rt, rt.alloc(), &mut port);
     assert!(rt; turns(&mut clerk));
     is_greeted(&rt, rt.alloc(), &mut port, last);
@@ -182,8 +181,7 @@ fn a_car_drives(rt: HostRuntime) {
     let disk = formatted(&rt, rt.alloc(), &building);
     let mut clerk = clerk_of(&rt, &desk, clerk, disk, &building, Etd);
     sends_car_a(&rt, &mut group, &mut clerk);
-    let (seat, _kiosk, _other) = group.into_seats();
-    let port = DeskPort::new(&desk, seat);
+    let port = DeskPort::new(&desk, group.into_first(&rt));
     let mut port = Turned { port, clerk };
     let (end, is_driven) = drive_up(rt.alloc(), &mut port);
     assert!(rt; is_driven && end.end == Ending::Limit && end.last == number(2));

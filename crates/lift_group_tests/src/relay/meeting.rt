@@ -1,9 +1,10 @@
 //! Two kiosks at one desk, each on a thread of its own, while a third turns the clerk, or two run
 //! both of its parts.
-ghost use Rattle.std.specs.Prelude.{◌≡◌, vec_len};
+ghost use Rattle.std.specs.Prelude.{◌≡◌};
 ghost use Rattle.lift_desk.specs.Seats.{AreSeatsOf, IsClerkOf, IsSeatOf, OwesNothing};
 
 use crate::groups::{call, formatted, group, number, place};
+use crate::relay::gates::Below;
 use crate::relays::Relay;
 use crate::terminals::{Terminals, Who, clerk_of, open};
 use lift_base::{Body, Dir, Reply};
@@ -12,7 +13,7 @@ use lift_clerk::Clerk;
 use lift_desk::{ClerkSeat, Desk, DeskParts, Seat};
 use lift_disk::{Disk, MemDisk};
 use lift_policy::{Etd, Policy};
-use lift_relay::{Gate, RunFault};
+use lift_relay::{NoWitness, RunFault};
 use std::alloc::Global;
 use std::process::Abort;
 use std::sync::Wait;
@@ -119,18 +120,6 @@ fn turns<'d, 'b, D: Disk, P: Policy + Drop>(
     clerk
 }
 
-/// Goes on until both kiosks have ended, as each does after its last look.
-#[derive(Drop)]
-struct UntilBothEnd<'a> {
-    heard: &'a AtomicU64,
-}
-
-impl<'a> Gate for UntilBothEnd<'a> {
-    fn go_on(&self) -> bool {
-        self.heard.load(Ordering::SeqCst) < 2
-    }
-}
-
 /// Runs both parts until both kiosks have ended.
 fn runs<'a, R, D, P>(
     rt: &R,
@@ -144,7 +133,7 @@ where
     ensures { result.0.allocator.desk ≡ relay.entry.allocator.desk }
 {
     let mut relay = relay;
-    let fault = relay.run(rt, &UntilBothEnd { heard });
+    let (_, fault) = relay.run(rt, &Below::new(heard, 2), NoWitness);
     (relay, fault)
 }
 
@@ -173,7 +162,6 @@ fn begin<'a>(
     building: &'a Building,
 ) -> (Seat, Seat, Clerk<'a, 'a, MemDisk, Etd>)
     requires seats { AreSeatsOf desk.now seats.items }
-    requires count { vec_len seats ≡ 19 }
     requires clerk { IsClerkOf desk.now seat }
     requires owes { OwesNothing seat }
     ensures first { IsSeatOf desk.now result.0 }
@@ -184,7 +172,8 @@ fn begin<'a>(
     let disk = formatted(rt, alloc, building);
     let clerk = clerk_of(rt, desk, seat, disk, building, Etd);
     let clerk = placed(clerk, &mut terminals);
-    let (_car, first, second) = terminals.into_seats();
+    let first = terminals.take_last(rt);
+    let second = terminals.take_last(rt);
     (first, second, clerk)
 }
 

@@ -1,17 +1,19 @@
 //! Both parts on two threads: the disk holds the first sync of the first batch until the policy was
 //! asked for the second batch, or it fails, and the parts go on.
 use crate::groups::{call, formatted, group, place};
+use crate::relay::gates::Below;
 use crate::relays::Relay;
 use crate::terminals::{Terminals, Who, clerk_of, open};
 use lift_base::{Dir, Letter, Reply};
 use lift_building::Building;
+use lift_clerk::Clerk;
 use lift_cost::NewCall;
 use lift_desk::DeskParts;
 use lift_disk::{Disk, DiskFault, FlakyDisk, MemDisk};
 use lift_journal::JournalFault;
 use lift_keeper::KeeperFault;
 use lift_policy::{Eligible, Etd, Policy, View};
-use lift_relay::{Gate, RunFault};
+use lift_relay::{NoWitness, RunFault};
 use std::process::Abort;
 use std::sync::Wait;
 use std::sync::atomic::{AtomicU64, Ordering};
@@ -136,44 +138,6 @@ impl<'a> Disk for Holding<'a> {
     }
 }
 
-/// Goes on until it is closed, and keeps how far it was told that both parts are.
-#[derive(Drop)]
-struct Open<'a> {
-    closed: &'a AtomicU64,
-    sent: AtomicU64,
-    flushed: AtomicU64,
-}
-
-impl<'a> Open<'a> {
-    fn new(closed: &'a AtomicU64) -> Self {
-        Open {
-            closed,
-            sent: AtomicU64::new(0),
-            flushed: AtomicU64::new(0),
-        }
-    }
-
-    /// Whether it was last told of this many batches, sent and flushed.
-    fn was_told_of(&self, batches: u64) -> bool {
-        self.sent.load(Ordering::SeqCst) == batches
-            && self.flushed.load(Ordering::SeqCst) == batches
-    }
-}
-
-impl<'a> Gate for Open<'a> {
-    fn go_on(&self) -> bool {
-        self.closed.load(Ordering::SeqCst) == 0
-    }
-
-    fn has_sent<R: Wait>(&self, _rt: &R, count: u64) {
-        self.sent.store(count, Ordering::SeqCst);
-    }
-
-    fn has_flushed<R: Wait>(&self, _rt: &R, count: u64) {
-        self.flushed.store(count, Ordering::SeqCst);
-    }
-}
-
 /// The second kiosk asks once the policy was asked for the call of the first. Its terminal is the
 /// lower one, so that the scan which asked the policy is past it: its call is of another batch.
 /// Both hear, and the gate is closed.
@@ -207,11 +171,19 @@ fn run_beside_kiosks<R: Threads + Wait + Abort + Sync>(
     relay: &mut Relay<'_, Holding<'_>, Counting<'_>>,
     shared: &Shared,
 ) {
-    let gate = Open::new(&shared.closed);
-    let (heard, fault) = thread::join(rt, || kiosks(terminals, shared), || relay.run(rt, &gate));
+    let gate = Below::new(&shared.closed, 1);
+    let (heard, (_, fault)) = thread::join(
+        rt,
+        || kiosks(terminals, shared),
+        || relay.run(rt, &gate, NoWitness),
+    );
     assert!(rt; fault.is_none() && shared.held.load(Ordering::SeqCst) == 1);
     assert!(rt; relay.has_moved(3, 3) && gate.was_told_of(3));
     assert!(rt; matches!(heard, (Some(Reply::Car(_)), Some(Reply::Car(_)))));
+}
+
+fn open_count<D: Disk, P: Policy + Drop>(clerk: &Clerk<D, P>) -> u32 {
+    clerk.keeper().register().open_count()
 }
 
 #[test]
@@ -225,11 +197,12 @@ fn second_batch_is_decided_while_the_first_is_synced(rt: HostRuntime) {
         shared: &shared,
     };
     let policy = Counting { shared: &shared };
-    let mut relay = Relay::begin(&rt, rt.alloc(), &desk, clerk, disk, &building, policy);
+    let clerk = clerk_of(&rt, &desk, clerk, disk, &building, policy);
+    let mut relay = Relay::of(&rt, rt.alloc(), clerk);
     placed(&rt, &mut terminals, &mut relay);
     shared.armed.store(1, Ordering::SeqCst);
     run_beside_kiosks(&rt, terminals, &mut relay, &shared);
-    assert!(rt; relay.open_calls() == Some(2));
+    assert!(rt; open_count(&relay.joined(&rt)) == 2);
 }
 
 /// Three calls, each once the one before it was answered, and the gate is closed. Whether each was
@@ -253,11 +226,11 @@ fn run_beside_calls<R: Threads + Wait + Abort + Sync>(
     relay: &mut Relay<'_, FlakyDisk, Etd>,
 ) {
     let closed = AtomicU64::new(0);
-    let gate = Open::new(&closed);
-    let (heard, fault) = thread::join(
+    let gate = Below::new(&closed, 1);
+    let (heard, (_, fault)) = thread::join(
         rt,
         || are_unknown(terminals, &closed),
-        || relay.run(rt, &gate),
+        || relay.run(rt, &gate, NoWitness),
     );
     let failed = KeeperFault::Journal(JournalFault::Disk);
     assert!(rt; heard && fault == Some(RunFault::Keeper(failed)));

@@ -1,19 +1,16 @@
 //! Both parts turned by one thread, and drained.
-ghost use Rattle.lift_desk.specs.Seats.{IsClerkOf, OwesNothing};
-
 use crate::groups::{call, car, formatted, group, kiosk, place};
-use crate::relay::devices::CountingDisk;
+use crate::relay::gates::Below;
 use crate::relays::Relay;
 use crate::terminals::{Terminals, Who, clerk_of, open};
 use lift_base::{Body, Dir, Reply};
-use lift_building::Building;
 use lift_clerk::{Clerk, Counts};
-use lift_desk::{ClerkSeat, Desk, DeskParts};
+use lift_desk::DeskParts;
 use lift_disk::{Disk, FlakyDisk};
 use lift_journal::JournalFault;
 use lift_keeper::KeeperFault;
 use lift_policy::Etd;
-use lift_relay::{Failed, FlushCounts, Gate, RunFault, Witness};
+use lift_relay::{Failed, FlushCounts, RunFault, Witness};
 use std::alloc::Global;
 use std::process::Abort;
 use std::sync::Wait;
@@ -34,77 +31,77 @@ const FAILED: KeeperFault = KeeperFault::Journal(JournalFault::Disk);
 
 const BROKEN: KeeperFault = KeeperFault::Journal(JournalFault::Broken);
 
-const UNKNOWN: Option<Reply> = Some(Reply::Unknown);
+/// How five batches that were sent come through.
+#[derive(Clone, Copy)]
+enum Course {
+    /// By turns of the flusher.
+    Turns,
+    /// By a run through a gate that is closed.
+    Run,
+    /// The same, behind a telling.
+    Told,
+    /// By a run whose gate is open until its witness is told that the device failed.
+    Watched,
+}
 
-/// What the kiosks hear.
-type Heard = (Option<Reply>, Option<Reply>, Option<Reply>);
+/// What becomes of five batches over a device that fails one call, or none by 0.
+#[derive(Clone, Copy)]
+struct Drain {
+    failing_call: u32,
+    /// Which batch that call is of, counted from 0; 5 where none fails.
+    failed: u8,
+    /// How many of the kiosks' calls are in at the end.
+    calls: u8,
+    course: Course,
+}
+
+const fn row(failing_call: u32, failed: u8, calls: u8, course: Course) -> Drain {
+    Drain {
+        failing_call,
+        failed,
+        calls,
+        course,
+    }
+}
 
 fn counts(taken: usize, accepted: usize) -> Counts {
     Counts { taken, accepted }
 }
 
-/// Lets nobody go on.
-#[derive(Drop)]
-struct Closed;
-
-impl Gate for Closed {
-    fn go_on(&self) -> bool {
-        false
+/// The batches, of one command each: places and three calls.
+fn command(batch: u8) -> (Who, u32, Body) {
+    match batch {
+        0 => (Who::CarA, 0, place(0, Dir::Up)),
+        1 => (Who::CarB, 0, place(9, Dir::Down)),
+        2 => (Who::Kiosk0, 1, call(5)),
+        3 => (Who::Kiosk1, 1, call(2)),
+        _ => (Who::Kiosk2, 1, call(9)),
     }
 }
 
-/// Who asks, with which number and body, and what the allocator's turn comes to.
-type Ask = (Who, u32, Body, Counts);
-
-/// An ask that the allocator takes.
+/// A batch that the allocator takes.
 fn takes<R: Wait + Abort, D: Disk + Drop>(
     rt: &R,
     terminals: &mut Terminals,
     relay: &mut Relay<'_, D, Etd>,
-    ask: Ask,
+    batch: u8,
 ) {
-    let (who, told, body, expected) = ask;
+    let (who, told, body) = command(batch);
     assert!(rt; terminals.ask(who, told, body));
-    assert!(rt; relay.allocate(rt) == expected);
+    assert!(rt; relay.allocate(rt) == counts(1, usize::from(batch >= 2)));
 }
 
-/// Places and three calls, a batch each. The line has no room for the fifth, and then nothing is
-/// taken.
+/// Five batches. The line has no room for the fifth, and then nothing is taken.
 fn five_batches<R: Wait + Abort, D: Disk + Drop>(
     rt: &R,
     terminals: &mut Terminals,
     relay: &mut Relay<'_, D, Etd>,
 ) {
-    let ask = (Who::CarA, 0, place(0, Dir::Up), counts(1, 0));
-    takes(rt, terminals, relay, ask);
-    let ask = (Who::CarB, 0, place(9, Dir::Down), counts(1, 0));
-    takes(rt, terminals, relay, ask);
-    let ask = (Who::Kiosk0, 1, call(5), counts(1, 1));
-    takes(rt, terminals, relay, ask);
-    let ask = (Who::Kiosk1, 1, call(2), counts(1, 1));
-    takes(rt, terminals, relay, ask);
-    let ask = (Who::Kiosk2, 1, call(9), counts(1, 1));
-    takes(rt, terminals, relay, ask);
+    for batch in 0..5u8 {
+        takes(rt, terminals, relay, batch);
+    }
     assert!(rt; relay.has_batch_in_hand());
     assert!(rt; relay.allocate(rt) == counts(0, 0) && relay.has_batch_in_hand());
-}
-
-/// The parts of a clerk over a device that fails this call, none where it is 0.
-fn failing<'a>(
-    rt: &impl Abort,
-    alloc: Global,
-    desk: &'a Desk,
-    seat: ClerkSeat,
-    building: &'a Building,
-    call: u32,
-) -> Relay<'a, FlakyDisk, Etd>
-    requires clerk { IsClerkOf desk.now seat }
-    requires owes { OwesNothing seat }
-{
-    let disk = FlakyDisk::new(formatted(rt, alloc, building));
-    let mut clerk = clerk_of(rt, desk, seat, disk, building, Etd);
-    clerk.arm(call);
-    Relay::of(rt, alloc, clerk)
 }
 
 /// The line has room again for the batch in hand, and nothing is taken.
@@ -113,80 +110,150 @@ fn sends_the_fifth<R: Wait + Abort, D: Disk + Drop>(rt: &R, relay: &mut Relay<'_
     assert!(rt; relay.has_moved(5, 1));
 }
 
-/// Whether these are the numbers of the kiosks' last calls, and one call is open.
-fn shows<D: Disk>(clerk: &Clerk<D, Etd>, numbers: (u32, u32, u32)) -> bool {
-    let register = clerk.keeper().register();
-    register.last_number(kiosk(0)) == numbers.0
-        && register.last_number(kiosk(1)) == numbers.1
-        && register.last_number(kiosk(2)) == numbers.2
-        && register.open_count() == 1
+/// What the flusher's turn for a batch comes to where this one fails.
+fn comes_to(batch: u8, failed: u8) -> Result<FlushCounts, KeeperFault> {
+    if batch < failed {
+        ONE
+    } else if batch == failed {
+        Err(FAILED)
+    } else {
+        Err(BROKEN)
+    }
 }
 
-/// Whether a broken clerk is reopened.
-fn is_reopened<D: Disk>(clerk: &mut Clerk<D, Etd>) -> bool {
-    clerk.keeper().is_broken() && clerk.reopen() == Ok(())
-}
-
-/// Whether the kiosks hear this.
-fn hear(terminals: &mut Terminals, heard: Heard) -> bool {
-    terminals.hear(Who::Kiosk0) == heard.0
-        && terminals.hear(Who::Kiosk1) == heard.1
-        && terminals.hear(Who::Kiosk2) == heard.2
-}
-
-/// Five turns of the flusher, a batch each, of which the first is no call of the device.
+/// Five turns of the flusher.
 fn flushes_five<R: Wait + Abort, D: Disk + Drop>(
     rt: &R,
     relay: &mut Relay<'_, D, Etd>,
-    calls: &AtomicU64,
+    failed: u8,
 ) {
-    let begun = calls.load(Ordering::SeqCst);
-    assert!(rt; relay.flush(rt) == ONE && calls.load(Ordering::SeqCst) == begun);
-    sends_the_fifth(rt, relay);
-    for _ in 0..4u8 {
-        assert!(rt; relay.flush(rt) == ONE);
+    for batch in 0..5u8 {
+        assert!(rt; relay.flush(rt) == comes_to(batch, failed));
+        if batch == 0 {
+            sends_the_fifth(rt, relay);
+        }
     }
-    assert!(rt; calls.load(Ordering::SeqCst).saturating_sub(begun) == 15);
+}
+
+/// Counts how often it is told of one.
+#[derive(Drop)]
+struct Counter<'a> {
+    told: &'a AtomicU64,
+}
+
+impl<'a> Witness for Counter<'a> {
+    fn has_failed(&mut self, _failed: Failed) {
+        self.told.fetch_add(1, Ordering::SeqCst);
+    }
+}
+
+/// What a run comes to, and how often its witness was told that the device failed. Its gate is open
+/// while that is less often than this.
+fn runs<R: Threads + Wait + Abort + Sync, D: Disk + Drop>(
+    rt: &R,
+    relay: &mut Relay<'_, D, Etd>,
+    limit: u64,
+) -> (Option<RunFault>, u64) {
+    let told = AtomicU64::new(0);
+    let gate = Below::new(&told, limit);
+    let (_, fault) = relay.run(rt, &gate, Counter { told: &told });
+    (fault, told.load(Ordering::SeqCst))
+}
+
+/// All five batches are sent and received in a run, which tells the first fault.
+fn runs_out<R: Threads + Wait + Abort + Sync, D: Disk + Drop>(
+    rt: &R,
+    relay: &mut Relay<'_, D, Etd>,
+    limit: u64,
+    has_failed: bool,
+) {
+    let (fault, told) = runs(rt, relay, limit);
+    let expected = if has_failed {
+        Some(RunFault::Keeper(FAILED))
+    } else {
+        None
+    };
+    assert!(rt; fault == expected && told == u64::from(has_failed));
+    assert!(rt; relay.has_moved(5, 5) && !relay.has_batch_in_hand());
+}
+
+fn goes_through<R: Threads + Wait + Abort + Sync, D: Disk + Drop>(
+    rt: &R,
+    relay: &mut Relay<'_, D, Etd>,
+    drain: &Drain,
+) {
+    let has_failed = drain.failed < 5;
+    match drain.course {
+        Course::Turns => flushes_five(rt, relay, drain.failed),
+        Course::Run => runs_out(rt, relay, 0, has_failed),
+        Course::Told => {
+            relay.tell();
+            runs_out(rt, relay, 0, has_failed);
+        }
+        Course::Watched => runs_out(rt, relay, 1, has_failed),
+    }
+}
+
+/// Whether the kiosks hear a letter each of the batches before this one, and Unknown else.
+fn hear(terminals: &mut Terminals, failed: u8) -> bool {
+    let unknown = Some(Reply::Unknown);
+    terminals.hear(Who::Kiosk0) == if failed > 2 { car(0) } else { unknown }
+        && terminals.hear(Who::Kiosk1) == if failed > 3 { car(1) } else { unknown }
+        && terminals.hear(Who::Kiosk2) == if failed > 4 { car(0) } else { unknown }
+}
+
+/// Whether these are the kiosks' calls that are in.
+fn shows<D: Disk>(clerk: &Clerk<D, Etd>, calls: u8) -> bool {
+    let register = clerk.keeper().register();
+    register.last_number(kiosk(0)) == u32::from(calls > 0)
+        && register.last_number(kiosk(1)) == u32::from(calls > 1)
+        && register.last_number(kiosk(2)) == u32::from(calls > 2)
+        && register.open_count() == u32::from(calls)
+}
+
+/// Whether a clerk is broken, and is reopened, or isn't.
+fn is_whole<D: Disk>(clerk: &mut Clerk<D, Etd>, was_broken: bool) -> bool {
+    clerk.keeper().is_broken() == was_broken && (!was_broken || clerk.reopen() == Ok(()))
+}
+
+/// The parts of a clerk that both cars and three kiosks ask, after all of it was answered.
+fn drains<R: Threads + Wait + Abort + Sync>(rt: &R, alloc: Global, drain: &Drain) {
+    let building = group(rt, alloc);
+    let DeskParts { desk, seats, clerk } = open(rt, alloc);
+    let mut terminals = Terminals::of(&desk, seats);
+    let disk = FlakyDisk::new(formatted(rt, alloc, &building));
+    let mut clerk = clerk_of(rt, &desk, clerk, disk, &building, Etd);
+    clerk.arm(drain.failing_call);
+    let mut relay = Relay::of(rt, alloc, clerk);
+    five_batches(rt, &mut terminals, &mut relay);
+    goes_through(rt, &mut relay, drain);
+    assert!(rt; hear(&mut terminals, drain.failed));
+    let mut clerk = relay.joined(rt);
+    assert!(rt; is_whole(&mut clerk, drain.failed < 5) && shows(&clerk, drain.calls));
 }
 
 /// Five batches wait, the fifth in hand until the flusher has received one. A batch without entries
-/// is no call of the device, and each of the three calls is five.
+/// is no call of the device, and each of the three calls is five. What was safe is answered, and all
+/// batches behind a fault are Unknown. A run through a gate that is closed turns nothing, and drains
+/// what is in hand and in the line; what the parts tell each other before it changes nothing. After a
+/// fault it goes on, tells the first one, and its witness is told of that once, and at once.
 #[test]
-fn four_are_queued_and_one_is_in_hand(rt: HostRuntime) {
-    let building = group(&rt, rt.alloc());
-    let DeskParts { desk, seats, clerk } = open(&rt, rt.alloc());
-    let mut terminals = Terminals::of(&desk, seats);
-    let calls = AtomicU64::new(0);
-    let disk = CountingDisk::new(formatted(&rt, rt.alloc(), &building), &calls);
-    let mut relay = Relay::begin(&rt, rt.alloc(), &desk, clerk, disk, &building, Etd);
-    five_batches(&rt, &mut terminals, &mut relay);
-    flushes_five(&rt, &mut relay, &calls);
-    assert!(rt; hear(&mut terminals, (car(0), car(1), car(0))));
-    assert!(rt; relay.open_calls() == Some(3));
-}
-
-/// Five turns of the flusher, whose fourth meets the fault.
-fn fails_at_the_fourth<R: Wait + Abort, D: Disk + Drop>(rt: &R, relay: &mut Relay<'_, D, Etd>) {
-    assert!(rt; relay.flush(rt) == ONE);
-    sends_the_fifth(rt, relay);
-    for expected in [ONE, ONE, Err(FAILED), Err(BROKEN)] {
-        assert!(rt; relay.flush(rt) == expected);
+fn five_batches_come_through(rt: HostRuntime) {
+    for drain in [
+        row(0, 5, 3, Course::Turns),
+        row(1, 2, 0, Course::Turns),
+        row(5, 2, 1, Course::Turns),
+        row(6, 3, 1, Course::Turns),
+        row(10, 3, 2, Course::Turns),
+        row(11, 4, 2, Course::Turns),
+        row(15, 4, 3, Course::Turns),
+        row(16, 5, 3, Course::Turns),
+        row(0, 5, 3, Course::Told),
+        row(6, 3, 1, Course::Run),
+        row(6, 3, 1, Course::Watched),
+    ] {
+        drains(&rt, rt.alloc(), &drain);
     }
-}
-
-/// The same over a device whose sixth call fails: what was safe is answered, all later batches
-/// Unknown, and only the first call is in.
-#[test]
-fn a_fault_between(rt: HostRuntime) {
-    let building = group(&rt, rt.alloc());
-    let DeskParts { desk, seats, clerk } = open(&rt, rt.alloc());
-    let mut terminals = Terminals::of(&desk, seats);
-    let mut relay = failing(&rt, rt.alloc(), &desk, clerk, &building, 6);
-    five_batches(&rt, &mut terminals, &mut relay);
-    fails_at_the_fourth(&rt, &mut relay);
-    assert!(rt; hear(&mut terminals, (car(0), UNKNOWN, UNKNOWN)));
-    let mut clerk = relay.joined(&rt);
-    assert!(rt; is_reopened(&mut clerk) && shows(&clerk, (1, 0, 0)));
 }
 
 /// With a batch in the line, and none in hand, both parts come back.
@@ -211,106 +278,10 @@ fn a_batch_in_the_line_keeps_the_parts_apart(rt: HostRuntime) {
     let DeskParts { desk, seats, clerk } = open(&rt, rt.alloc());
     let mut terminals = Terminals::of(&desk, seats);
     let disk = formatted(&rt, rt.alloc(), &building);
-    let relay = Relay::begin(&rt, rt.alloc(), &desk, clerk, disk, &building, Etd);
+    let clerk = clerk_of(&rt, &desk, clerk, disk, &building, Etd);
+    let relay = Relay::of(&rt, rt.alloc(), clerk);
     let mut relay = are_handed_back(&rt, &mut terminals, relay);
     assert!(rt; relay.flush(&rt) == ONE && relay.flush(&rt) == NONE);
     assert!(rt; terminals.hear(Who::CarA) == Some(Reply::Placed(None)));
-    assert!(rt; relay.open_calls() == Some(0));
-}
-
-/// What a run through a closed gate comes to, over a device that fails one call, or none by 0.
-#[derive(Drop)]
-struct Drain {
-    failing_call: u32,
-    /// Whether the parts tell each other before it.
-    tells: bool,
-    fault: Option<RunFault>,
-    answers: Heard,
-}
-
-/// All five batches are sent and received.
-fn runs_out<R: Threads + Wait + Abort + Sync>(
-    rt: &R,
-    relay: &mut Relay<'_, FlakyDisk, Etd>,
-    fault: Option<RunFault>,
-) {
-    assert!(rt; relay.run(rt, &Closed) == fault);
-    assert!(rt; relay.has_moved(5, 5) && !relay.has_batch_in_hand());
-}
-
-/// Drains five batches. Without a fault all calls are in; with one the parts join too.
-fn drains<R: Threads + Wait + Abort + Sync>(rt: &R, alloc: Global, drain: Drain) {
-    let building = group(rt, alloc);
-    let DeskParts { desk, seats, clerk } = open(rt, alloc);
-    let mut terminals = Terminals::of(&desk, seats);
-    let mut relay = failing(rt, alloc, &desk, clerk, &building, drain.failing_call);
-    five_batches(rt, &mut terminals, &mut relay);
-    if drain.tells {
-        relay.tell();
-    }
-    runs_out(rt, &mut relay, drain.fault);
-    assert!(rt; hear(&mut terminals, drain.answers));
-    let open_calls = relay.open_calls();
-    assert!(rt; open_calls == Some(3) || (drain.fault.is_some() && open_calls.is_some()));
-}
-
-/// A run through a gate that is closed turns nothing, and drains what is in hand and in the line.
-/// What the parts tell each other before it changes nothing. After a fault it goes on, and tells
-/// the first one.
-#[test]
-fn a_closed_gate_drains(rt: HostRuntime) {
-    let whole = Drain {
-        failing_call: 0,
-        tells: true,
-        fault: None,
-        answers: (car(0), car(1), car(0)),
-    };
-    let failing = Drain {
-        failing_call: 6,
-        tells: false,
-        fault: Some(RunFault::Keeper(FAILED)),
-        answers: (car(0), UNKNOWN, UNKNOWN),
-    };
-    drains(&rt, rt.alloc(), whole);
-    drains(&rt, rt.alloc(), failing);
-}
-
-/// Counts how often it is told of one.
-#[derive(Drop)]
-struct Counter<'a> {
-    told: &'a AtomicU64,
-}
-
-impl<'a> Witness for Counter<'a> {
-    fn has_failed(&mut self, _failed: Failed) {
-        self.told.fetch_add(1, Ordering::SeqCst);
-    }
-}
-
-/// Goes on until a fault is told.
-#[derive(Drop)]
-struct UntilTold<'a> {
-    told: &'a AtomicU64,
-}
-
-impl<'a> Gate for UntilTold<'a> {
-    fn go_on(&self) -> bool {
-        self.told.load(Ordering::SeqCst) == 0
-    }
-}
-
-/// The fourth of five batches fails, and the fifth after it. The witness is told of that once, and
-/// at once: the gate stays open until then.
-#[test]
-fn a_witness_is_told_while_the_run_goes_on(rt: HostRuntime) {
-    let building = group(&rt, rt.alloc());
-    let DeskParts { desk, seats, clerk } = open(&rt, rt.alloc());
-    let mut terminals = Terminals::of(&desk, seats);
-    let mut relay = failing(&rt, rt.alloc(), &desk, clerk, &building, 6);
-    five_batches(&rt, &mut terminals, &mut relay);
-    let told = AtomicU64::new(0);
-    let gate = UntilTold { told: &told };
-    let (_, fault) = relay.run_before(&rt, &gate, Counter { told: &told });
-    assert!(rt; fault == Some(RunFault::Keeper(FAILED)) && told.load(Ordering::SeqCst) == 1);
-    assert!(rt; relay.has_moved(5, 5));
+    assert!(rt; shows(&relay.joined(&rt), 0));
 }

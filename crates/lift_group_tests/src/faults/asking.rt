@@ -1,0 +1,102 @@
+//! What car A and the kiosks ask, and what they hear.
+use crate::faults::case::{Case, counts};
+use crate::faults::tally::Tally;
+use crate::groups::{call, car, floor, place};
+use crate::terminals::{Terminals, Who};
+use lift_base::{Body, Dir, Reply, Stop};
+use lift_clerk::{Clerk, Counts};
+use lift_disk::Disk;
+use lift_keeper::KeeperFault;
+use lift_policy::Etd;
+
+/// Car A stands at floor 0, going up.
+pub(crate) fn stand() -> Body {
+    place(0, Dir::Up)
+}
+
+/// Car A stops at floor 9, where nobody waits, going down.
+pub(crate) fn stop() -> Body {
+    Body::Stop(floor(9), Dir::Down)
+}
+
+/// Where car A stops next: where kiosk 0's passenger waits.
+pub(crate) fn next_stop() -> Option<Stop> {
+    Some(Stop {
+        floor: floor(0),
+        dir: Dir::Up,
+    })
+}
+
+pub(crate) fn turn<D: Disk>(clerk: &mut Clerk<D, Etd>) -> Result<Counts, KeeperFault> {
+    clerk.turn()
+}
+
+/// A terminal asks, and the clerk turns: what it hears.
+pub(crate) fn asks<D: Disk>(
+    group: &mut Terminals,
+    clerk: &mut Clerk<D, Etd>,
+    who: Who,
+    told: u32,
+    body: Body,
+) -> Option<Reply> {
+    let _stored = group.ask(who, told, body);
+    let _turned = turn(clerk);
+    group.hear(who)
+}
+
+/// How many commands a batch of the work has: two calls, a call, a stop.
+pub(crate) fn commands_of(batch: u32) -> usize {
+    if batch == 0 { 2 } else { 1 }
+}
+
+/// The commands of a batch are asked: the first calls of kiosks 1 and 2, the second one of kiosk 0,
+/// a stop of car A.
+pub(crate) fn ask(group: &mut Terminals, batch: u32, stops: u32) -> bool {
+    match batch {
+        0 => group.ask(Who::Kiosk1, 1, call(8)) && group.ask(Who::Kiosk2, 1, call(9)),
+        1 => group.ask(Who::Kiosk0, 2, call(8)),
+        _ => group.ask(Who::CarA, stops.wrapping_add(1), stop()),
+    }
+}
+
+/// What they hear of it.
+pub(crate) fn hear(tally: &mut Tally, group: &mut Terminals, case: &Case, batch: u32) {
+    let letter = case.answer(batch, car(0));
+    match batch {
+        0 => {
+            tally.want(group.hear(Who::Kiosk1) == letter);
+            tally.want(group.hear(Who::Kiosk2) == letter);
+        }
+        1 => tally.want(group.hear(Who::Kiosk0) == letter),
+        _ => {
+            let stopped = case.answer(batch, Some(Reply::Stopped(next_stop())));
+            tally.want(group.hear(Who::CarA) == stopped);
+        }
+    }
+}
+
+/// All of them are asked again, and the clerk turns for each. Where no car was placed, a call that
+/// isn't in is refused.
+pub(crate) fn ask_again<D: Disk>(
+    tally: &mut Tally,
+    group: &mut Terminals,
+    clerk: &mut Clerk<D, Etd>,
+    case: &Case,
+    is_placed: bool,
+) {
+    let letter = case.answer_again(0, is_placed);
+    tally.want(asks(group, clerk, Who::Kiosk1, 1, call(8)) == letter);
+    tally.want(asks(group, clerk, Who::Kiosk2, 1, call(9)) == letter);
+    if case.work.batches > 1 {
+        let letter = case.answer_again(1, is_placed);
+        tally.want(asks(group, clerk, Who::Kiosk0, 2, call(8)) == letter);
+        let heard = asks(
+            group,
+            clerk,
+            Who::CarA,
+            case.work.stops.wrapping_add(1),
+            stop(),
+        );
+        tally.want(heard == Some(Reply::Stopped(next_stop())));
+    }
+}
