@@ -2,6 +2,5 @@
 //! how they were called.
 
 mod printed;
-mod reads;
 mod streams;
-mod writes;
+mod texts;

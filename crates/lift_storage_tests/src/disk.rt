@@ -2,9 +2,8 @@
 //! call once.
 
 mod buffered;
-mod calls;
+pub(crate) mod calls;
 mod faults;
-mod files;
-mod memory;
+pub(crate) mod files;
 mod noted;
-mod pieces;
+mod notes;

@@ -2,11 +2,10 @@
 //! recoveries that are stopped. Images, whole and damaged, are data, tried by `tools/try/images`.
 
 mod calls;
-mod cuts;
 pub(crate) mod listing;
 mod noting;
 mod reading;
 mod records;
 mod recovery;
 mod registers;
-mod sectors;
+pub(crate) mod sectors;

@@ -3,7 +3,7 @@
 //! tried by `tools/try/images` and `tools/try/cases`; commits that are stopped stand in
 //! `lift_group_tests`.
 
-mod journals;
+mod buildings;
 mod keeping;
 mod recoveries;
 mod replaced;

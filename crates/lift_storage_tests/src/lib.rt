@@ -11,4 +11,6 @@ mod journal;
 #[cfg(test)]
 mod keeper;
 #[cfg(test)]
+mod plain;
+#[cfg(test)]
 mod record;

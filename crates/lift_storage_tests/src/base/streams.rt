@@ -1,143 +1,103 @@
 //! Streams that count their calls, move a piece at each, and stop at one of them.
-use std::alloc::{AllocError, Global};
 use std::cell::Cell;
+use std::io;
 use std::io::{ErrorKind, Read, Write};
-use std::{fmt, io};
 
 /// How the calls of a stream, counted from 0, go.
 #[derive(Clone, Copy)]
-pub struct Course {
+pub(crate) struct Course {
     /// The most bytes that a call moves, 1 at least.
-    pub piece: usize,
+    pub(crate) piece: usize,
     /// The call that stops.
-    pub stop: usize,
+    pub(crate) stop: usize,
     /// How it fails; where there is none, it moves nothing.
-    pub fault: Option<ErrorKind>,
+    pub(crate) fault: Option<ErrorKind>,
     /// Whether the calls after it stop too.
-    pub stays: bool,
+    pub(crate) stays: bool,
 }
 
 impl Course {
-    /// Whether this call stops.
-    pub(crate) fn stops(&self, call: usize) -> bool {
-        call == self.stop || self.stays && call > self.stop
-    }
-
-    /// How many of this many bytes the next call moves. It is counted.
-    fn turn(&self, calls: &Cell<usize>, length: usize) -> io::Result<usize> {
-        let call = calls.get();
-        calls.set(call.saturating_add(1));
+    /// How many of this many bytes a call moves.
+    pub(crate) fn moves(&self, call: usize, length: usize) -> Result<usize, ErrorKind> {
+        let is_stopped = call == self.stop || self.stays && call > self.stop;
         match self.fault {
-            Some(fault) if self.stops(call) => Err(io::Error::from(fault)),
-            None if self.stops(call) => Ok(0),
+            Some(fault) if is_stopped => Err(fault),
+            None if is_stopped => Ok(0),
             _ => Ok(self.piece.min(length)),
         }
     }
 }
 
-/// Gives a text, and then its end.
+/// A text that is moved by calls that are counted.
 #[derive(Drop)]
-pub struct Source<'t> {
-    pub rest: &'t [u8],
-    pub course: Course,
-    pub calls: &'t Cell<usize>,
+pub(crate) struct Stream<'t> {
+    pub(crate) text: &'t [u8],
+    pub(crate) course: Course,
+    /// Where in the text the next call moves bytes.
+    pub(crate) place: Cell<usize>,
+    pub(crate) calls: Cell<usize>,
 }
 
-impl Read for Source<'_> {
+impl<'t> Stream<'t> {
+    pub(crate) fn new(text: &'t [u8], course: Course) -> Stream<'t> {
+        Stream {
+            text,
+            course,
+            place: Cell::new(0),
+            calls: Cell::new(0),
+        }
+    }
+
+    /// How many of this many bytes the next call moves. It is counted.
+    fn turn(&self, length: usize) -> io::Result<usize> {
+        let call = self.calls.get();
+        self.calls.set(call.saturating_add(1));
+        match self.course.moves(call, length) {
+            Ok(count) => Ok(count.min(length)),
+            Err(fault) => Err(io::Error::from(fault)),
+        }
+    }
+
+    /// Whether so much was moved by so many calls.
+    pub(crate) fn is_at(&self, place: usize, calls: usize) -> bool {
+        (self.place.get() == place) & (self.calls.get() == calls)
+    }
+}
+
+/// Gives the text and then its end, or takes it.
+#[derive(Drop)]
+pub(crate) struct Side<'s> {
+    pub(crate) stream: &'s Stream<'s>,
+}
+
+impl Read for Side<'_> {
     fn read(&mut self, buf: &mut [u8]) -> io::Result<usize> {
-        let length = buf.len().min(self.rest.len());
-        let count = self.course.turn(self.calls, length)?.min(length);
-        buf[..count].copy_from_slice(&self.rest[..count]);
-        self.rest = &self.rest[count..];
+        let place = self.stream.place.get();
+        let rest = self.stream.text.get(place..).unwrap_or_default();
+        let length = buf.len().min(rest.len());
+        let count = self.stream.turn(length)?.min(length);
+        buf[..count].copy_from_slice(&rest[..count]);
+        self.stream.place.set(place.saturating_add(count));
         Ok(count)
     }
 }
 
-/// Keeps what it takes.
-#[derive(Drop)]
-pub struct Target<'t> {
-    pub taken: Vec<u8>,
-    pub course: Course,
-    pub calls: &'t Cell<usize>,
-}
-
-impl Write for Target<'_> {
+impl Write for Side<'_> {
+    /// What isn't the text's leads to no place in it.
     fn write(&mut self, buf: &[u8]) -> io::Result<usize> {
-        let count = self.course.turn(self.calls, buf.len())?.min(buf.len());
-        match self.taken.extend_from_slice(&buf[..count]) {
-            Ok(()) => Ok(count),
-            Err(_) => Err(io::Error::from(ErrorKind::OutOfMemory)),
-        }
+        let count = self.stream.turn(buf.len())?.min(buf.len());
+        let place = self.stream.place.get();
+        let end = place.saturating_add(count);
+        let is_text = buf.get(..count) == self.stream.text.get(place..end);
+        self.stream
+            .place
+            .set(if is_text { end } else { usize::MAX });
+        Ok(count)
     }
 
     /// A call like any other.
     fn flush(&mut self) -> io::Result<()> {
-        self.course.turn(self.calls, 0)?;
+        self.stream.turn(0)?;
         Ok(())
     }
-}
-
-/// Keeps the text that it takes. One call fails.
-#[derive(Drop)]
-pub struct Page {
-    pub taken: String,
-    pub calls: usize,
-    pub stop: usize,
-}
-
-impl fmt::Write for Page {
-    fn write_str(&mut self, s: &str) -> fmt::Result {
-        let call = self.calls;
-        self.calls = call.saturating_add(1);
-        if call == self.stop {
-            return Err(fmt::Error);
-        }
-        self.taken.push_str(s)?;
-        Ok(())
-    }
-}
-
-/// A course on which no call stops but this one.
-pub(crate) fn stopped_once(piece: usize, stop: usize) -> Course {
-    let fault = Some(ErrorKind::TimedOut);
-    let stays = false;
-    Course {
-        piece,
-        stop,
-        fault,
-        stays,
-    }
-}
-
-/// Each of the first 36 calls stops, in each way.
-pub(crate) fn courses(alloc: Global, piece: usize) -> Result<Vec<Course>, AllocError> {
-    let mut courses = Vec::new(alloc);
-    let (late, broken, busy) = (
-        ErrorKind::TimedOut,
-        ErrorKind::Interrupted,
-        ErrorKind::WouldBlock,
-    );
-    for fault in [None, Some(late), Some(broken), Some(busy)] {
-        for stop in 0..36usize {
-            for stays in [false, true] {
-                let course = Course {
-                    piece,
-                    stop,
-                    fault,
-                    stays,
-                };
-                courses.push(course)?;
-            }
-        }
-    }
-    Ok(courses)
-}
-
-/// A mebibyte, the numbers 0 to 250 again and again.
-pub(crate) fn long_text(alloc: Global) -> Result<Vec<u8>, AllocError> {
-    let mut text = Vec::new(alloc);
-    for place in 0..1_048_576u32 {
-        text.push((place % 251) as u8)?;
-    }
-    Ok(text)
 }

@@ -1,8 +1,9 @@
-//! Calls of a device whose sectors each hold one byte over and over.
-use lift_disk::Disk;
+//! Calls of a device.
+use lift_disk::{Disk, MemDisk};
+use std::process::Abort;
 
-/// A call, and what has to come of it.
-#[derive(Clone, Copy, Drop)]
+/// A call of a device whose sectors each hold one byte over and over, and what has to come of it.
+#[derive(Clone, Copy)]
 pub(crate) enum Call {
     /// A write of a sector, which succeeds.
     Put(u32, u8),
@@ -10,100 +11,77 @@ pub(crate) enum Call {
     PutFails(u32, u8),
     /// A read of a sector, which brings this byte.
     Get(u32, u8),
-    /// A read of a sector, which fails.
+    /// A read of a sector, which fails, or isn't made since there is none.
     GetFails(u32),
     Sync,
     SyncFails,
 }
 
 impl Call {
-    pub(crate) fn fails(&self) -> bool {
-        matches!(
-            self,
-            Call::PutFails(_, _) | Call::GetFails(_) | Call::SyncFails
-        )
-    }
-
     /// Whether the call comes to that.
     pub(crate) fn comes<D: Disk>(&self, disk: &mut D) -> bool {
         match *self {
-            Call::Put(sector, byte) => put(disk, sector, byte),
-            Call::PutFails(sector, byte) => !put(disk, sector, byte),
-            Call::Get(sector, byte) => get(disk, sector) == Some(byte),
-            Call::GetFails(sector) => get(disk, sector).is_none(),
-            Call::Sync => sync(disk),
-            Call::SyncFails => !sync(disk),
+            Call::Put(sector, byte) => put(disk, sector, &[byte; 512]),
+            Call::PutFails(sector, byte) => !put(disk, sector, &[byte; 512]),
+            Call::Get(sector, byte) => holds(disk, sector, &[byte; 512]),
+            Call::GetFails(sector) => read(disk, sector).is_none(),
+            Call::Sync => disk.sync().is_ok(),
+            Call::SyncFails => disk.sync().is_err(),
         }
     }
 }
 
 /// Whether each of these calls comes to what it says.
 pub(crate) fn all_come<D: Disk>(disk: &mut D, calls: &[Call]) -> bool {
+    let mut all = true;
     for call in calls {
-        if !call.comes(disk) {
-            return false;
-        }
+        all = call.comes(disk) & all;
     }
-    true
-}
-
-/// Whether a sync has succeeded.
-pub(crate) fn sync<D: Disk>(disk: &mut D) -> bool {
-    disk.sync().is_ok()
+    all
 }
 
 /// Whether a write of a sector that is there has succeeded.
-pub(crate) fn put<D: Disk>(disk: &mut D, sector: u32, byte: u8) -> bool {
-    sector < disk.sectors() && disk.write(sector, &[byte; 512]).is_ok()
+pub(crate) fn put<D: Disk>(disk: &mut D, sector: u32, bytes: &[u8; 512]) -> bool {
+    sector < disk.sectors() && disk.write(sector, bytes).is_ok()
 }
 
-/// The byte that a sector holds, where it is there, is read, and holds one byte alone.
-pub(crate) fn get<D: Disk>(disk: &mut D, sector: u32) -> Option<u8> {
+/// What a sector holds, where it is there and is read.
+fn read<D: Disk>(disk: &mut D, sector: u32) -> Option<[u8; 512]> {
     let mut buffer = [1; 512];
-    if sector >= disk.sectors() || disk.read(sector, &mut buffer).is_err() {
-        return None;
-    }
-    let byte = buffer[511];
-    if buffer == [byte; 512] {
-        Some(byte)
+    if sector < disk.sectors() && disk.read(sector, &mut buffer).is_ok() {
+        Some(buffer)
     } else {
         None
     }
 }
 
-/// Whether the first four sectors hold these bytes.
-pub(crate) fn holds<D: Disk>(disk: &mut D, bytes: [u8; 4]) -> bool {
-    let [first, second, third, fourth] = bytes;
-    get(disk, 0) == Some(first)
-        && get(disk, 1) == Some(second)
-        && get(disk, 2) == Some(third)
-        && get(disk, 3) == Some(fourth)
-}
-
-/// Writes each of the sectors 3 to 20 with its own number. Whether all were written.
-pub(crate) fn put_neighbours<D: Disk>(disk: &mut D) -> bool {
-    for sector in 3..21u8 {
-        if !put(disk, u32::from(sector), sector) {
-            return false;
-        }
-    }
-    true
-}
-
-/// Makes the call of this place: writes, syncs and reads in turn.
-fn make_call<D: Disk>(disk: &mut D, place: u32) -> bool {
-    match place % 3 {
-        0 => put(disk, place % 4, 7),
-        1 => sync(disk),
-        _ => get(disk, 0).is_some(),
+/// Whether the sector is there and holds these bytes.
+pub(crate) fn holds<D: Disk>(disk: &mut D, sector: u32, bytes: &[u8; 512]) -> bool {
+    match read(disk, sector) {
+        Some(found) => found == *bytes,
+        None => false,
     }
 }
 
-/// Makes the calls of the first six places. Which of them succeed.
-pub(crate) fn six_calls<D: Disk>(disk: &mut D) -> [bool; 6] {
-    let mut came = [false; 6];
-    for place in 0..6u32 {
-        came[place as usize] = make_call(disk, place);
+/// Whether these sectors hold these bytes.
+pub(crate) fn hold<D: Disk>(disk: &mut D, sectors: &[u32], bytes: &[u8]) -> bool {
+    let mut all = true;
+    for (sector, byte) in sectors.iter().zip(bytes) {
+        all = holds(disk, *sector, &[*byte; 512]) & all;
     }
-    came
+    all
+}
+
+/// Writes each of these sectors with its own number. Whether all were written.
+pub(crate) fn put_each<D: Disk>(disk: &mut D, from: u8, to: u8) -> bool {
+    let mut all = true;
+    for sector in from..to {
+        all = put(disk, u32::from(sector), &[sector; 512]) & all;
+    }
+    all
+}
+
+/// A device in memory.
+pub(crate) fn memory<R: AllocGlobal + Abort>(rt: &R, sectors: u32) -> MemDisk {
+    MemDisk::new(rt.alloc(), sectors).ok().expect(rt, "memory")
 }

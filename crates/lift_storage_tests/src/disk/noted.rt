@@ -1,195 +1,204 @@
 //! A device on a file that notes how it is called.
-use crate::disk::calls::Call;
-use lift_disk::{Buffered, Disk, HostFile, SectorFile, SystemFile, TracedFile};
-use std::cell::Cell;
-use std::fs::{Metadata, OpenFile};
-use std::io;
-use std::io::ErrorKind;
-use std::os::unix::fs::FileExt;
+use crate::disk::calls::{Call, all_come, holds, put_each};
+use crate::disk::notes::{ALL, NotedFile, Notes, READS, SYNCS, WRITTEN_AT, file};
+use lift_disk::{Buffered, Disk, SectorFile, SystemFile, TracedFile};
+use std::process::Abort;
 
-/// Where the file was read and written last, how often it was synced, and how often what is cached
-/// was dropped after it; how many bytes it was given, its length, and whether it was made safe with
-/// that; how many calls more succeed before one fails.
-#[derive(Drop)]
-struct Notes {
-    read: Cell<u64>,
-    written: Cell<u64>,
-    syncs: Cell<u32>,
-    drops: Cell<u32>,
-    given: Cell<u64>,
-    length: Cell<u64>,
-    safe_length: Cell<u64>,
-    left: Cell<u32>,
-}
+/// Of how many calls of the file one fails, a call of the device, and what the file has noted then.
+type Step = (u32, Call, [u64; 4]);
 
-/// This many calls are never made.
-const ALL: u32 = u32::MAX;
-
-impl Notes {
-    fn new() -> Notes {
-        Notes {
-            read: Cell::new(1),
-            written: Cell::new(1),
-            syncs: Cell::new(0),
-            drops: Cell::new(0),
-            given: Cell::new(0),
-            length: Cell::new(0),
-            safe_length: Cell::new(0),
-            left: Cell::new(ALL),
-        }
-    }
-
-    /// Whether the file was read and written last at these places, synced so often, and what is
-    /// cached was dropped so often.
-    fn are(&self, noted: &(u64, u64, u32, u32)) -> bool {
-        let (read, written, syncs, drops) = *noted;
-        self.read.get() == read
-            && self.written.get() == written
-            && self.syncs.get() == syncs
-            && self.drops.get() == drops
-    }
-
-    /// What a call comes to.
-    fn outcome(&self) -> io::Result<()> {
-        let left = self.left.get();
-        if left == 0 {
-            self.left.set(ALL);
-            return Err(io::Error::from(ErrorKind::TimedOut));
-        }
-        self.left.set(left - 1);
-        Ok(())
-    }
-}
-
-/// Takes every call and keeps nothing.
-#[derive(Drop)]
-struct NotedFile<'n> {
+/// A device of so many sectors on such a file.
+fn device<'n, R: AllocGlobal + Abort>(
+    rt: &R,
     notes: &'n Notes,
+    sectors: u32,
+    piece: usize,
+) -> SectorFile<SystemFile<NotedFile<'n>>> {
+    let file = file(rt, notes, sectors as usize, piece);
+    SectorFile::over(TracedFile::over(file), sectors)
 }
 
-impl FileExt for NotedFile<'_> {
-    fn read_at(&self, buf: &mut [u8], offset: u64) -> io::Result<usize> {
-        self.notes.read.set(offset);
-        self.notes.outcome()?;
-        Ok(buf.len())
-    }
-
-    fn write_at(&self, buf: &[u8], offset: u64) -> io::Result<usize> {
-        self.notes.written.set(offset);
-        self.notes.outcome()?;
-        let given = self.notes.given.get().saturating_add(buf.len() as u64);
-        self.notes.given.set(given);
-        Ok(buf.len())
+/// Each of these calls comes to what it says, and the file has noted this.
+fn follow<D: Disk>(rt: &impl Abort, disk: &mut D, notes: &Notes, from: usize, steps: &[Step]) {
+    for (left, call, noted) in steps {
+        notes.left.set(*left);
+        assert!(rt; call.comes(disk) & notes.are(from, noted));
     }
 }
 
-impl OpenFile for NotedFile<'_> {
-    fn metadata(&self) -> io::Result<Metadata> {
-        self.notes.outcome()?;
-        Ok(Metadata::of_file(0))
-    }
+/// Syncs, drops, and where the file is read and written last. Each call of the device is one of the
+/// file: at 512 times the sector, or a sync of its data. After the first sync, and after the first
+/// one that follows a failed call, what is cached is dropped, and the sync fails where that does.
+const PLACES: [Step; 15] = [
+    (ALL, Call::Put(3, 1), [0, 0, 0, 1536]),
+    (ALL, Call::Put(0, 1), [0, 0, 0, 0]),
+    (ALL, Call::Get(5, 0), [0, 0, 2560, 0]),
+    (ALL, Call::Sync, [1, 1, 2560, 0]),
+    (ALL, Call::Put(1, 1), [1, 1, 2560, 512]),
+    (ALL, Call::Sync, [2, 1, 2560, 512]),
+    (0, Call::PutFails(2, 1), [2, 1, 2560, 1024]),
+    (ALL, Call::Sync, [3, 2, 2560, 1024]),
+    (0, Call::SyncFails, [4, 2, 2560, 1024]),
+    (0, Call::SyncFails, [5, 2, 2560, 1024]),
+    (1, Call::SyncFails, [6, 3, 2560, 1024]),
+    (ALL, Call::Sync, [7, 4, 2560, 1024]),
+    (0, Call::GetFails(4), [7, 4, 2048, 1024]),
+    (ALL, Call::Sync, [8, 5, 2048, 1024]),
+    (ALL, Call::Sync, [9, 5, 2048, 1024]),
+];
 
-    fn set_len(&self, size: u64) -> io::Result<()> {
-        self.notes.outcome()?;
-        self.notes.length.set(size);
-        Ok(())
-    }
+/// Reads, writes, syncs and drops. A call of the file that fails is a call of the device that
+/// fails, and isn't made again: after a sync that failed another one tells nothing of what was
+/// written before.
+const FAILURES: [Step; 6] = [
+    (0, Call::PutFails(3, 7), [0, 1, 0, 0]),
+    (ALL, Call::Put(3, 7), [0, 2, 0, 0]),
+    (0, Call::SyncFails, [0, 2, 1, 0]),
+    (ALL, Call::Sync, [0, 2, 2, 1]),
+    (0, Call::GetFails(3), [1, 2, 2, 1]),
+    (ALL, Call::Get(3, 7), [2, 2, 2, 1]),
+];
 
-    fn sync_all(&self) -> io::Result<()> {
-        self.notes.outcome()?;
-        self.notes.safe_length.set(self.notes.length.get());
-        Ok(())
-    }
-
-    fn sync_data(&self) -> io::Result<()> {
-        self.notes
-            .syncs
-            .set(self.notes.syncs.get().saturating_add(1));
-        self.notes.outcome()
-    }
-}
-
-impl HostFile for NotedFile<'_> {
-    fn try_lock(&self) -> io::Result<()> {
-        self.notes.outcome()
-    }
-
-    fn drop_cached(&self) -> io::Result<()> {
-        self.notes
-            .drops
-            .set(self.notes.drops.get().saturating_add(1));
-        self.notes.outcome()
-    }
-}
-
-fn file(notes: &Notes) -> SystemFile<NotedFile<'_>> {
-    SystemFile::over(NotedFile { notes })
-}
-
-/// Whether the call comes to what it says, and the file was then read and written last at these
-/// places, synced so often, and what is cached was dropped so often.
-fn is_noted<D: Disk>(
-    disk: &mut D,
-    notes: &Notes,
-    call: &Call,
-    noted: &(u64, u64, u32, u32),
-) -> bool {
-    call.comes(disk) && notes.are(noted)
-}
-
-/// Each call of the device is one of the file: at 512 times the sector, or a sync of its data.
-/// After the first sync, and after the first one that follows a failed call, what is cached is
-/// dropped, and the sync fails where that does.
 #[test]
 fn each_call_is_one_of_the_file(rt: HostRuntime) {
-    let notes = Notes::new();
-    let mut disk = SectorFile::over(TracedFile::over(file(&notes)), 8);
-    for (left, call, noted) in [
-        (ALL, Call::Put(3, 1), (1, 1536, 0, 0)),
-        (ALL, Call::Put(0, 1), (1, 0, 0, 0)),
-        (ALL, Call::Get(5, 1), (2560, 0, 0, 0)),
-        (ALL, Call::Sync, (2560, 0, 1, 1)),
-        (ALL, Call::Put(1, 1), (2560, 512, 1, 1)),
-        (ALL, Call::Sync, (2560, 512, 2, 1)),
-        (0, Call::PutFails(2, 1), (2560, 1024, 2, 1)),
-        (ALL, Call::Sync, (2560, 1024, 3, 2)),
-        (0, Call::SyncFails, (2560, 1024, 4, 2)),
-        (0, Call::SyncFails, (2560, 1024, 5, 2)),
-        (1, Call::SyncFails, (2560, 1024, 6, 3)),
-        (ALL, Call::Sync, (2560, 1024, 7, 4)),
-        (0, Call::GetFails(4), (2048, 1024, 7, 4)),
-        (ALL, Call::Sync, (2048, 1024, 8, 5)),
-        (ALL, Call::Sync, (2048, 1024, 9, 5)),
-    ] {
-        notes.left.set(left);
-        assert!(rt; is_noted(&mut disk, &notes, &call, &noted));
+    for (from, steps) in [(SYNCS, PLACES.as_slice()), (READS, FAILURES.as_slice())] {
+        let notes = Notes::new();
+        follow(
+            &rt,
+            &mut device(&rt, &notes, 8, usize::MAX),
+            &notes,
+            from,
+            steps,
+        );
     }
 }
 
 /// After a first sync calls that succeed leave nothing to be dropped, also where they are joined.
+const JOINED: [Step; 8] = [
+    (ALL, Call::Put(3, 1), [0, 0, 0, 0]),
+    (ALL, Call::Put(4, 1), [0, 0, 0, 0]),
+    (ALL, Call::Sync, [1, 1, 0, 1536]),
+    (ALL, Call::Get(9, 0), [1, 1, 4608, 1536]),
+    (ALL, Call::Put(5, 1), [1, 1, 4608, 1536]),
+    (ALL, Call::Sync, [2, 1, 4608, 2560]),
+    (ALL, Call::Get(30, 0), [2, 1, 15360, 2560]),
+    (ALL, Call::Sync, [3, 1, 15360, 2560]),
+];
+
+/// One read brings 16 sectors. A batch, which is its body, the next gate, a sync, its own gate and
+/// a sync, is two writes and two syncs.
+const NEIGHBOURS: [Step; 28] = [
+    (ALL, Call::Get(2, 0), [1, 0, 0, 0]),
+    (ALL, Call::Get(3, 0), [1, 0, 0, 0]),
+    (ALL, Call::Get(4, 0), [1, 0, 0, 0]),
+    (ALL, Call::Get(5, 0), [1, 0, 0, 0]),
+    (ALL, Call::Get(6, 0), [1, 0, 0, 0]),
+    (ALL, Call::Get(7, 0), [1, 0, 0, 0]),
+    (ALL, Call::Get(8, 0), [1, 0, 0, 0]),
+    (ALL, Call::Get(9, 0), [1, 0, 0, 0]),
+    (ALL, Call::Get(10, 0), [1, 0, 0, 0]),
+    (ALL, Call::Get(11, 0), [1, 0, 0, 0]),
+    (ALL, Call::Get(12, 0), [1, 0, 0, 0]),
+    (ALL, Call::Get(13, 0), [1, 0, 0, 0]),
+    (ALL, Call::Get(14, 0), [1, 0, 0, 0]),
+    (ALL, Call::Get(15, 0), [1, 0, 0, 0]),
+    (ALL, Call::Get(16, 0), [1, 0, 0, 0]),
+    (ALL, Call::Get(17, 0), [1, 0, 0, 0]),
+    (ALL, Call::Get(18, 0), [2, 0, 0, 0]),
+    (ALL, Call::Put(5, 1), [2, 0, 0, 0]),
+    (ALL, Call::Put(6, 1), [2, 0, 0, 0]),
+    (ALL, Call::Put(7, 0), [2, 0, 0, 0]),
+    (ALL, Call::Get(6, 1), [2, 0, 0, 0]),
+    (ALL, Call::Sync, [2, 1, 1, 1]),
+    (ALL, Call::Put(4, 165), [2, 1, 1, 1]),
+    (ALL, Call::Sync, [2, 2, 2, 1]),
+    (ALL, Call::Sync, [2, 2, 3, 1]),
+    (ALL, Call::Put(9, 1), [2, 2, 3, 1]),
+    (ALL, Call::Put(8, 1), [2, 3, 3, 1]),
+    (ALL, Call::Sync, [2, 4, 4, 1]),
+];
+
+/// A write that was held back and fails is told by the call that makes it, and isn't made again.
+const HELD_BACK: [Step; 6] = [
+    (ALL, Call::Put(3, 7), [0, 0, 0, 0]),
+    (ALL, Call::Put(4, 8), [0, 0, 0, 0]),
+    (0, Call::SyncFails, [0, 1, 0, 0]),
+    (ALL, Call::Sync, [0, 1, 1, 1]),
+    (0, Call::GetFails(3), [1, 1, 1, 1]),
+    (ALL, Call::Get(3, 0), [2, 1, 1, 1]),
+];
+
 #[test]
-fn nothing_is_dropped_behind_joined_calls(rt: HostRuntime) {
-    let notes = Notes::new();
-    let mut disk = Buffered::over(SectorFile::over(TracedFile::over(file(&notes)), 40));
-    for (call, noted) in [
-        (Call::Put(3, 1), (1, 1, 0, 0)),
-        (Call::Put(4, 1), (1, 1, 0, 0)),
-        (Call::Sync, (1, 1536, 1, 1)),
-        (Call::Get(9, 0), (4608, 1536, 1, 1)),
-        (Call::Put(5, 1), (4608, 1536, 1, 1)),
-        (Call::Sync, (4608, 2560, 2, 1)),
-        (Call::Get(30, 0), (15360, 2560, 2, 1)),
-        (Call::Sync, (15360, 2560, 3, 1)),
+fn neighbours_are_moved_at_once(rt: HostRuntime) {
+    for (from, steps) in [
+        (SYNCS, JOINED.as_slice()),
+        (READS, NEIGHBOURS.as_slice()),
+        (READS, HELD_BACK.as_slice()),
     ] {
-        assert!(rt; is_noted(&mut disk, &notes, &call, &noted));
+        let notes = Notes::new();
+        let mut disk = Buffered::over(device(&rt, &notes, 40, usize::MAX));
+        follow(&rt, &mut disk, &notes, from, steps);
+    }
+}
+
+/// The most bytes that a call of the file moves, and how many reads and writes four reads and three
+/// writes of the device then are.
+const PIECES: [(usize, [u64; 2]); 4] = [
+    (512, [4, 3]),
+    (511, [8, 6]),
+    (256, [8, 6]),
+    (100, [24, 18]),
+];
+
+const MOVED: [Call; 7] = [
+    Call::Put(3, 7),
+    Call::Put(0, 8),
+    Call::Put(4, 9),
+    Call::Get(3, 7),
+    Call::Get(0, 8),
+    Call::Get(4, 9),
+    Call::Get(1, 0),
+];
+
+/// A call of the file that moves a part of a sector is followed by calls for the rest.
+#[test]
+fn a_sector_is_moved_whole(rt: HostRuntime) {
+    for (piece, noted) in &PIECES {
+        let notes = Notes::new();
+        let mut disk = device(&rt, &notes, 40, *piece);
+        assert!(rt; all_come(&mut disk, &MOVED) & notes.are(READS, noted));
+    }
+}
+
+/// Whether each of 40 sectors, so far from one another, holds its own number.
+fn are_themselves<D: Disk>(disk: &mut D, leap: u8) -> bool {
+    let (mut sector, mut all) = (0u8, true);
+    for _ in 0..40 {
+        all = holds(disk, u32::from(sector), &[sector; 512]) & all;
+        sector = sector.saturating_add(leap) % 40;
+    }
+    all
+}
+
+/// Whatever is written and read at once, also by calls of the file that move a part of it, each
+/// sector is read as it was written: forwards, backwards, and by leaps.
+#[test]
+fn each_sector_is_read_as_itself(rt: HostRuntime) {
+    for piece in [usize::MAX, 1000] {
+        let notes = Notes::new();
+        let mut disk = Buffered::over(device(&rt, &notes, 40, piece));
+        assert!(rt; put_each(&mut disk, 0, 40) & all_come(&mut disk, &[Call::Sync]));
+        let mut disk = Buffered::over(disk.into_inner());
+        for leap in [1u8, 39, 7, 17] {
+            assert!(rt; are_themselves(&mut disk, leap));
+        }
     }
 }
 
 /// Whether a file of 300 sectors is made where the call after this many fails.
-fn is_made(notes: &Notes, calls: u32) -> bool {
+fn is_made<R: AllocGlobal + Abort>(rt: &R, notes: &Notes, calls: u32) -> bool {
     notes.left.set(calls);
-    notes.given.set(0);
-    TracedFile::zeroed(file(notes), 300).is_ok()
+    TracedFile::zeroed(file(rt, notes, 300, usize::MAX), 300).is_ok()
 }
 
 /// A file that is made has its length, each of its sectors is written, and that is made safe, by
@@ -198,29 +207,27 @@ fn is_made(notes: &Notes, calls: u32) -> bool {
 #[test]
 fn a_file_is_made_with_its_sectors(rt: HostRuntime) {
     let notes = Notes::new();
-    let _opened = TracedFile::over(file(&notes));
-    assert!(rt; !is_made(&notes, 0));
-    assert!(rt; notes.length.get() == 0 && notes.syncs.get() == 0 && notes.written.get() == 1);
+    let _opened = TracedFile::over(file(&rt, &notes, 300, usize::MAX));
+    assert!(rt; !is_made(&rt, &notes, 0) & notes.are(READS, &[0; 9]));
     for calls in 1..7u32 {
-        assert!(rt; !is_made(&notes, calls));
+        assert!(rt; !is_made(&rt, &notes, calls));
     }
-    assert!(rt; is_made(&notes, 7) && notes.left.get() == 0);
-    assert!(rt; notes.length.get() == 153_600 && notes.safe_length.get() == 153_600);
-    assert!(rt; notes.given.get() == 153_600 && notes.written.get() == 131_072);
+    let notes = Notes::new();
+    assert!(rt; is_made(&rt, &notes, 7) & (notes.left.get() == 0));
+    assert!(rt; notes.are(WRITTEN_AT, &[131_072, 153_600, 153_600, 153_600]));
 }
+
+/// Whether a file is locked and whether it is measured where the call after so many fails.
+const OPENINGS: [(u32, bool, bool); 3] = [(0, false, false), (1, false, true), (2, true, true)];
 
 /// One that is opened has to tell its length, and its lock has to be free.
 #[test]
 fn a_file_is_opened_by_calls_that_succeed(rt: HostRuntime) {
     let notes = Notes::new();
-    for (left, is_locked, is_measured) in [
-        (0u32, false, false),
-        (1, false, true),
-        (2, true, true),
-    ] {
-        notes.left.set(left);
-        assert!(rt; TracedFile::locked(file(&notes)).is_ok() == is_locked);
-        notes.left.set(left);
-        assert!(rt; TracedFile::measured(file(&notes)).is_ok() == is_measured);
+    for (left, is_locked, is_measured) in &OPENINGS {
+        notes.left.set(*left);
+        assert!(rt; TracedFile::locked(file(&rt, &notes, 0, 0)).is_ok() == *is_locked);
+        notes.left.set(*left);
+        assert!(rt; TracedFile::measured(file(&rt, &notes, 0, 0)).is_ok() == *is_measured);
     }
 }

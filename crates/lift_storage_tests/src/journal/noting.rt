@@ -14,21 +14,8 @@ pub(crate) enum Call {
 /// Passes each call on, and notes the first forty.
 #[derive(Drop)]
 pub(crate) struct NotingDisk<D: Disk> {
-    inner: D,
-    calls: ArrayVec<Call, 40>,
-}
-
-impl<D: Disk> NotingDisk<D> {
-    pub(crate) fn new(inner: D) -> NotingDisk<D> {
-        NotingDisk {
-            inner,
-            calls: ArrayVec::new(),
-        }
-    }
-
-    pub(crate) fn calls(&self) -> &[Call] {
-        self.calls.as_slice()
-    }
+    pub(crate) inner: D,
+    pub(crate) calls: ArrayVec<Call, 40>,
 }
 
 impl<D: Disk> Disk for NotingDisk<D> {

@@ -1,42 +1,53 @@
-//! Records by their numbers, and batches of them.
+//! Batches of records.
 ghost use Rattle.std.specs.Prelude.{◌≡◌, ◌≤◌, IfSome, All, length, true};
 ghost use Rattle.lift_base.specs.Records.{IsLawful};
 ghost use Rattle.lift_journal.specs.Order.{IsEntry};
 
+use crate::plain::Plain;
 use arrayvec::ArrayVec;
-use lift_base::{Dir, Entry, Floor, Letter, Number, Party, Record, Shape, Terminal};
+use lift_base::{Dir, Record, Shape};
 use lift_record::is_lawful;
 
 /// Ten floors, two cars, two kiosks, and halves of 64 sectors.
-pub(crate) fn demo() -> Shape {
-    Shape {
-        floors: 10,
-        cars: 2,
-        kiosks: 2,
-        half: 64,
+pub(crate) const DEMO: Shape = Shape {
+    floors: 10,
+    cars: 2,
+    kiosks: 2,
+    half: 64,
+};
+
+/// A batch.
+#[derive(Clone, Copy)]
+pub(crate) enum Batch {
+    /// This many stops of car A at floor 0, up, 63 at most, numbered from this one on.
+    Stops(u32, u32),
+    /// Two calls of kiosk 0 from floor 0 to floor 5, allotted to car A, for one person and for 15.
+    Calls,
+}
+
+fn stop(number: u32) -> Record {
+    Plain::Stop(0, number, 0, Dir::Up).record()
+}
+
+impl Batch {
+    pub(crate) fn records(&self) -> ArrayVec<Record, 63> {
+        match *self {
+            Batch::Stops(first, count) => {
+                let mut stops = ArrayVec::from([stop(first); 63]);
+                for (place, next) in stops.iter_mut().enumerate() {
+                    *next = stop(first.wrapping_add(place as u32));
+                }
+                stops.truncate(count as usize);
+                stops
+            }
+            Batch::Calls => {
+                let mut calls = ArrayVec::new();
+                let _ = calls.try_push(Plain::Allot(16, 1, [0, 5], 0, 1).record());
+                let _ = calls.try_push(Plain::Allot(16, 2, [0, 5], 0, 15).record());
+                calls
+            }
+        }
     }
-}
-
-/// A stop of car A at floor 0, up.
-pub(crate) fn stop(number: u32) -> Record {
-    Record::Entry(Entry::Stop {
-        car: Letter::default(),
-        number: Number::new(number).unwrap_or_default(),
-        floor: Floor::default(),
-        dir: Dir::Up,
-    })
-}
-
-/// A call of kiosk 0 from floor 0 to floor 5, allotted to car A.
-pub(crate) fn allot(number: u32, persons: u8) -> Record {
-    Record::Entry(Entry::Allot {
-        kiosk: Terminal::new(16).unwrap_or_default(),
-        number: Number::new(number).unwrap_or_default(),
-        from: Floor::default(),
-        to: Floor::new(5).unwrap_or_default(),
-        car: Letter::default(),
-        party: Party::new(persons).unwrap_or_default(),
-    })
 }
 
 fn is_entry(record: &Record) -> bool
@@ -46,7 +57,7 @@ fn is_entry(record: &Record) -> bool
 }
 
 /// These records as a batch, where there are 1 to 63 and the journal takes each.
-pub(crate) fn batch(records: &[Record]) -> Option<ArrayVec<Record, 63>>
+pub(crate) fn as_batch(records: &[Record]) -> Option<ArrayVec<Record, 63>>
     ensures some { IfSome result (λ batch. 1 ≤ length batch.items) }
     ensures lawful { IfSome result (λ batch. All IsLawful batch.items) }
     ensures entries { IfSome result (λ batch. All IsEntry batch.items) }
@@ -65,16 +76,4 @@ pub(crate) fn batch(records: &[Record]) -> Option<ArrayVec<Record, 63>>
         return None;
     }
     Some(batch)
-}
-
-/// This many stops, numbered from this one on; 63 at most.
-pub(crate) fn stops(first: u32, count: u32) -> ArrayVec<Record, 63> {
-    let mut stops = ArrayVec::from([stop(first); 63]);
-    for place in 0..63 {
-        if let Some(next) = stops.get_mut(place) {
-            *next = stop(first.wrapping_add(place as u32));
-        }
-    }
-    stops.truncate(count as usize);
-    stops
 }

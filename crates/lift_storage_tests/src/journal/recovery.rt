@@ -1,11 +1,11 @@
 //! A call that is stopped, a power cut, and a recovery that is stopped too and begun again: in the
 //! end the journal lists what stood there before the call, or what the call was to leave.
-use crate::journal::cuts::Failing;
-use crate::journal::listing::{add_stops, lists, make};
-use crate::journal::records::{demo, stop, stops};
+use crate::disk::calls::{memory, put};
+use crate::journal::listing::{add, lists, make, opened};
+use crate::journal::records::{Batch, DEMO};
 use crate::journal::registers::{is_checkpoint, medium, small};
-use crate::journal::sectors::{OPEN, header, put, stop_bytes, text_of};
-use lift_disk::{Disk, FlakyDisk, FuseDisk, MemDisk, Outcome};
+use crate::journal::sectors::{OPEN, header, stop_bytes, text_of};
+use lift_disk::{Arm, Disk, FailingDisk, FaultRule, Flaky, Fuse, MemDisk, Outcome};
 use lift_journal::{Journal, JournalFault};
 use lift_register::Register;
 use std::process::Abort;
@@ -23,33 +23,28 @@ const CUTS: [Option<Outcome>; 6] = [
     Some(Outcome::Fill(255)),
 ];
 
-/// Whether a batch of one stop is written, its gate in this sector.
-fn is_put(disk: &mut MemDisk, gate: u8, version: u8, number: u8) -> bool {
-    let body = [header(version, 1, number), stop_bytes(number)];
-    put(disk, u32::from(gate), &text_of(&[OPEN])) && put(disk, u32::from(gate) + 1, &text_of(&body))
+/// Whether a journal of two batches of one stop each, in this version, is written.
+fn are_two_put(disk: &mut MemDisk, version: u8) -> bool {
+    let mut all = make(disk, DEMO);
+    for (gate, number) in [(2u32, 1u8), (4, 2)] {
+        let body = [header(version, 1, number), stop_bytes(number)];
+        all = put(disk, gate, &text_of(&[OPEN])) & put(disk, gate + 1, &text_of(&body)) & all;
+    }
+    put(disk, 6, &[0; 512]) & disk.sync().is_ok() & all
 }
 
-/// The device with a journal of two batches of one stop each, in this version.
-fn with_two(rt: &impl Abort, mut disk: MemDisk, version: u8) -> MemDisk {
-    assert!(rt; make(&mut disk, demo()) == Some(Ok(())));
-    let are_put = is_put(&mut disk, 2, version, 1)
-        && is_put(&mut disk, 4, version, 2)
-        && put(&mut disk, 6, &text_of(&[]))
-        && disk.sync().is_ok();
-    assert!(rt; are_put);
-    disk
-}
-
-/// What a journal lists.
+/// What a journal lists: batches, or the checkpoint of a register.
 #[derive(Clone, Copy)]
 enum Listed<'a> {
-    /// Two batches of one stop each.
-    Two,
-    /// These, and a batch of this many stops.
-    Three(u32),
-    /// The checkpoint of a register.
+    Batches(&'a [Batch]),
     Checkpoint(&'a Register),
 }
+
+/// Two batches of one stop each.
+const TWO: [Batch; 2] = [Batch::Stops(1, 1), Batch::Stops(2, 1)];
+
+/// The same and a batch of 63 stops.
+const THREE: [Batch; 3] = [Batch::Stops(1, 1), Batch::Stops(2, 1), Batch::Stops(3, 63)];
 
 /// A call of the journal.
 #[derive(Clone, Copy)]
@@ -68,36 +63,7 @@ struct Work<'a> {
     is_set: bool,
 }
 
-/// Whether the journal lists this, batch by batch.
-fn shows<D: Disk>(journal: &mut Journal<D>, listed: &Listed) -> bool {
-    match listed {
-        Listed::Two => lists(journal, &[&[stop(1)], &[stop(2)]]),
-        Listed::Three(count) => lists(journal, &[&[stop(1)], &[stop(2)], &stops(3, *count)]),
-        Listed::Checkpoint(register) => is_checkpoint(journal, register),
-    }
-}
-
-/// Goes on to this list, from the one before it.
-fn go_on<D: Disk>(journal: &mut Journal<D>, listed: &Listed) -> Option<Result<(), JournalFault>> {
-    match listed {
-        Listed::Two => None,
-        Listed::Three(count) => add_stops(journal, 3, *count),
-        Listed::Checkpoint(register) => Some(journal.replace(register)),
-    }
-}
-
-impl<'a> Work<'a> {
-    /// The device with what stands there before the call.
-    fn prepare(&self, rt: &impl Abort, disk: MemDisk) -> MemDisk {
-        let disk = with_two(rt, disk, self.version);
-        if let Listed::Checkpoint(register) = self.before {
-            let mut journal = Journal::open(disk).ok().expect(rt, "a journal");
-            assert!(rt; journal.replace(register) == Ok(()));
-            return journal.into_disk();
-        }
-        disk
-    }
-
+impl Work<'_> {
     /// Whether the call has taken effect, where this call of the device was the first to fail and
     /// the cut left this: the last call but one writes the sector by which it does, and the last
     /// one syncs it.
@@ -109,56 +75,44 @@ impl<'a> Work<'a> {
             Outcome::Keep => failed == self.calls,
             Outcome::Lose => false,
             Outcome::Fill(byte) => {
-                failed.saturating_add(1) >= self.calls && (byte == 165) == self.is_set
+                (failed.saturating_add(1) >= self.calls) & ((byte == 165) == self.is_set)
             }
-        }
-    }
-
-    fn shows_right<D: Disk>(&self, journal: &mut Journal<D>, is_done: bool) -> bool {
-        shows(journal, if is_done { &self.after } else { &self.before })
-    }
-}
-
-/// Begins a recovery on a device that is to fail: reopens the journal where no power is cut, else
-/// opens what the cut leaves. An `Err` is a fault of the device, and hands it back.
-fn recover<D: Failing + Drop>(
-    rt: &impl Abort,
-    mut journal: Journal<D>,
-    cut: Option<Outcome>,
-    failed: u32,
-) -> Result<Journal<D>, D> {
-    let Some(outcome) = cut else {
-        journal.arm(D::armed_for(failed));
-        return match journal.reopen() {
-            Ok(()) => Ok(journal),
-            Err(fault) => {
-                assert!(rt; fault == JournalFault::Disk);
-                Err(journal.into_disk())
-            }
-        };
-    };
-    let mut device = D::over(journal.into_disk().into_memory().cut(outcome));
-    device.arm(D::armed_for(failed));
-    match Journal::open(device) {
-        Ok(journal) => Ok(journal),
-        Err((device, fault)) => {
-            assert!(rt; fault == JournalFault::Disk);
-            Err(device)
         }
     }
 }
 
-/// Begins it again, on the same device or on what another cut leaves.
-fn recover_again<D: Failing + Drop>(
-    rt: &impl Abort,
-    mut device: D,
-    cut: Option<Outcome>,
-) -> Journal<D> {
-    device.arm(NEVER);
-    if let Some(outcome) = cut {
-        device = D::over(device.into_memory().cut(outcome));
+/// Whether the journal lists this, batch by batch.
+fn shows<D: Disk>(journal: &mut Journal<D>, listed: &Listed) -> bool {
+    match listed {
+        Listed::Batches(batches) => lists(journal, batches),
+        Listed::Checkpoint(register) => is_checkpoint(journal, register),
     }
-    Journal::open(device).ok().expect(rt, "a journal")
+}
+
+/// Whether the call that goes on to this list, from the one before it, ends so.
+fn goes_on<D: Disk>(
+    journal: &mut Journal<D>,
+    listed: &Listed,
+    end: Result<(), JournalFault>,
+) -> bool {
+    match listed {
+        Listed::Batches(batches) => match batches.last() {
+            Some(last) => add(journal, &last.records(), end),
+            None => false,
+        },
+        Listed::Checkpoint(register) => journal.replace(register) == end,
+    }
+}
+
+/// The device with what stands there before the call.
+fn prepared(rt: &impl Abort, mut disk: MemDisk, work: &Work) -> MemDisk {
+    assert!(rt; are_two_put(&mut disk, work.version));
+    if let Listed::Checkpoint(register) = work.before {
+        let mut journal = opened(rt, disk);
+        assert!(rt; journal.replace(register) == Ok(()));
+        return journal.into_disk();
+    }
+    disk
 }
 
 /// The calls of the device that are the first to fail, in the call and in the recovery, and what
@@ -169,6 +123,8 @@ struct Failures {
     cut: Option<Outcome>,
     recovery: u32,
     cut_again: Option<Outcome>,
+    /// How much less than the number of the call the device is armed with.
+    less: u32,
 }
 
 impl Failures {
@@ -184,91 +140,120 @@ impl Failures {
 }
 
 /// Prepares the work, and makes its call, which fails exactly where a call of the device does.
-fn made<D: Failing + Drop>(rt: &impl Abort, disk: MemDisk, work: &Work, failed: u32) -> Journal<D> {
-    let mut journal = Journal::open(D::over(work.prepare(rt, disk)))
-        .ok()
-        .expect(rt, "a journal");
-    journal.arm(D::armed_for(failed));
-    let answer = if failed > work.calls {
+fn stopped<R: FaultRule>(
+    rt: &impl Abort,
+    disk: MemDisk,
+    work: &Work,
+    failures: &Failures,
+) -> Journal<FailingDisk<R>> {
+    let mut journal = opened(rt, FailingDisk::new(prepared(rt, disk, work)));
+    journal.arm(failures.work.saturating_sub(failures.less));
+    let end = if failures.work > work.calls {
         Ok(())
     } else {
         Err(JournalFault::Disk)
     };
-    assert!(rt; go_on(&mut journal, &work.after) == Some(answer));
+    assert!(rt; goes_on(&mut journal, &work.after, end));
     journal
 }
 
-/// The recovery, begun again where the device fails it, as it does exactly where it comes to that
-/// call.
-fn recovered<D: Failing + Drop>(
+/// Begins a recovery on a device that is to fail: reopens the journal where no power is cut, else
+/// opens what the cut leaves. An `Err` is a fault of the device, and hands it back.
+fn recover<R: FaultRule>(
     rt: &impl Abort,
-    journal: Journal<D>,
-    work: &Work,
+    mut journal: Journal<FailingDisk<R>>,
     failures: &Failures,
-) -> Journal<D> {
-    let read = work.is_done(failures.work, failures.cut.unwrap_or(Outcome::Keep));
-    let calls = if read {
-        work.calls_after
-    } else {
-        work.calls_before
+) -> Result<Journal<FailingDisk<R>>, FailingDisk<R>> {
+    let calls = failures.recovery.saturating_sub(failures.less);
+    let Some(outcome) = failures.cut else {
+        journal.arm(calls);
+        return match journal.reopen() {
+            Ok(()) => Ok(journal),
+            Err(fault) => {
+                assert!(rt; fault == JournalFault::Disk);
+                Err(journal.into_disk())
+            }
+        };
     };
-    match recover(rt, journal, failures.cut, failures.recovery) {
+    let mut device = FailingDisk::new(journal.into_disk().into_inner().cut(outcome));
+    device.arm(calls);
+    match Journal::open(device) {
+        Ok(journal) => Ok(journal),
+        Err((device, fault)) => {
+            assert!(rt; fault == JournalFault::Disk);
+            Err(device)
+        }
+    }
+}
+
+/// The recovery, which the device fails exactly where it comes to that call; it is begun again
+/// then, on the same device or on what another cut leaves.
+fn recovered<R: FaultRule>(
+    rt: &impl Abort,
+    journal: Journal<FailingDisk<R>>,
+    failures: &Failures,
+    calls: u32,
+) -> Journal<FailingDisk<R>> {
+    match recover(rt, journal, failures) {
         Ok(journal) => {
             assert!(rt; failures.recovery > calls);
             journal
         }
-        Err(device) => {
+        Err(mut device) => {
             assert!(rt; failures.recovery <= calls);
-            recover_again(rt, device, failures.cut_again)
+            device.arm(NEVER);
+            if let Some(outcome) = failures.cut_again {
+                device = FailingDisk::new(device.into_inner().cut(outcome));
+            }
+            opened(rt, device)
         }
     }
 }
 
 /// One of the calls fails, the recovery's too, and then none.
-fn stop_at<D: Failing + Drop>(
+fn stop_at<R: FaultRule>(
     rt: &impl Abort,
     disk: MemDisk,
     work: &Work,
     failures: &Failures,
 ) -> MemDisk {
-    let journal = made::<D>(rt, disk, work, failures.work);
-    let mut journal = recovered(rt, journal, work, failures);
+    let journal = stopped::<R>(rt, disk, work, failures);
+    let was_done = work.is_done(failures.work, failures.cut.unwrap_or(Outcome::Keep));
+    let calls = if was_done {
+        work.calls_after
+    } else {
+        work.calls_before
+    };
+    let mut journal = recovered(rt, journal, failures, calls);
     journal.arm(NEVER);
-    let is_done = work.is_done(failures.work, failures.outcome());
-    assert!(rt; work.shows_right(&mut journal, is_done));
-    // it goes on from there
-    if !is_done {
-        assert!(rt; go_on(&mut journal, &work.after) == Some(Ok(())));
+    if !work.is_done(failures.work, failures.outcome()) {
+        assert!(rt; shows(&mut journal, &work.before));
+        // it goes on from there
+        assert!(rt; goes_on(&mut journal, &work.after, Ok(())));
     }
     assert!(rt; shows(&mut journal, &work.after));
-    journal.into_disk().into_memory().cut(Outcome::Keep)
+    journal.into_disk().into_inner().cut(Outcome::Keep)
 }
 
-/// The same by a device that fails from then on, and by one that fails once.
-fn stop_both(rt: &impl Abort, disk: MemDisk, work: &Work, failures: &Failures) -> MemDisk {
-    let disk = stop_at::<FuseDisk>(rt, disk, work, failures);
-    stop_at::<FlakyDisk>(rt, disk, work, failures)
-}
-
-/// Each call of the recovery fails in turn, and none where it is one after the last. After the
-/// first of them, the sync, loose sectors end in each way.
+/// Each call of the recovery fails in turn, and none where it is one after the last, by a device
+/// that fails from then on, and by one that fails once. After the first of them, the sync, loose
+/// sectors end in each way.
 fn stop_recoveries(rt: &impl Abort, mut disk: MemDisk, work: &Work, first: &Failures) -> MemDisk {
-    for cut_again in CUTS {
-        let failures = Failures {
+    let calls = work.calls_before.max(work.calls_after);
+    for turn in 0..calls.saturating_add(6) {
+        let (mut recovery, mut cut_again) = (1, CUTS[turn as usize % 6]);
+        if turn >= 6 {
+            recovery = turn - 4;
+            let place = first.work.wrapping_add(recovery) as usize;
+            cut_again = CUTS[place % 6];
+        }
+        let fuse = Failures {
+            recovery,
             cut_again,
             ..*first
         };
-        disk = stop_both(rt, disk, work, &failures);
-    }
-    let calls = work.calls_before.max(work.calls_after);
-    for recovery in 2..calls.wrapping_add(2) {
-        let turn = first.work.wrapping_add(recovery);
-        let failures = Failures {
-            recovery,
-            cut_again: CUTS[turn as usize % 6],
-            ..*first
-        };
-        disk = stop_both(rt, disk, work, &failures);
+        disk = stop_at::<Fuse>(rt, disk, work, &fuse);
+        disk = stop_at::<Flaky>(rt, disk, work, &Failures { less: 0, ..fuse });
     }
     disk
 }
@@ -276,7 +261,7 @@ fn stop_recoveries(rt: &impl Abort, mut disk: MemDisk, work: &Work, first: &Fail
 /// Each call of the device fails in turn, and none where it is one after the last; loose sectors
 /// end in each way.
 fn stop_all<R: AllocGlobal + Abort>(rt: &R, work: &Work) {
-    let mut disk = MemDisk::new(rt.alloc(), 130).ok().expect(rt, "memory");
+    let mut disk = memory(rt, 130);
     for failed in 1..work.calls.wrapping_add(2) {
         for cut in CUTS {
             let first = Failures {
@@ -284,6 +269,7 @@ fn stop_all<R: AllocGlobal + Abort>(rt: &R, work: &Work) {
                 cut,
                 recovery: 1,
                 cut_again: None,
+                less: 1,
             };
             disk = stop_recoveries(rt, disk, work, &first);
         }
@@ -298,8 +284,8 @@ fn a_long_append_recovers(rt: HostRuntime) {
     for version in [1, 2] {
         let work = Work {
             version,
-            before: Listed::Two,
-            after: Listed::Three(63),
+            before: Listed::Batches(&TWO),
+            after: Listed::Batches(&THREE),
             calls: 6,
             calls_before: 8,
             calls_after: 11,
@@ -315,7 +301,7 @@ fn a_checkpoint_of_old_batches_recovers(rt: HostRuntime) {
     let register = small(&rt, 1);
     let work = Work {
         version: 1,
-        before: Listed::Two,
+        before: Listed::Batches(&TWO),
         after: Listed::Checkpoint(&register),
         calls: 6,
         calls_before: 8,

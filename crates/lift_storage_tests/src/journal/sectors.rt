@@ -1,7 +1,4 @@
 //! Sectors by their bytes.
-use lift_disk::Disk;
-
-pub(crate) const ZEROS: [u8; 16] = [0; 16];
 
 /// The name of the format, ten floors, two cars, two kiosks, and halves of 64 sectors.
 pub(crate) const STAMP: [u8; 16] = [
@@ -21,17 +18,6 @@ pub(crate) fn header(version: u8, count: u8, number: u8) -> [u8; 16] {
 /// The bytes of a stop of car A at floor 0, up.
 pub(crate) fn stop_bytes(number: u8) -> [u8; 16] {
     [2, 0, 0, 0, 0, 0, 0, 0, 0, 0, 0, number, 0, 0, 0, 0]
-}
-
-/// Whether a write of these bytes to a sector that is there has succeeded.
-pub(crate) fn put<D: Disk>(disk: &mut D, sector: u32, bytes: &[u8; 512]) -> bool {
-    sector < disk.sectors() && disk.write(sector, bytes).is_ok()
-}
-
-/// Whether the sector is there and holds these bytes.
-pub(crate) fn holds<D: Disk>(disk: &mut D, sector: u32, bytes: &[u8; 512]) -> bool {
-    let mut buffer = [1; 512];
-    sector < disk.sectors() && disk.read(sector, &mut buffer).is_ok() && buffer == *bytes
 }
 
 /// Pieces of sixteen bytes in a row, and zeros to the end of the sector.

@@ -1,63 +1,59 @@
 //! A recovery from a device that fails.
-use crate::journal::listing::add;
-use crate::keeper::journals::{allot, demo, formatted, stop};
+use crate::disk::calls::memory;
+use crate::journal::listing::{add, made};
+use crate::keeper::buildings::of_one_car;
+use crate::plain::Plain;
+use lift_base::Dir;
 use lift_building::Building;
 use lift_disk::{Arm, FuseDisk};
-use lift_journal::{Journal, JournalFault};
+use lift_journal::JournalFault;
 use lift_keeper::{Keeper, KeeperFault};
-use std::alloc::Global;
 use std::process::Abort;
-use std::test::Fail;
 
 /// A device that is told when to fail, with a journal of a call and a stop, a batch each.
-fn with_two(alloc: Global, building: &Building) -> Result<FuseDisk, Fail> {
-    let disk = FuseDisk::new(formatted(alloc, building)?);
-    let mut journal = Journal::open(disk).ok().ok_or("a journal")?;
-    let are_added = add(&mut journal, &[allot(1, 3)]) == Some(Ok(()))
-        && add(&mut journal, &[stop(1)]) == Some(Ok(()));
-    if are_added {
-        Ok(journal.into_disk())
-    } else {
-        Err("not added".into())
+fn with_two<R: AllocGlobal + Abort>(rt: &R, building: &Building) -> FuseDisk {
+    let mut journal = made(rt, FuseDisk::new(memory(rt, 130)), building.shape(64));
+    for plain in [
+        Plain::Allot(16, 1, [0, 3], 0, 1),
+        Plain::Stop(0, 1, 0, Dir::Up),
+    ] {
+        assert!(rt; add(&mut journal, &[plain.record()], Ok(())));
     }
+    journal.into_disk()
 }
 
 /// What the device that fails is told as.
 const FAILED: KeeperFault = KeeperFault::Journal(JournalFault::Disk);
 
-/// Each of the eight calls of an opening fails in turn, and the device comes back.
-fn refuse_openings(rt: &impl Abort, disk: FuseDisk, building: &Building) -> Result<FuseDisk, Fail> {
-    let mut disk = disk;
+/// Opens the device; each of the eight calls of an opening fails in turn before that, and the device
+/// comes back.
+fn opened<'b>(
+    rt: &impl Abort,
+    mut disk: FuseDisk,
+    building: &'b Building,
+) -> Option<Keeper<'b, FuseDisk>> {
     for calls in 0..8 {
         disk.arm(calls);
-        let (refused, fault) = Keeper::open(disk, building).err().ok_or("opened")?;
+        let (refused, fault) = Keeper::open(disk, building).err()?;
         assert!(rt; fault == FAILED);
         disk = refused;
     }
-    Ok(disk)
-}
-
-/// Whether a reopening whose call after this many fails is refused, and leaves the keeper broken.
-fn is_refused(keeper: &mut Keeper<FuseDisk>, calls: u32) -> bool {
-    keeper.arm(calls);
-    keeper.reopen() == Err(FAILED) && keeper.is_broken()
+    disk.arm(8);
+    Keeper::open(disk, building).ok()
 }
 
 /// Each of the eight calls of an opening (the sync, the stamp, the pick, a gate and a body for each
 /// of two batches, and the closing gate) fails in turn, and the device comes back; with one call
-/// more it opens.
+/// more it opens. The same of a reopening, which leaves the keeper broken.
 #[test]
-fn tells_of_a_failing_device(rt: HostRuntime) -> Result<(), Fail> {
-    let building = demo(rt.alloc(), 1)?;
-    let disk = with_two(rt.alloc(), &building)?;
-    let mut disk = refuse_openings(&rt, disk, &building)?;
-    disk.arm(8);
-    let mut keeper = Keeper::open(disk, &building).ok().ok_or("refused")?;
+fn tells_of_a_failing_device(rt: HostRuntime) {
+    let building = of_one_car(&rt);
+    let mut keeper = opened(&rt, with_two(&rt, &building), &building).expect(&rt, "a keeper");
     assert!(rt; keeper.register().open_count() == 1);
     for calls in 0..8 {
-        assert!(rt; is_refused(&mut keeper, calls));
+        keeper.arm(calls);
+        assert!(rt; (keeper.reopen() == Err(FAILED)) & keeper.is_broken());
     }
     keeper.arm(8);
-    assert!(rt; keeper.reopen() == Ok(()) && keeper.register().open_count() == 1);
-    Ok(())
+    assert!(rt; (keeper.reopen() == Ok(())) & (keeper.register().open_count() == 1));
 }

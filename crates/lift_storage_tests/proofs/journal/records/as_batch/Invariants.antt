@@ -1,7 +1,7 @@
 use Rattle.std.proofs.Common.{◌≡◌, All, length}
 use Rattle.lift_base.specs.Records.{IsLawful}
 use Rattle.lift_journal.specs.Order.{IsEntry}
-use Rattle.lift_storage_tests.proofs.journal.records.batch.Given as goal
+use Rattle.lift_storage_tests.proofs.journal.records.as_batch.Given as goal
 
 abbrev pub invariant-loop-next : goal.invariant-loop-next
 invariant-loop-next l = record {
