@@ -1,16 +1,14 @@
 //! The files that the commands name: buildings, and the images of journals.
 
-ghost use Rattle.std.specs.Prelude.{◌≡◌, ◌≢◌, ◌≤◌, ◌+◌, ◌*◌, ◌∷◌, [], IfOk, IfErr, IfSome, OnOk};
-ghost use Rattle.std.specs.Prelude.{Err, false, length, vec_len};
+ghost use Rattle.std.specs.Prelude.{◌≡◌, ◌≢◌, ◌≤◌, ◌∷◌, [], Err, IfOk, IfErr, length};
 ghost use Rattle.std.specs.Str.{IsUtf8};
 ghost use Rattle.lift_disk.specs.FileCalls.FileCall.{Lock};
 ghost use Rattle.lift_disk.specs.Files.{IsMeasured, making_below, sector_file_state_of};
 ghost use Rattle.lift_disk.specs.Traced.{making_calls, to_be_read, to_be_used};
-ghost use Rattle.lift_replay.specs.Reading.{TakesUpTo};
-ghost use Rattle.lift_program.specs.Ends.{IsFileFault, IsUncalled};
+ghost use Rattle.lift_program.specs.Ends.{IsFileFault};
 ghost use Rattle.lift_program.specs.Images.{IsJustMade, IsTextRead};
 ghost use Rattle.lift_program.specs.Stages.{HasBuilding, HasNoImage, IsBuildingFault, IsImageFault};
-ghost use Rattle.lift_program.specs.Stages.{GivesNoText, IsNoText, most_text};
+ghost use Rattle.lift_program.specs.Stages.{IsNoText, most_text};
 ghost use Rattle.lift_program.specs.declared.fault.Role.TheVariants.{Building as OfBuilding};
 ghost use Rattle.lift_program.specs.declared.fault.Role.TheVariants.{Image as OfImage};
 
@@ -18,54 +16,12 @@ use crate::fault::{Fault, Role};
 use crate::left::{Left, Refused};
 use crate::opening::{ImageView, TextOpener};
 use crate::refused::{text_in, told_as};
+use crate::text::bytes_of;
 use crate::unwritten::{ShownImage, UnwrittenFile};
-use lift_base::text::Counted;
 use lift_building::Building;
 use lift_disk::{Buffered, FileFault, FileOpener, SectorFile};
-use lift_replay::{InputFault, MOST_BYTES, MOST_CALLS, read_all};
 use std::alloc::Global;
 use std::str;
-
-/// What a building's file comes to that couldn't be read.
-fn unread(fault: InputFault) -> Fault
-    ensures fault { IsFileFault OfBuilding result }
-    ensures unread { result ≡ Fault.File OfBuilding → fault ≡ InputFault.Read }
-    ensures wanting { result ≡ Fault.Memory tt → fault ≡ InputFault.Memory tt }
-{
-    match fault {
-        InputFault::Read => Fault::File(Role::Building),
-        InputFault::Memory(no_memory) => Fault::from(no_memory),
-    }
-}
-
-/// The bytes of a building's file, as many as a script may have. Reading stops after one byte more,
-/// and the file is refused then.
-fn bytes_of<B: TextOpener>(alloc: Global, reader: &mut Counted<B::Text>) -> Result<Vec<u8>, Fault>
-    requires uncalled { IsUncalled reader.old }
-    ensures whole { IfOk result (λ bytes.
-        IfSome (B.Text.remaining reader.old.reader) (λ all. bytes.items ≡ all)) }
-    ensures bound { IfOk result (λ bytes. vec_len bytes ≤ most_text) }
-    ensures taken { TakesUpTo (most_text + 1) B.Text.remaining reader.old.reader reader.new.reader }
-    ensures few_calls { reader.new.calls ≤ 2097152 }
-    ensures fault { IfErr result (IsFileFault OfBuilding) }
-    // The file is refused where a call failed, which was the last, or where it held a byte too many;
-    // it is out of memory only where no call failed.
-    ensures no_text { result ≡ Err (Fault.File OfBuilding)
-        → GivesNoText B.Text.remaining B.reads reader.old.reader reader.new.reader }
-    ensures wanting { result ≡ Err (Fault.Memory tt) → reader.new.failed ≡ false }
-    ensures unfailed { OnOk result (reader.new.failed ≡ false) }
-{
-    match read_all(alloc, reader, MOST_BYTES, MOST_CALLS) {
-        Ok(bytes) => {
-            if bytes.len() > MOST_BYTES {
-                Err(Fault::File(Role::Building))
-            } else {
-                Ok(bytes)
-            }
-        }
-        Err(fault) => Err(unread(fault)),
-    }
-}
 
 /// The building that the bytes of its file spell.
 #[tactic(auto, using(crate::proofs::Stages::building_no_file, crate::proofs::Stages::first_fault, crate::proofs::Stages::has_building))]
@@ -97,7 +53,8 @@ pub fn building_in<B: TextOpener>(opener: B, alloc: Global, path: &str) -> Resul
         (IsNoText (B.opens opener path.now) B.Text.remaining B.reads)) }
 {
     let text = text_in(opener, path)?;
-    let bytes = bytes_of::<B>(alloc, &mut Counted::new(text))?;
+    let (_left, outcome) = bytes_of::<B>(alloc, text);
+    let bytes = outcome?;
     building_of(alloc, &bytes)
 }
 

@@ -19,7 +19,7 @@ use crate::left::{Left, Undone};
 use crate::listening::Listens;
 use crate::opening::{Files, FilesView, Openers, TextOpener};
 use crate::output::Outflow;
-use crate::ready::{Ready, ready_for};
+use crate::ready::{ForServing, Ready, ready_for};
 use crate::replay::replay;
 use crate::show::show;
 use crate::words::{Request, request_of};
@@ -38,7 +38,7 @@ use std::marker::PhantomData;
 #[derive(Drop)]
 pub struct Given<'w, B, I, L, S, R, E> {
     files: Files<B, I>,
-    socket: L,
+    socket: ForServing<L>,
     words: &'w [S],
     reader: R,
     told: PhantomData<E>,
@@ -47,7 +47,7 @@ pub struct Given<'w, B, I, L, S, R, E> {
 /// Does what the request asks for; but what is to be served is only made ready.
 #[inline(never)]
 fn done<'b, B: TextOpener, I: FileOpener, L: Listens, R: Read + Drop, W: Outflow, E: Write + Drop>(
-    openers: Openers<B, I, L>,
+    openers: Openers<B, I, ForServing<L>>,
     alloc: Global,
     place: &'b mut Option<Building>,
     request: Request<'_>,
@@ -144,7 +144,7 @@ impl<'w, B: TextOpener, I: FileOpener, L: Listens, S: AsStr, R: Read + Drop, E: 
         let Openers { files, socket } = openers;
         Given {
             files,
-            socket,
+            socket: ForServing::new(socket),
             words,
             reader,
             told: PhantomData,

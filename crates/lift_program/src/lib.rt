@@ -21,6 +21,7 @@ mod replay;
 mod serve;
 mod show;
 mod starting;
+mod text;
 mod unwritten;
 mod words;
 

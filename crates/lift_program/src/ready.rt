@@ -25,6 +25,28 @@ use lift_policy::Shipped;
 use lift_serve::{Listening, PreparedGroup};
 use std::alloc::Global;
 use std::io::Write;
+use std::marker::Model;
+
+/// What opens a serving's socket. Only what makes a serving ready asks it for one. Contracts see what
+/// opens it.
+#[derive(Drop)]
+pub(crate) struct ForServing<L> {
+    opener: L,
+}
+
+impl<L> Model for ForServing<L> {
+    ghost Value = { L };
+
+    ghost view = { λ s. s.opener };
+}
+
+impl<L> ForServing<L> {
+    pub(crate) fn new(opener: L) -> Self
+        ensures { result ≡ opener }
+    {
+        ForServing { opener }
+    }
+}
 
 /// A building that is to be served on a port. It can't be let go: `serve` alone takes it. Whoever
 /// serves it tells an `E` that the device failed.
@@ -51,12 +73,12 @@ fn say<W: Outflow>(port: u16, writer: &mut W) -> Result<(), Fault>
 }
 
 /// A socket that listens on this machine alone.
-fn listen_here<L: Listens>(socket: L, port: u16) -> Result<Listening, Fault>
+fn listen_here<L: Listens>(socket: ForServing<L>, port: u16) -> Result<Listening, Fault>
     ensures here { IfOk result (λ listening. L.gives socket local port (Some listening)) }
     ensures refused { OnErr result (L.gives socket local port None) }
     ensures fault { IfErr result (λ fault. fault ≡ Fault.Network) }
 {
-    match socket.listen([127, 0, 0, 1], port) {
+    match socket.opener.listen([127, 0, 0, 1], port) {
         Ok(listening) => Ok(listening),
         Err(_) => Err(Fault::Network),
     }
@@ -68,7 +90,7 @@ fn listen_here<L: Listens>(socket: L, port: u16) -> Result<Listening, Fault>
 #[inline(never)]
 #[tactic(auto, using(crate::proofs::Stages::nothing_written, crate::proofs::Writing::nothing_said, crate::proofs::Writing::said_front))]
 pub(crate) fn ready_for<'b, B: TextOpener, I: FileOpener, L: Listens, W: Outflow, E: Write + Drop>(
-    openers: Openers<B, I, L>,
+    openers: Openers<B, I, ForServing<L>>,
     alloc: Global,
     place: &'b mut Option<Building>,
     image: &str,

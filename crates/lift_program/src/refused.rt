@@ -4,7 +4,7 @@ ghost use Rattle.std.specs.Prelude.{◌≡◌, ◌≢◌, Ok, Err, Some, None, t
 ghost use Rattle.std.specs.Prelude.{IfOk, IfErr, IfSome, IfNone, OnOk, OnErr};
 ghost use Rattle.std.specs.Io.KnownBytes.{Keeps};
 ghost use Rattle.std.specs.IoError.{error_kind};
-ghost use Rattle.lift_program.specs.Ends.{IsFileFault};
+ghost use Rattle.lift_program.specs.Ends.{IsFileFault, IsUncalled};
 ghost use Rattle.lift_program.specs.Faults.{served_fault};
 ghost use Rattle.lift_program.specs.Stages.{IsImageFault, IsRefusedBySystem, IsTextRefused};
 ghost use Rattle.lift_program.specs.Words.{AreMatchesOf, AskForRequest, AsksNothing};
@@ -16,6 +16,7 @@ use crate::fault::{Fault, Role};
 use crate::grammar::grammar;
 use crate::opening::TextOpener;
 use crate::output::Outflow;
+use crate::text::OpenedText;
 use clap::ArgMatches;
 use clap::error::ErrorKind as WordsFault;
 use lift_disk::FileFault;
@@ -110,8 +111,9 @@ pub(crate) fn told_as<F: Drop, O: Drop>(cause: &FileFault<F, O>) -> Fault
 }
 
 /// What reads the file of a building.
-pub(crate) fn text_in<B: TextOpener>(opener: B, path: &str) -> Result<B::Text, Fault>
-    ensures opened { IfOk result (λ text. B.opens opener path.now (Ok text)) }
+pub(crate) fn text_in<B: TextOpener>(opener: B, path: &str) -> Result<OpenedText<B::Text>, Fault>
+    ensures opened { IfOk result (λ text. B.opens opener path.now (Ok text.reader)) }
+    ensures uncalled { IfOk result IsUncalled }
     ensures refused { result ≡ Err (Fault.File OfBuilding) → IsTextRefused (B.opens opener path.now) }
     ensures fault { IfErr result (IsFileFault OfBuilding) }
     // Memory is told just where the system said so.
@@ -119,7 +121,7 @@ pub(crate) fn text_in<B: TextOpener>(opener: B, path: &str) -> Result<B::Text, F
         (IsRefusedBySystem OfBuilding (λ error. B.opens opener path.now (Err error))) }
 {
     match opener.open_text(path) {
-        Ok(text) => Ok(text),
+        Ok(text) => Ok(OpenedText::new(text)),
         Err(error) => Err(told(Role::Building, &error)),
     }
 }
