@@ -134,12 +134,15 @@ fn add_segments<W: Outlet>(
         (string_bytes piece.new)) }
 {
     let mut lines = Lines::new(text);
-    let mut keeper = first_keeper(alloc, building)?;
+    let mut keeper = match first_keeper(alloc, building) {
+        Ok(first) => first,
+        Err(no_memory) => return Err(ReplayFault::Memory(no_memory)),
+    };
     for _ in 0..=text.len() {
-        let end = add_segment(alloc, building, keeper, &mut lines, piece, writer)?;
-        match end {
-            SegmentEnd::Run(verdict) => return Ok(verdict),
-            SegmentEnd::Cut(recovered) => keeper = recovered,
+        match add_segment(alloc, building, keeper, &mut lines, piece, writer) {
+            Ok(SegmentEnd::Run(verdict)) => return Ok(verdict),
+            Ok(SegmentEnd::Cut(recovered)) => keeper = recovered,
+            Err(fault) => return Err(fault),
         }
     }
     unreachable!()
