@@ -15,6 +15,7 @@ use std::alloc::Global;
 use std::io::Read;
 
 /// Carries out the script that the reader gives, and writes its report.
+#[inline(never)]
 pub fn replay<R: Read + Drop, W: Outflow>(
     alloc: Global,
     input: &mut Counted<R>,
