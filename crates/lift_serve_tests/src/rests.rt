@@ -6,6 +6,7 @@ use lift_base::Terminal;
 use lift_desk::{Desk, DeskParts, Seat};
 use lift_kiosk::DeskPort;
 use lift_serve::Pager;
+use std::io;
 use std::sync::Wait;
 use std::test::Fail;
 use std::time::{Clock, Duration, Instant};
@@ -84,5 +85,39 @@ fn a_rest_waits_for_no_answer(rt: HostRuntime) -> Result<(), Fail> {
         shortest = shortest.min(rest(&rt, &pager)?);
     }
     assert!(rt; shortest < Duration::from_millis(10));
+    Ok(())
+}
+
+/// A system whose clock can't be read.
+#[derive(Drop)]
+struct Clockless<'r, R> {
+    rt: &'r R,
+}
+
+impl<R: Wait> Wait for Clockless<'_, R> {}
+
+impl<R: Clock> Clock for Clockless<'_, R> {
+    fn monotonic(&self) -> io::Result<Duration> {
+        Err(io::Error::from(io::ErrorKind::Unsupported))
+    }
+
+    fn since_1970(&self) -> io::Result<Duration> {
+        Err(io::Error::from(io::ErrorKind::Unsupported))
+    }
+
+    fn sleep(&self, duration: Duration) {
+        self.rt.sleep(duration);
+    }
+}
+
+/// A rest takes a millisecond where the clock can't be read, too.
+#[test]
+fn a_rest_without_a_clock(rt: HostRuntime) -> Result<(), Fail> {
+    let pager = Pager::new(Terminal::default());
+    let begun = Instant::now(&rt)?;
+    for _ in 0..RESTS {
+        pager.rest(&Clockless { rt: &rt });
+    }
+    assert!(rt; begun.elapsed(&rt)? >= Duration::from_millis(u64::from(RESTS)));
     Ok(())
 }
