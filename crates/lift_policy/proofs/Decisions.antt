@@ -16,10 +16,10 @@ use Rattle.lift_building.specs.Plan.{Plan}
 use Rattle.lift_register.specs.Register.{last_of}
 use Rattle.lift_policy.specs.Eligible.{Rise, Choice}
 use Rattle.lift_policy.specs.Step.{State, Step, Proceeds, Allots, Repeats, view_of, call_at, cars_for, first_cause, is_new, is_same, next_from}
-use Rattle.lift_policy.specs.Decision.{Decision, Pick, etd_pick, fewest_open_pick, shortest_wait_pick, refusing, allotting, repeating, proceeding, decision_after, decision_by}
+use Rattle.lift_policy.specs.Decision.{Decision, Pick, least_pick, refusing, allotting, repeating, proceeding, decision_after, decision_by}
 use Rattle.lift_cost.specs.declared.call.NewCall.{NewCall}
 use Rattle.lift_policy.specs.View.{ViewState}
-use Rattle.lift_policy.specs.Choices.{IsFirstLeast, IsEtdChoice, IsFewestOpen, IsShortestWait, first_least, total_cost_at, open_at, wait_at}
+use Rattle.lift_policy.specs.Choices.{Measure, PicksLeast}
 use Rattle.lift_policy.proofs.Picks.{first_least-exact, first_least-some, first_least-member}
 use Rattle.lift_policy.proofs.Letters.{eligible_cars-rise}
 use Rattle.lift_policy.specs.lemmas.Steps.{NoCause, no_cause, IsRepeat, repeated, HasStepped, has_stepped, Proceeded, WasRefused}
@@ -153,25 +153,10 @@ Step-decision choice pick picked plan state terminal number body reply next = (
   λ h. decided_steps plan choice pick picked state terminal number body reply next (first_cause plan state terminal number body) refl h,
 )
 
--- the three policies leave no choice
-least_picked : (choice : Choice) (pick : Pick) (measure : Plan → ViewState → NewCall → ℕ → ℕ)
-    → ((plan : Plan) (view : ViewState) (call : NewCall) (eligible : List ℕ) (car : ℕ) → choice plan view call eligible car ↔ IsFirstLeast (measure plan view call) eligible car)
-    → ((plan : Plan) (view : ViewState) (call : NewCall) (eligible : List ℕ) → pick plan view call eligible ≡ first_least (measure plan view call) eligible)
-    → IsPickedBy choice pick
-least_picked choice pick measure is by = record {
-  exact = λ plan view call eligible car rising.
-      let e = first_least-exact (measure plan view call) 0 eligible car rising in
-      let i = is plan view call eligible car in
-      (λ h. by plan view call eligible ∙ e.0 (i.0 h), λ h. i.1 (e.1 (sym (by plan view call eligible) ∙ h)));
-  some = λ plan view call eligible h. let P : Option ℕ → Type 0 = λ o. IsSome o in subst P (sym (by plan view call eligible)) (first_least-some (measure plan view call) eligible h);
-  member = λ plan view call eligible car h. first_least-member (measure plan view call) eligible car (sym (by plan view call eligible) ∙ h);
+-- who picks the least leaves no choice
+pub least_picked : (measure : Measure) → IsPickedBy (PicksLeast measure) (least_pick measure)
+least_picked measure = record {
+  exact = λ plan view call eligible car rising. first_least-exact (measure plan view call) 0 eligible car rising;
+  some = λ plan view call eligible h. first_least-some (measure plan view call) eligible h;
+  member = λ plan view call eligible car h. first_least-member (measure plan view call) eligible car h;
 }
-
-pub etd_picked : IsPickedBy IsEtdChoice etd_pick
-etd_picked = least_picked IsEtdChoice etd_pick total_cost_at (λ plan view call eligible car. (λ h. h, λ h. h)) (λ plan view call eligible. refl)
-
-pub fewest_open_picked : IsPickedBy IsFewestOpen fewest_open_pick
-fewest_open_picked = least_picked IsFewestOpen fewest_open_pick (λ plan view call. open_at view) (λ plan view call eligible car. (λ h. h, λ h. h)) (λ plan view call eligible. refl)
-
-pub shortest_wait_picked : IsPickedBy IsShortestWait shortest_wait_pick
-shortest_wait_picked = least_picked IsShortestWait shortest_wait_pick wait_at (λ plan view call eligible car. (λ h. h, λ h. h)) (λ plan view call eligible. refl)

@@ -1,5 +1,5 @@
 -- Which car each of the three policies picks.
-use Rattle.std.specs.Prelude.{ℕ, ◌≡◌, ◌≤◌, List, [], ◌∷◌, All, Contains, nat_lt, if◌then◌else◌}
+use Rattle.std.specs.Prelude.{ℕ, ◌≡◌, ◌≤◌, List, [], ◌∷◌, All, Contains, nat_lt, if◌then◌else◌, codes}
 use Rattle.std.specs.Prelude.{Option, Some, None, option_map}
 use Rattle.std.specs.Option.{option_map_or}
 use Rattle.lift_base.specs.declared.travel.Position.{Position}
@@ -13,6 +13,10 @@ use Rattle.lift_policy.specs.View.{ViewState, position_of}
 use Rattle.lift_policy.specs.Eligible.{Choice}
 use Rattle.lift_policy.specs.declared.policies.Shipped.{Shipped}
 use Rattle.lift_policy.specs.declared.policies.Shipped.TheVariants.{Etd, FewestOpen, ShortestWait}
+
+-- what a policy measures of a car
+abbrev pub Measure : Type 0
+Measure = Plan → ViewState → NewCall → ℕ → ℕ
 
 -- of these cars the one with the least measure; of several such, the one with the lowest letter
 pub record IsFirstLeast (measure : ℕ → ℕ) (eligible : List ℕ) (car : ℕ) : Type 0 where
@@ -48,23 +52,33 @@ wait_at plan view call car =
 abbrev pub open_at : ViewState → ℕ → ℕ
 open_at view car = persons_of (rows_of view.register car)
 
+-- of the eligible cars the one that measures least
+abbrev pub PicksLeast : Measure → Choice
+PicksLeast measure plan view call eligible car = IsFirstLeast (measure plan view call) eligible car
+
 -- the least total cost of all eligible cars
 abbrev pub IsEtdChoice : Choice
-IsEtdChoice plan view call eligible car = IsFirstLeast (total_cost_at plan view call) eligible car
+IsEtdChoice = PicksLeast total_cost_at
 
 -- the fewest persons with open calls
 abbrev pub IsFewestOpen : Choice
-IsFewestOpen plan view call eligible car = IsFirstLeast (open_at view) eligible car
+IsFewestOpen = PicksLeast (λ plan view call. open_at view)
 
 -- the earliest arrival where the passengers wait
 abbrev pub IsShortestWait : Choice
-IsShortestWait plan view call eligible car = IsFirstLeast (wait_at plan view call) eligible car
+IsShortestWait = PicksLeast wait_at
 
 -- each of the three picks as it does alone
 abbrev pub IsShipped : Shipped → Choice
 IsShipped (Etd policy) = IsEtdChoice
 IsShipped (FewestOpen policy) = IsFewestOpen
 IsShipped (ShortestWait policy) = IsShortestWait
+
+-- how each is named
+abbrev pub name_of : Shipped → List ℕ
+name_of (Etd policy) = codes "etd"
+name_of (FewestOpen policy) = codes "fewest"
+name_of (ShortestWait policy) = codes "wait"
 
 pub IsShipped-member : (policy : Shipped) (plan : Plan) (view : ViewState) (call : NewCall)
     (eligible : List ℕ) (car : ℕ)

@@ -16,7 +16,7 @@ use Rattle.lift_register.specs.Register.{last_of}
 use Rattle.lift_cost.specs.declared.call.NewCall.{NewCall}
 use Rattle.lift_policy.specs.Terminals.{kiosk_floor}
 use Rattle.lift_policy.specs.View.{ViewState}
-use Rattle.lift_policy.specs.Choices.{first_least, total_cost_at, open_at, wait_at}
+use Rattle.lift_policy.specs.Choices.{Measure, first_least, total_cost_at}
 use Rattle.lift_policy.specs.Step.{State, view_of, first_cause, is_new, call_at, cars_for}
 use Rattle.lift_policy.specs.Step.{accepting, with_car_at, stopping, next_from}
 
@@ -77,12 +77,10 @@ abbrev pub decision_by : Pick → Plan → State → ℕ → ℕ → Body → De
 decision_by pick plan state terminal number body =
     decision_after (first_cause plan state terminal number body) pick plan state terminal number body
 
--- what each of the three policies picks: the least measure, and the lowest letter of several
+-- the least measure; of several such, the lowest letter
+abbrev pub least_pick : Measure → Pick
+least_pick measure plan view call eligible = first_least (measure plan view call) eligible
+
+-- that of the least total cost
 abbrev pub etd_pick : Pick
-etd_pick plan view call eligible = first_least (total_cost_at plan view call) eligible
-
-abbrev pub fewest_open_pick : Pick
-fewest_open_pick plan view call eligible = first_least (open_at view) eligible
-
-abbrev pub shortest_wait_pick : Pick
-shortest_wait_pick plan view call eligible = first_least (wait_at plan view call) eligible
+etd_pick = least_pick total_cost_at

@@ -1,6 +1,6 @@
 //! What every decision keeps.
-ghost use Rattle.lift_policy.specs.Choices.{IsEtdChoice, IsFewestOpen, IsShortestWait};
-ghost use Rattle.lift_policy.specs.Decision.{etd_pick, fewest_open_pick, shortest_wait_pick};
+ghost use Rattle.lift_policy.specs.Choices.{Measure, PicksLeast};
+ghost use Rattle.lift_policy.specs.Decision.{least_pick};
 ghost use Rattle.lift_policy.specs.Laws.{StepsJoinAtMostOne, RefusalsAreFirstCauses, StepsAreKnown};
 ghost use Rattle.lift_policy.specs.Laws.{StepsKeepStates, StepsTell, RunsJoin, StepsAreDecisions};
 
@@ -18,9 +18,8 @@ pub fn decisions_keep<P: Policy>(policy: &P)
     let _ = policy;
 }
 
-/// The three policies leave no choice: what is decided under each is what a function computes.
+/// Who picks the least leaves no choice, as the three policies do: what is decided is what a function
+/// computes.
 pub fn decisions_are_computed()
-    ensures etd { StepsAreDecisions IsEtdChoice etd_pick }
-    ensures fewest_open { StepsAreDecisions IsFewestOpen fewest_open_pick }
-    ensures shortest_wait { StepsAreDecisions IsShortestWait shortest_wait_pick }
+    ensures { (measure : Measure) → StepsAreDecisions (PicksLeast measure) (least_pick measure) }
 {}

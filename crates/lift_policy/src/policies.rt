@@ -1,11 +1,12 @@
 //! The three policies, and one of them.
-ghost use Rattle.std.specs.Prelude.{ℕ, ◌≡◌, ◌<◌, List, Contains, length};
+ghost use Rattle.std.specs.Prelude.{ℕ, ◌≡◌, ◌≢◌, ◌<◌, List, Contains, IfSome, IfNone, length};
 ghost use Rattle.lift_building.specs.Plan.{Plan};
 ghost use Rattle.lift_cost.specs.declared.call.NewCall.{NewCall as Call};
 ghost use Rattle.lift_policy.specs.View.{ViewState, IsViewIn};
 ghost use Rattle.lift_policy.specs.Choices.{IsFirstLeast, cost_at, total_cost_at, wait_at, open_at};
 ghost use Rattle.lift_policy.specs.Choices.{IsEtdChoice, IsFewestOpen, IsShortestWait};
-ghost use Rattle.lift_policy.specs.Choices.{IsShipped, IsShipped-member};
+ghost use Rattle.lift_policy.specs.Choices.{IsShipped, IsShipped-member, name_of};
+ghost use Rattle.lift_policy.specs.declared.policies.Shipped.{Shipped as ShippedValue};
 ghost use Rattle.lift_policy.specs.Least.{IsFirstLeastAt};
 
 use crate::eligible::Eligible;
@@ -39,6 +40,24 @@ pub enum Shipped {
     FewestOpen(FewestOpen),
     /// The earliest arrival at the call's floor.
     ShortestWait(ShortestWait),
+}
+
+impl Shipped {
+    /// The policy of a name: `etd`, `fewest` or `wait`.
+    pub fn named(name: &str) -> Option<Shipped>
+        ensures some { IfSome result (λ policy. name.now ≡ name_of policy) }
+        ensures none { IfNone result ((policy : ShippedValue) → name.now ≢ name_of policy) }
+    {
+        if name == "etd" {
+            Some(Shipped::Etd(Etd))
+        } else if name == "fewest" {
+            Some(Shipped::FewestOpen(FewestOpen))
+        } else if name == "wait" {
+            Some(Shipped::ShortestWait(ShortestWait))
+        } else {
+            None
+        }
+    }
 }
 
 /// What a policy measures of each eligible car, to pick the least.

@@ -7,7 +7,7 @@ use Rattle.clap.specs.Words.{subcommand_of, subcommand_rows_of}
 use Rattle.clap.specs.declared.builder.command.Command.{Command}
 use Rattle.clap.specs.declared.parser.matches.ArgMatches.{ArgMatches}
 use Rattle.lift_policy.specs.declared.policies.Shipped.{Shipped}
-use Rattle.lift_policy.specs.declared.policies.Shipped.TheVariants.{Etd, FewestOpen, ShortestWait}
+use Rattle.lift_policy.specs.Choices.{name_of}
 use Rattle.lift_program.specs.declared.words.Request.{Request}
 use Rattle.lift_program.specs.declared.words.Request.TheVariants.{Replay, Format, Show, Serve}
 
@@ -91,16 +91,10 @@ abbrev pub IsCount : (most : ℕ) → Option Text → ℕ → Type 0
 IsCount most None count = ⊥
 IsCount most (Some word) count = (word ≡ decimal count) × (1 ≤ count) × (count ≤ most)
 
--- how a policy is named
-abbrev pub IsPolicyWord : Text → Shipped → Type 0
-IsPolicyWord word (Etd policy) = word ≡ codes "etd"
-IsPolicyWord word (FewestOpen policy) = word ≡ codes "fewest"
-IsPolicyWord word (ShortestWait policy) = word ≡ codes "wait"
-
 -- the policy that the option's word names: without one, that of the least cost
 abbrev pub IsPolicy : Option Text → Shipped → Type 0
-IsPolicy None policy = IsPolicyWord (codes "etd") policy
-IsPolicy (Some word) policy = IsPolicyWord word policy
+IsPolicy None policy = codes "etd" ≡ name_of policy
+IsPolicy (Some word) policy = word ≡ name_of policy
 
 -- what the words behind `serve` ask for
 abbrev pub IsServe : List Row → Request → Type 0

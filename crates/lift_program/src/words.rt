@@ -4,13 +4,13 @@ ghost use Rattle.std.specs.Prelude.{◌≡◌, ◌≤◌, ◌↔◌, ℕ, map, o
 ghost use Rattle.clap.specs.Words.{Text, rows_of, found_of, subcommand_rows_of};
 ghost use Rattle.lift_program.specs.Words.{AskForRequest, AsksForHelp, AsksNothing, IsCount, IsFor};
 ghost use Rattle.lift_program.specs.Words.{IsFormat, IsShow, IsHalf, IsRequestInRange, IsOver};
-ghost use Rattle.lift_program.specs.Words.{IsPolicy, IsPolicyWord, IsServe};
+ghost use Rattle.lift_program.specs.Words.{IsPolicy, IsServe};
 ghost use Rattle.lift_policy.specs.declared.policies.Shipped.{Shipped as ShippedValue};
 
 use crate::refused::{NoMemory, matches_of};
 use clap::ArgMatches;
 use lift_base::text::number_up_to;
-use lift_policy::{Etd, FewestOpen, Shipped, ShortestWait};
+use lift_policy::{Etd, Shipped};
 use std::alloc::Global;
 use std::convert::AsStr;
 
@@ -117,22 +117,6 @@ fn count_of(word: Option<&str>, most: u32) -> Option<u32>
     if count < 1 { None } else { Some(count) }
 }
 
-/// The policy that a word names.
-fn policy_named(word: &str) -> Option<Shipped>
-    ensures some { IfSome result (λ policy. IsPolicyWord word.now policy) }
-    ensures none { IfNone result ((policy : ShippedValue) → IsPolicyWord word.now policy → ⊥) }
-{
-    if word == "etd" {
-        Some(Shipped::Etd(Etd))
-    } else if word == "fewest" {
-        Some(Shipped::FewestOpen(FewestOpen))
-    } else if word == "wait" {
-        Some(Shipped::ShortestWait(ShortestWait))
-    } else {
-        None
-    }
-}
-
 /// The policy that an option's word names; that of the least cost where it is absent.
 fn policy_of(word: Option<&str>) -> Option<Shipped>
     ensures some { IfSome result (λ policy. IsPolicy (option_map (λ w. w.now) word.entry) policy) }
@@ -141,7 +125,7 @@ fn policy_of(word: Option<&str>) -> Option<Shipped>
 {
     match word {
         None => Some(Shipped::Etd(Etd)),
-        Some(word) => policy_named(word),
+        Some(word) => Shipped::named(word),
     }
 }
 
