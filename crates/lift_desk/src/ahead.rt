@@ -11,7 +11,7 @@ ghost use Rattle.lift_desk.specs.Seats.{placed_at, place_of, TakesAheadOf, IsTol
 use crate::looker::{ASK, DeskTable, Looker};
 use crate::note::Note;
 use crate::seat::Seat;
-use crate::view::{LooksAhead, Notes};
+use crate::view::{AskLoadAhead, Notes};
 use crate::words::{Ask, read_ask, turn_of};
 use std::marker::Model;
 use std::mem;
@@ -74,7 +74,7 @@ impl AheadPlace {
             → IsSome result × (turn_of (last_of self.new.view.taken) ≡ length self.old.view.told
             → result ≡ Some ask) }
     {
-        let word = self.looker.load::<LooksAhead>(table, ASK);
+        let word = self.looker.load::<AskLoadAhead>(table, ASK);
         let turn = turn_of(word);
         if turn <= self.turn {
             return None;

@@ -15,7 +15,7 @@ use crate::ahead::AheadPlace;
 use crate::looker::{ANSWER, ASK, DeskTable, Looker};
 use crate::note::Note;
 use crate::seat::Seat;
-use crate::view::{Ahead, Answers, Looks, Notes};
+use crate::view::{AheadSeats, AnswerStore, AskLoad, Notes};
 use crate::words::{Ask, read_ask, reply_word, turn_of};
 use lift_base::{Number, Reply};
 use std::marker::Model;
@@ -101,7 +101,7 @@ impl Place {
             → (result ≡ Some ask) × (self.new.view.taken ≡ self.old.view.taken ++ n.word ∷ [])) }
     {
         read_note(table, &mut self.looker, note);
-        let word = self.looker.load::<Looks>(table, ASK);
+        let word = self.looker.load::<AskLoad>(table, ASK);
         let turn = turn_of(word);
         if turn <= self.turn {
             return None;
@@ -124,7 +124,7 @@ impl Place {
         ensures rests { ¬ (Owes self.new.view) }
     {
         let word = reply_word(self.turn, self.number, reply);
-        self.looker.store::<Answers>(table, ANSWER, word);
+        self.looker.store::<AnswerStore>(table, ANSWER, word);
         self.owes = false;
         self.answered = word;
     }
@@ -177,7 +177,7 @@ impl Place {
         ensures same { self.new ≡ self.old }
         ensures ahead { result ≡ placed_at self.old.table (taken_only self.old.view) }
     {
-        let ahead = self.looker.split::<Ahead>(table);
+        let ahead = self.looker.split::<AheadSeats>(table);
         AheadPlace::new(ahead, self.turn)
     }
 
@@ -189,6 +189,6 @@ impl Place {
             × (ahead.table ≡ self.old.table) }
         ensures { self.new ≡ self.old }
     {
-        self.looker.join::<Ahead>(table, ahead.into_looker());
+        self.looker.join::<AheadSeats>(table, ahead.into_looker());
     }
 }

@@ -13,7 +13,8 @@ ghost use Rattle.lift_desk.specs.Rule.{clerk_part, terminal_view, no_asks, IsInO
 
 use crate::looker::{ANSWER, ASK, DeskTable, Looker};
 use crate::view::{
-    AheadParts, Asks, Compares, ComparesAhead, DeskRule, Hears, Meets, Parts, Seats, View,
+    AheadComparison, AnswerLoad, AskStore, Comparison, DeskRule, LastAnswerLoad, Seats,
+    UntoldAheadSeat, UntoldSeats, View,
 };
 use crate::words::{ask_word, read_reply, turn_of};
 use lift_base::{Body, Number, Reply, Terminal};
@@ -106,7 +107,7 @@ impl Seat {
         }
         let turn = self.turn + 1;
         let word = ask_word(turn, number, body);
-        self.looker.store::<Asks>(table, ASK, word);
+        self.looker.store::<AskStore>(table, ASK, word);
         self.turn = turn;
         self.number = number;
         self.waits = true;
@@ -125,7 +126,7 @@ impl Seat {
         ensures known { IsPrefix self.old.view.told self.new.view.heard }
         ensures finds { (reply : Reply) → IsToldAnswer self.old.view reply → result ≡ Some reply }
     {
-        let word = self.looker.load::<Hears>(table, ANSWER);
+        let word = self.looker.load::<AnswerLoad>(table, ANSWER);
         if !self.waits || turn_of(word) != self.turn {
             return None;
         }
@@ -146,7 +147,7 @@ impl Seat {
         ensures in_order { IsInOrder (lists_of self.old.view clerk.view.clerk) }
     {
         self.looker.join::<Seats>(table, clerk);
-        self.looker.load::<Compares>(table, ASK);
+        self.looker.load::<Comparison>(table, ASK);
         self.looker.split::<Seats>(table)
     }
 
@@ -165,8 +166,8 @@ impl Seat {
         } }
     {
         self.looker.join::<Seats>(table, clerk);
-        let word = self.looker.load::<Meets>(table, ANSWER);
-        (word, self.looker.split::<Parts>(table))
+        let word = self.looker.load::<LastAnswerLoad>(table, ANSWER);
+        (word, self.looker.split::<UntoldSeats>(table))
     }
 
     // Takes the rights of a seat ahead, compares what it took with what was asked, and gives them
@@ -183,7 +184,7 @@ impl Seat {
         ensures asked { IsAhead self.old.view.asked ahead.view.clerk.taken }
     {
         self.looker.join::<Seats>(table, ahead);
-        self.looker.load::<ComparesAhead>(table, ASK);
-        self.looker.split::<AheadParts>(table)
+        self.looker.load::<AheadComparison>(table, ASK);
+        self.looker.split::<UntoldAheadSeat>(table)
     }
 }

@@ -14,7 +14,7 @@ use std::io;
 /// A file that was opened, and of which a call then failed by which it was to become a device. It
 /// is as that call left it.
 #[derive(Drop)]
-pub struct Stopped<F: Drop> {
+pub struct StoppedFile<F: Drop> {
     pub error: io::Error,
     pub file: F,
 }
@@ -29,7 +29,7 @@ pub enum FileFault<F: Drop, O: Drop> {
     /// The system refused to open it.
     Unopened(io::Error),
     /// It was opened, and then a call of it failed, or its folder couldn't be made safe.
-    Stopped(Stopped<F>),
+    Stopped(StoppedFile<F>),
 }
 
 /// How many whole sectors a file of this many bytes has, 4,294,967,295 at most.

@@ -10,7 +10,7 @@ ghost use Rattle.lift_disk.specs.FileCalls.FileCall.{Read, ReadSectors, Write, S
 ghost use Rattle.lift_disk.specs.FileCalls.FileCall.{GetLength, Lock, SetLength, SyncAll};
 
 use crate::DiskFault;
-use crate::file::Stopped;
+use crate::file::StoppedFile;
 use crate::file_calls::{Called, ProofFileCalls};
 use crate::opener::FileOpener;
 use crate::told::ToldFile;
@@ -138,7 +138,7 @@ impl<F: ToldFile + Drop> TracedFile<F> {
     /// A file that was opened to be read and written, made into one of this many sectors of zeros,
     /// where its lock is free. Each is written, so that the file has its room. Where a call
     /// fails none is made after it, and the file comes back as it was left.
-    pub fn zeroed(file: F, sectors: u32) -> Result<TracedFile<F>, Stopped<F>>
+    pub fn zeroed(file: F, sectors: u32) -> Result<TracedFile<F>, StoppedFile<F>>
         ensures led { IfOk result (λ made.
             LeadsBy F.gives (making_calls sectors) file (file_of made)) }
         ensures honest { IfOk result (λ made.
@@ -189,7 +189,7 @@ impl<F: ToldFile + Drop> TracedFile<F> {
 
     /// A file that was opened to be read and written, once its lock was taken, and its length in
     /// bytes. Where a call fails none is made after it, and the file comes back as it was left.
-    pub fn locked(file: F) -> Result<(TracedFile<F>, u64), Stopped<F>>
+    pub fn locked(file: F) -> Result<(TracedFile<F>, u64), StoppedFile<F>>
         ensures told { IfOk result (λ opened. IsOpenedBy F.gives F.holds
             (Lock ∷ GetLength opened.1 ∷ []) file opened.1 opened.0) }
         ensures stopped { IfErr result (λ stopped. (bytes : ℕ)
@@ -203,7 +203,7 @@ impl<F: ToldFile + Drop> TracedFile<F> {
     }
 
     /// A file that was opened to be read, and its length in bytes, likewise.
-    pub fn measured(file: F) -> Result<(TracedFile<F>, u64), Stopped<F>>
+    pub fn measured(file: F) -> Result<(TracedFile<F>, u64), StoppedFile<F>>
         ensures told { IfOk result (λ opened. IsOpenedBy F.gives F.holds
             (GetLength opened.1 ∷ []) file opened.1 opened.0) }
         ensures stopped { IfErr result (λ stopped. (bytes : ℕ)
@@ -221,7 +221,7 @@ impl<F: ToldFile + Drop> TracedFile<F> {
         self,
         folder: O::Folder,
         path: &str,
-    ) -> Result<TracedFile<F>, Stopped<F>>
+    ) -> Result<TracedFile<F>, StoppedFile<F>>
         ensures same { IfOk result (λ named. named ≡ self) }
         ensures named { IfOk result (λ named.
             O.names (O.opener_of folder) path.now (file_of named)) }
@@ -236,10 +236,10 @@ impl<F: ToldFile + Drop> TracedFile<F> {
     }
 
     /// The file itself, of which a call failed.
-    fn stopped(self, error: io::Error) -> Stopped<F>
+    fn stopped(self, error: io::Error) -> StoppedFile<F>
         ensures { result.file ≡ file_of self }
     {
-        Stopped {
+        StoppedFile {
             error,
             file: self.file,
         }

@@ -7,7 +7,7 @@ ghost use Rattle.lift_record.specs.Record.{IsSpellingOf, dir_byte};
 ghost use Rattle.lift_record.specs.declared.version.Version.{Version as VersionValue};
 ghost use Rattle.lift_journal.specs.Seen.{IsRecordsIn, IsTailOf};
 
-use crate::batch::Records;
+use crate::batch::RecordList;
 use crate::bytes::{put, sixteen};
 use arrayvec::ArrayVec;
 use lift_base::{Dir, Entry, Floor, Letter, Number, Record, push_some};
@@ -79,7 +79,7 @@ fn stop_of(bytes: &[u8; 16]) -> Option<Record>
 
 /// Adds the record that these bytes spell, if they spell one.
 #[inline(never)]
-fn push_decoded(version: Version, bytes: &[u8; 16], records: &mut Records) -> bool
+fn push_decoded(version: Version, bytes: &[u8; 16], records: &mut RecordList) -> bool
     requires room { length records.old.items < 63 }
     ensures pushed { IsTrue result → (content : RecordValue) × IsSpellingOf version bytes.now content
         × (records.new.items ≡ records.old.items ++ content ∷ []) }
@@ -93,7 +93,7 @@ fn push_decoded(version: Version, bytes: &[u8; 16], records: &mut Records) -> bo
 
 /// Adds the record that the text spells at this place, if one is spelled there. A stop takes fewer
 /// steps.
-fn push_next(version: Version, text: &[u8; 1024], at: usize, records: &mut Records) -> bool
+fn push_next(version: Version, text: &[u8; 1024], at: usize, records: &mut RecordList) -> bool
     requires whole { at + 16 ≤ 1024 }
     requires room { length records.old.items < 63 }
     ensures pushed { IsTrue result → (content : RecordValue)
@@ -112,7 +112,7 @@ fn push_next(version: Version, text: &[u8; 1024], at: usize, records: &mut Recor
 
 /// Puts this many records after the header of this text into a list, if they are spelled there.
 #[inline(never)]
-fn read_records(version: Version, text: &[u8; 1024], count: usize, records: &mut Records) -> bool
+fn read_records(version: Version, text: &[u8; 1024], count: usize, records: &mut RecordList) -> bool
     requires few { count ≤ 63 }
     requires empty { records.old.items ≡ [] }
     ensures some { IsTrue result
@@ -146,7 +146,7 @@ pub fn parse(
     count: usize,
     first: &[u8; 512],
     second: &[u8; 512],
-) -> Option<Records>
+) -> Option<RecordList>
     requires { count ≤ 63 }
     ensures some { IfSome result (λ records. (length records.items ≡ count)
         × IsTailOf version records.items (drop 16 (first.now ++ second.now))) }

@@ -49,8 +49,8 @@ use Rattle.lift_relay.specs.contracts.deciding.Scanner as Scanner
 use Rattle.lift_relay.specs.contracts.deciding.Scanner.TheInside as scanner_inside
 use Rattle.lift_relay.specs.contracts.allocator.Allocator as Allocator
 use Rattle.lift_relay.specs.contracts.allocator.Allocator.TheInside as allocator_inside
-use Rattle.lift_relay.specs.contracts.gate.Asking as Asking
-use Rattle.lift_relay.specs.contracts.gate.Asking.TheInside as asking_inside
+use Rattle.lift_relay.specs.contracts.gate.AskingAllocator as Asking
+use Rattle.lift_relay.specs.contracts.gate.AskingAllocator.TheInside as asking_inside
 use Rattle.lift_relay.specs.contracts.gate.Closed as Closed
 use Rattle.lift_relay.specs.contracts.gate.Closed.TheInside as closed_inside
 use Rattle.lift_relay.specs.contracts.pair.Allocating as Allocating

@@ -55,7 +55,7 @@ pub trait Gate {
 
 /// An allocator whose gate is to be asked.
 #[derive(Drop)]
-pub(crate) struct Asking<'d, 'b, P: Policy + Drop> {
+pub(crate) struct AskingAllocator<'d, 'b, P: Policy + Drop> {
     allocator: Allocator<'d, 'b, P>,
 }
 
@@ -71,7 +71,7 @@ pub(crate) struct Closed<'d, 'b, P: Policy + Drop> {
     allocator: Allocator<'d, 'b, P>,
 }
 
-impl<'d, 'b, P: Policy + Drop> Model for Asking<'d, 'b, P> {
+impl<'d, 'b, P: Policy + Drop> Model for AskingAllocator<'d, 'b, P> {
     ghost use Rattle.lift_parts.specs.Allocator.{AllocatorState};
 
     ghost Value = { AllocatorState P };
@@ -95,11 +95,11 @@ impl<'d, 'b, P: Policy + Drop> Model for Closed<'d, 'b, P> {
     ghost view = { λ s. s.allocator };
 }
 
-impl<'d, 'b, P: Policy + Drop> Asking<'d, 'b, P> {
+impl<'d, 'b, P: Policy + Drop> AskingAllocator<'d, 'b, P> {
     pub(crate) fn new(allocator: Allocator<'d, 'b, P>) -> Self
         ensures { result ≡ allocator.entry }
     {
-        Asking { allocator }
+        AskingAllocator { allocator }
     }
 
     /// Asks the gate.
@@ -142,13 +142,13 @@ impl<'d, 'b, P: Policy + Drop> Opened<'d, 'b, P> {
     }
 
     /// The turn.
-    pub(crate) fn turn<R: Wait>(self, rt: &R) -> Asking<'d, 'b, P>
+    pub(crate) fn turn<R: Wait>(self, rt: &R) -> AskingAllocator<'d, 'b, P>
         ensures { (counts : Counts)
             × IsAllocation (P.chooses self.entry.policy) self.entry result counts }
     {
         let mut allocator = self.allocator;
         let _counts = allocator.turn(rt);
-        Asking { allocator }
+        AskingAllocator { allocator }
     }
 }
 

@@ -73,9 +73,9 @@ impl Join<EndView> for Together {
 }
 
 // The same, and each learns where the other stands.
-struct Tells;
+struct EndsTold;
 
-impl Join<EndView> for Tells {
+impl Join<EndView> for EndsTold {
     ghost use Rattle.lift_relay.specs.Rule.{told_both, spent_pass};
 
     ghost both = { told_both };
@@ -84,27 +84,27 @@ impl Join<EndView> for Tells {
 }
 
 // What the queue holds, of a pass that both sends and receives.
-pub struct Holds;
+pub struct QueueContents;
 
-impl Lesson<Batch, EndView> for Holds {
+impl Lesson<Batch, EndView> for QueueContents {
     ghost use Rattle.lift_relay.specs.Rule.{HoldsUnreceived};
 
     ghost fact = { HoldsUnreceived };
 }
 
 // A batch without commands names the building, the desk and the first state.
-pub struct Names;
+pub struct FirstBatch;
 
-impl Outcome<Batch, EndView> for Names {
+impl Outcome<Batch, EndView> for FirstBatch {
     ghost use Rattle.lift_relay.specs.Rule.{Named};
 
     ghost then = { Named };
 }
 
 // The line has begun there.
-pub struct Begins;
+pub struct LineStart;
 
-impl Outcome<Batch, EndView> for Begins {
+impl Outcome<Batch, EndView> for LineStart {
     ghost use Rattle.lift_relay.specs.Rule.{Begun};
 
     ghost then = { Begun };
@@ -246,7 +246,7 @@ impl SendEnd {
             side: theirs,
             count,
         } = receiver;
-        let told = self.side.meet::<Tells>(theirs);
+        let told = self.side.meet::<EndsTold>(theirs);
         ReceiveEnd { side: told, count }
     }
 }

@@ -18,7 +18,7 @@ ghost use Rattle.lift_parts.specs.History.{GoesOnTo, group_behind};
 
 use crate::allocator::Allocator;
 use crate::flusher::Flusher;
-use crate::gate::{Asking, Closed, Gate};
+use crate::gate::{AskingAllocator, Closed, Gate};
 use crate::places::with_both;
 use crate::refused::{NoThread, spawn};
 use crate::witness::{HeardBy, Witness};
@@ -61,7 +61,7 @@ fn tell_of_allocator<R: Wait, G: Gate, P: Policy + Drop>(
 /// Turns while the gate goes on.
 fn allocate<'d, 'b, R: Wait, G: Gate, P: Policy + Drop>(
     rt: &R,
-    allocator: Asking<'d, 'b, P>,
+    allocator: AskingAllocator<'d, 'b, P>,
     gate: &G,
 ) -> Closed<'d, 'b, P>
     ensures turns { AllocatorTurns (P.chooses allocator.entry.policy) allocator.entry result }
@@ -170,12 +170,12 @@ fn drain<R: Wait, D: Disk, P: Policy + Drop, K: HeardBy<V>, V: Witness>(
 /// What the allocating thread gives back: the part as it was, or after its turns.
 #[derive(Drop)]
 enum Allocating<'d, 'b, P: Policy + Drop> {
-    Idle(Asking<'d, 'b, P>),
+    Idle(AskingAllocator<'d, 'b, P>),
     Ran(Closed<'d, 'b, P>),
 }
 
 #[derive(Drop)]
-struct OfPart<'d, 'b, P: Policy + Drop>(Snapshot<Asking<'d, 'b, P>>);
+struct OfPart<'d, 'b, P: Policy + Drop>(Snapshot<AskingAllocator<'d, 'b, P>>);
 
 impl<'d, 'b, P: Policy + Drop> Promise<Allocating<'d, 'b, P>> for OfPart<'d, 'b, P> {
     ghost use Rattle.lift_relay.specs.Pair.{ComesFrom};
@@ -187,7 +187,7 @@ impl<'d, 'b, P: Policy + Drop> Promise<Allocating<'d, 'b, P>> for OfPart<'d, 'b,
 fn allocate_if<'d, 'b, R: Wait, G: Gate, P: Policy + Drop>(
     rt: &R,
     may_run: &AtomicBool,
-    allocator: Asking<'d, 'b, P>,
+    allocator: AskingAllocator<'d, 'b, P>,
     gate: &G,
 ) -> Allocating<'d, 'b, P>
     ensures comes { ComesFrom (P.chooses allocator.entry.policy) allocator.entry result }
@@ -203,7 +203,7 @@ fn allocate_if<'d, 'b, R: Wait, G: Gate, P: Policy + Drop>(
 #[derive(Drop)]
 enum Turned<'d, 'b, P: Policy + Drop> {
     /// No thread could be made.
-    Refused(Asking<'d, 'b, P>, NoThread),
+    Refused(AskingAllocator<'d, 'b, P>, NoThread),
     /// They had, and this is the flusher's first fault.
     Done(Closed<'d, 'b, P>, Option<KeeperFault>),
 }
@@ -212,7 +212,7 @@ enum Turned<'d, 'b, P: Policy + Drop> {
 /// were.
 fn turn_both<'d, 'b, R, G, D, P, K, V>(
     rt: &R,
-    allocator: Asking<'d, 'b, P>,
+    allocator: AskingAllocator<'d, 'b, P>,
     mut flusher: Flusher<'d, 'b, D, K>,
     gate: &G,
     mut witness: V,
@@ -280,7 +280,7 @@ where
 /// As `run`, on parts by value.
 fn run_owned<'d, 'b, R, G, D, P, K, V>(
     rt: &R,
-    allocator: Asking<'d, 'b, P>,
+    allocator: AskingAllocator<'d, 'b, P>,
     flusher: Flusher<'d, 'b, D, K>,
     gate: &G,
     witness: V,
@@ -384,7 +384,7 @@ where
             ensures heard { FailureHeard V.hears
                 flusher.entry.writer.is_broken result.1.writer.is_broken witness result.2.0 }
             ensures closed { result.2.1 ≢ Some (RunFault.Spawn tt) → G.closed gate.entry.now }
-        { run_owned(rt, Asking::new(allocator), flusher, gate, witness) },
+        { run_owned(rt, AskingAllocator::new(allocator), flusher, gate, witness) },
     );
     flusher.compare(allocator);
     told

@@ -7,7 +7,7 @@ ghost use Rattle.lift_relay.specs.Rule.{IsLineKept, HoldsUnreceived, sending, re
 ghost use Rattle.lift_relay.specs.Side.{AreSides};
 
 use crate::batch::Batch;
-use crate::line::{Begins, EndView, Ends, Holds, InOrder, Names};
+use crate::line::{EndView, Ends, FirstBatch, InOrder, LineStart, QueueContents};
 use crossbeam_queue::protocol::{Join, Lesson, Outcome};
 use crossbeam_queue::{Pass, RuledArrayQueue};
 use lift_base::{Memory, queue_behind, two_owners};
@@ -46,7 +46,7 @@ impl Side {
     pub fn both(alloc: Global, first: Batch) -> Result<(Side, Side), Memory>
         ensures { IfOk result (λ sides. AreSides first sides.0 sides.1) }
     {
-        let (queue, mut pass) = queue_behind::<Batch, EndView, InOrder, Names, Begins>(
+        let (queue, mut pass) = queue_behind::<Batch, EndView, InOrder, FirstBatch, LineStart>(
             alloc, 4, first,
         )?;
         let other = queue.another::<Ends>(&mut pass);
@@ -149,7 +149,7 @@ impl Side {
             refused,
         } = other;
         self.line.absorb::<J>(&mut self.pass, pass);
-        self.line.learn_as::<Holds>(&mut self.pass);
+        self.line.learn_as::<QueueContents>(&mut self.pass);
         let pass = self.line.another::<Ends>(&mut self.pass);
         Side {
             line,
