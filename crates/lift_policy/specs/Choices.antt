@@ -75,10 +75,10 @@ IsShipped (FewestOpen policy) = IsFewestOpen
 IsShipped (ShortestWait policy) = IsShortestWait
 
 -- how each is named
-abbrev pub name_of : Shipped → List ℕ
-name_of (Etd policy) = codes "etd"
-name_of (FewestOpen policy) = codes "fewest"
-name_of (ShortestWait policy) = codes "wait"
+abbrev pub policy_name : Shipped → List ℕ
+policy_name (Etd policy) = codes "etd"
+policy_name (FewestOpen policy) = codes "fewest"
+policy_name (ShortestWait policy) = codes "wait"
 
 pub IsShipped-member : (policy : Shipped) (plan : Plan) (view : ViewState) (call : NewCall)
     (eligible : List ℕ) (car : ℕ)

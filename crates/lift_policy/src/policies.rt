@@ -5,7 +5,7 @@ ghost use Rattle.lift_cost.specs.declared.call.NewCall.{NewCall as Call};
 ghost use Rattle.lift_policy.specs.View.{ViewState, IsViewIn};
 ghost use Rattle.lift_policy.specs.Choices.{IsFirstLeast, cost_at, total_cost_at, wait_at, open_at};
 ghost use Rattle.lift_policy.specs.Choices.{IsEtdChoice, IsFewestOpen, IsShortestWait};
-ghost use Rattle.lift_policy.specs.Choices.{IsShipped, IsShipped-member, name_of};
+ghost use Rattle.lift_policy.specs.Choices.{IsShipped, IsShipped-member, policy_name};
 ghost use Rattle.lift_policy.specs.declared.policies.Shipped.{Shipped as ShippedValue};
 ghost use Rattle.lift_policy.specs.Least.{IsFirstLeastAt};
 
@@ -45,8 +45,8 @@ pub enum Shipped {
 impl Shipped {
     /// The policy of a name: `etd`, `fewest` or `wait`.
     pub fn named(name: &str) -> Option<Shipped>
-        ensures some { IfSome result (λ policy. name.now ≡ name_of policy) }
-        ensures none { IfNone result ((policy : ShippedValue) → name.now ≢ name_of policy) }
+        ensures some { IfSome result (λ policy. name.now ≡ policy_name policy) }
+        ensures none { IfNone result ((policy : ShippedValue) → name.now ≢ policy_name policy) }
     {
         if name == "etd" {
             Some(Shipped::Etd(Etd))

@@ -7,7 +7,7 @@ use Rattle.clap.specs.Words.{subcommand_of, subcommand_rows_of}
 use Rattle.clap.specs.declared.builder.command.Command.{Command}
 use Rattle.clap.specs.declared.parser.matches.ArgMatches.{ArgMatches}
 use Rattle.lift_policy.specs.declared.policies.Shipped.{Shipped}
-use Rattle.lift_policy.specs.Choices.{name_of}
+use Rattle.lift_policy.specs.Choices.{policy_name}
 use Rattle.lift_program.specs.declared.words.Request.{Request}
 use Rattle.lift_program.specs.declared.words.Request.TheVariants.{Replay, Format, Show, Serve}
 
@@ -93,8 +93,8 @@ IsCount most (Some word) count = (word ≡ decimal count) × (1 ≤ count) × (c
 
 -- the policy that the option's word names: without one, that of the least cost
 abbrev pub IsPolicy : Option Text → Shipped → Type 0
-IsPolicy None policy = codes "etd" ≡ name_of policy
-IsPolicy (Some word) policy = word ≡ name_of policy
+IsPolicy None policy = codes "etd" ≡ policy_name policy
+IsPolicy (Some word) policy = word ≡ policy_name policy
 
 -- what the words behind `serve` ask for
 abbrev pub IsServe : List Row → Request → Type 0
