@@ -37,10 +37,12 @@ use Rattle.lift_clerk.specs.Laws.{Laws}
 use Rattle.lift_clerk.specs.Answered.{AreApart}
 use Rattle.lift_clerk.specs.Steps.{DecidesOn, MayAdd}
 use Rattle.lift_clerk.specs.lemmas.Standing.{fresh}
-use Rattle.lift_clerk.specs.lemmas.Asked.{Asked, ask, reaches, rests, goes_behind}
+use Rattle.lift_world.specs.lemmas.Goes.{joined}
+use Rattle.lift_clerk.specs.lemmas.Asked.{Asked, ask, reaches, rests}
 use Rattle.lift_clerk.specs.lemmas.Turned.{splits, register_with, safe_all, decided_in}
 use Rattle.lift_clerk.proofs.Doubts.{was_safe, in_doubt}
-use Rattle.lift_clerk.specs.lemmas.Reopened.{with_nothing, begins_after_cut}
+use Rattle.lift_keeper.specs.lemmas.Keepers.{nothing_behind}
+use Rattle.lift_clerk.specs.lemmas.Reopened.{begins_after_cut}
 
 -- some power cut now would keep these entries, and the image reads as their register
 pub record IsKept (w : World) (entries : List Entry) (left : Image) : Type 0 where
@@ -85,12 +87,12 @@ kept_with_batch w plan register left b may r reads = record {
 }
 
 -- with no batch it is the register of what is safe
-kept_without : RegistersJoin → (w : World) (plan : Plan) (old : RegisterState) (batch : List Entry) (left : Image) → w.building ≡ plan → register_of w.base (safe_list w) ≡ old → batch ≡ []
+kept_without : (w : World) (plan : Plan) (old : RegisterState) (batch : List Entry) (left : Image) → w.building ≡ plan → register_of w.base (safe_list w) ≡ old → batch ≡ []
     → IsImageOf plan (register_of old batch) left → IsKept w (safe_list w ++ batch) left
-kept_without registers w plan old batch left b safe none reads =
+kept_without w plan old batch left b safe none reads =
     subst (λ (xs : List Entry). IsKept w xs left) (sym (append-nil (safe_list w)) ∙ ap (λ (xs : List Entry). safe_list w ++ xs) (sym none))
     (kept_safe w plan (register_of old batch) left b
-    (sym (with_nothing registers w.base (safe_list w)) ∙ ap (λ (x : RegisterState). register_of x []) safe ∙ ap (register_of old) (sym none)) reads)
+    (sym (nothing_behind w.base (safe_list w)) ∙ ap (λ (x : RegisterState). register_of x []) safe ∙ ap (register_of old) (sym none)) reads)
 
 module _ {D P : Type 0} (laws : Laws) (w : World) (clerk : ClerkState D P) (left : Image) (m : IsMachineOf w clerk) where
   abbrev plan : Plan
@@ -100,7 +102,7 @@ module _ {D P : Type 0} (laws : Laws) (w : World) (clerk : ClerkState D P) (left
   doubt = clerk.keeper.writer.doubt
 
   by_doubt : (br : ShowsBroken w clerk.keeper) (batch : List Entry) → doubt ≡ batch → IsImageOf plan (register_of clerk.keeper.writer.register doubt) left → IsKept w (safe_list w ++ doubt) left
-  by_doubt br [] d reads = kept_without laws.registers w plan clerk.keeper.writer.register doubt left m.building br.safe d reads
+  by_doubt br [] d reads = kept_without w plan clerk.keeper.writer.register doubt left m.building br.safe d reads
   by_doubt br (x ∷ xs) d reads =
       subst (λ (ys : List Entry). IsKept w (safe_list w ++ ys) left) br.doubt (kept_with_batch w plan (register_of clerk.keeper.writer.register doubt) left m.building
       (br.may_be_kept (λ none. let wrong : x ∷ xs ≡ [] = sym d ∙ none in cc))
@@ -108,7 +110,7 @@ module _ {D P : Type 0} (laws : Laws) (w : World) (clerk : ClerkState D P) (left
 
   by_state : (b : Bool) → clerk.keeper.writer.is_broken ≡ b → (either : IsInDoubt plan clerk.keeper.writer.register doubt left) → IsKept w (kept_after (safe_list w) doubt either) left
   by_state false e (inl reads) = kept_safe w plan clerk.keeper.writer.register left m.building (m.whole e).safe reads
-  by_state false e (inr reads) = kept_without laws.registers w plan clerk.keeper.writer.register doubt left m.building (m.whole e).safe (m.whole e).no_doubt reads
+  by_state false e (inr reads) = kept_without w plan clerk.keeper.writer.register doubt left m.building (m.whole e).safe (m.whole e).no_doubt reads
   by_state true e (inl reads) = kept_safe w plan clerk.keeper.writer.register left m.building (m.broken e).safe reads
   by_state true e (inr reads) = by_doubt (m.broken e) doubt refl reads
 
@@ -201,8 +203,8 @@ module _ (laws : Laws) (w : World) (reached : IsReached w) (rest : IsAtRest w) (
   possible : goes (a.events ++ events_to_gate (c ∷ cs) scan.0 (length state.batch)) w ≡ Some there
   possible =
       let calls : List Event = replicate (sectors_for_body (length state.batch) + 1) BodyWrite ++ FirstSync ∷ Gate ∷ [] in
-      goes_behind a.events (take_events (c ∷ cs) scan.0 ++ (Seal ∷ Pull ∷ calls)) w w1 a.possible
-      ∙ goes_behind (take_events (c ∷ cs) scan.0) (Seal ∷ Pull ∷ calls) w1 w2 scan.1
+      joined a.events (take_events (c ∷ cs) scan.0 ++ (Seal ∷ Pull ∷ calls)) w w1 a.possible
+      ∙ joined (take_events (c ∷ cs) scan.0) (Seal ∷ Pull ∷ calls) w1 w2 scan.1
       ∙ once w2 w3 Seal (Pull ∷ calls) sealed ∙ once w3 w4 Pull calls pulled ∙ written
 
   pub at_gate : (plan : Plan) (register : RegisterState) (left : Image) → w.building ≡ plan → register_of w.base (w.accepted ++ state.batch) ≡ register → IsImageOf plan register left
@@ -222,7 +224,7 @@ module _ (laws : Laws) (w : World) (reached : IsReached w) (rest : IsAtRest w) (
     (safe : register_of w.base (safe_list w) ≡ old) where
   by_batch : (cs : List Command) (rs : List Reply) (state : State) → Asked w cs → Run w.building any_eligible (state_of w) cs rs state → (batch : List Entry) → state.batch ≡ batch
       → IsImageOf plan (register_of old state.batch) left → IsCutAt w (safe_list w ++ state.batch) left
-  by_batch cs rs state a r [] e reads = cut_now w (safe_list w ++ state.batch) left reached (kept_without laws.registers w plan old state.batch left building safe e reads)
+  by_batch cs rs state a r [] e reads = cut_now w (safe_list w ++ state.batch) left reached (kept_without w plan old state.batch left building safe e reads)
   by_batch [] [] state a r (x ∷ xs) e reads =
       let none : state.batch ≡ [] = ap (λ (s : State). s.batch) r ∙ ap (λ (n : ℕ). drop n w.accepted) rest.all_sealed ∙ drop-length w.accepted in
       let wrong : x ∷ xs ≡ [] = sym e ∙ none in

@@ -31,7 +31,8 @@ use Rattle.lift_clerk.specs.Laws.{Laws}
 use Rattle.lift_clerk.specs.lemmas.Adding.{leaves_in_doubt, answers_unknown}
 use Rattle.lift_clerk.specs.lemmas.Standing.{fresh}
 use Rattle.lift_clerk.specs.lemmas.Words.{Ends}
-use Rattle.lift_clerk.specs.lemmas.Asked.{Asked, ask, rests, rests_broken, goes_behind, not_both}
+use Rattle.lift_world.specs.lemmas.Goes.{joined}
+use Rattle.lift_clerk.specs.lemmas.Asked.{Asked, ask, rests, rests_broken, not_both}
 use Rattle.lift_clerk.specs.lemmas.Turned.{splits, follows, safe_all, asked_rests, decided_in}
 
 -- what was decided is no matter where each is answered Unknown
@@ -103,7 +104,7 @@ module _ (laws : Laws) (w : World) where
           record {
             first = a.events;
             theirs = a.theirs;
-            possible = goes_behind a.events (failed_events (c ∷ cs) t.0 folds GateWritten (length state.batch)) w w1 a.possible ∙ t.1 folds;
+            possible = joined a.events (failed_events (c ∷ cs) t.0 folds GateWritten (length state.batch)) w w1 a.possible ∙ t.1 folds;
             ends = record {
               building = refl;
               base = refl;
@@ -163,7 +164,7 @@ module _ (laws : Laws) (w : World) where
             record {
               first = a.events;
               theirs = a.theirs;
-              possible = goes_behind a.events (broken_events (c ∷ cs) t.0) w w1 a.possible ∙ t.1;
+              possible = joined a.events (broken_events (c ∷ cs) t.0) w w1 a.possible ∙ t.1;
               ends = record { building = refl; base = refl; asked = refl; answered = refl; given = refl };
               alone = a.alone;
             },

@@ -32,7 +32,7 @@ use Rattle.lift_clerk.specs.Group.{Terminals, ShowsTerminal, IsGroup, ChangesAt,
 use Rattle.lift_clerk.specs.Group.{ToldAnswersAreHeard, IsRead, HeardNothing, Met, ToldAnswers}
 use Rattle.lift_clerk.specs.lemmas.Asked.{rests, rests_broken}
 use Rattle.lift_clerk.specs.lemmas.Reopened.{goes_once}
-use Rattle.lift_clerk.specs.lemmas.Words.{asks_both, asks_count, answers_both, answers_long}
+use Rattle.lift_clerk.specs.lemmas.Words.{last_has, asks_both, asks_count, answers_both, answers_long}
 use Rattle.lift_clerk.proofs.Terminals.{terminals_keep_it}
 
 at_least : (a b : ℕ) → ¬ (a < b) → b ≤ a
@@ -50,14 +50,8 @@ at_seam : {A : Type 0} (xs ys : List A) (y : A) → slice_get (xs ++ y ∷ ys) (
 at_seam [] ys y = refl
 at_seam (x ∷ xs) ys y = at_seam xs ys y
 
-cons-head : (x y : ℕ) (xs ys : List ℕ) → x ∷ xs ≡ y ∷ ys → x ≡ y
+pub cons-head : (x y : ℕ) (xs ys : List ℕ) → x ∷ xs ≡ y ∷ ys → x ≡ y
 cons-head x y xs ys e = cc
-
--- one of some has what all have
-pub last_has : {A : Type 0} (P : A → Type 0) (xs : List A) (a : A) (ys : List A)
-    → All P (xs ++ a ∷ ys) → P a
-last_has P [] a ys h = h 0 a (omega arith)
-last_has P (x ∷ xs) a ys h = last_has P xs a ys (λ k d below. h (suc k) d (omega arith))
 
 -- the power is on between calls
 pub is_on : {D P : Type 0} (w : World) (clerk : ClerkState D P) → IsMachineOf w clerk → (b : Bool)

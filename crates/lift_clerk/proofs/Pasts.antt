@@ -1,11 +1,10 @@
 -- The group's world and its whole past go on in one.
-use Rattle.std.proofs.Common.{◌≡◌, ◌≢◌, inl, inr, ℕ, zero, suc, ◌≤◌, List, [], ◌∷◌, ◌++◌, map, length, drop, Some, refl, sym, ap, ◌∙◌, subst, arith}
+use Rattle.std.proofs.Common.{◌≡◌, ◌≢◌, inl, inr, ℕ, ◌≤◌, List, [], ◌∷◌, ◌++◌, map, length, drop, Some, refl, sym, ap, ◌∙◌, subst, arith}
 use Rattle.std.specs.Prelude.{All, filter, count_by}
 use Rattle.std.specs.List.{AllByRecursion}
 use Rattle.std.proofs.lemmas.List.{length-append, length-map, append-nil}
 use Rattle.std.proofs.lemmas.List.Elements.{All-nil}
 use Rattle.std.proofs.lemmas.List.Sums.{length-filter}
-use Rattle.atomic_table.specs.Seated.{TableId}
 use Rattle.lift_base.specs.declared.history.Entry.{Entry}
 use Rattle.lift_base.specs.declared.command.Reply.{Reply}
 use Rattle.lift_disk.specs.Disk.{Image}
@@ -14,7 +13,7 @@ use Rattle.lift_desk.specs.declared.view.TerminalView.{TerminalView}
 use Rattle.lift_desk.specs.declared.view.ClerkView.{ClerkView}
 use Rattle.lift_desk.specs.Rule.{no_asks, no_answers}
 use Rattle.lift_desk.specs.Spelled.{ask_words, IsAsk}
-use Rattle.lift_desk.specs.Seats.{ClerkPlace, view_at, clerk_of}
+use Rattle.lift_desk.specs.Seats.{ClerkPlace, view_at}
 use Rattle.lift_keeper.specs.Images.{IsInDoubt}
 use Rattle.lift_policy.specs.declared.command.Command.{Command}
 use Rattle.lift_world.specs.declared.event.Event.{Event}
@@ -31,10 +30,10 @@ use Rattle.lift_clerk.specs.History.{History, Began, Turned, Reopened, Rested, C
 use Rattle.lift_clerk.specs.Group.{Terminals, ShowsTerminal, IsGroup, TakesAsks}
 use Rattle.lift_clerk.specs.Past.{IsPastOf, LeadsToPast, PastsBegin, AsksAreAsks, HearsAreHears, ReadsAreNoEvents, BatchesAreTurns, DoubtsAreFailures, UnknownsAreBroken, ReopeningsAreReopenings}
 use Rattle.lift_clerk.specs.Past.{RestsAreNoEvents, FirstFaultsAreFaults, CutsAreCuts, PastsGoOn}
-use Rattle.lift_clerk.specs.lemmas.Asked.{goes_behind}
+use Rattle.lift_world.specs.lemmas.Goes.{joined}
 use Rattle.lift_clerk.specs.lemmas.Adding.{failed, turned_while_broken}
 use Rattle.lift_clerk.specs.lemmas.Turned.{batches_are_turns}
-use Rattle.lift_clerk.specs.lemmas.Reopened.{reopenings_are_reopenings, rests_are_no_events, faults_are_events, begins_at_start}
+use Rattle.lift_clerk.specs.lemmas.Reopened.{new_view, reopenings_are_reopenings, rests_are_no_events, faults_are_events, begins_at_start}
 use Rattle.lift_clerk.specs.lemmas.Words.{asks_count}
 use Rattle.lift_clerk.proofs.Doubts.{failed_batches_are_failures, unknowns_are_broken_turns}
 use Rattle.lift_clerk.proofs.Crashes.{IsCutAt, IsKept, crashes_are_cuts, cuts_at, begins_after_crash}
@@ -46,11 +45,6 @@ empty_of [] e = refl
 empty_of (x ∷ xs) e = absurd (omega arith)
 
 -- a new desk
-new_view : (desk : List TableId) (t : ℕ) → view_at (clerk_of desk) t ≡ no_answers
-new_view [] t = refl
-new_view (x ∷ desk) zero = refl
-new_view (x ∷ desk) (suc t) = new_view desk t
-
 module _ (laws : Laws) where
   -- an ask waits at most at each terminal
   few : (w : World) → IsReached w → (t : ℕ) (v : ClerkView) (k : ShowsWords w t v) → length k.waiting ≤ 1
@@ -223,7 +217,7 @@ module _ {D : Type 0} (laws : Laws) where
       let c = begins_after_crash laws there after before.keeper.writer.plan (kept_after (safe_list w) batch doubt) image reached (building ∙ p.shows.machine.building) k b in
       record {
         end = c.0;
-        possible = goes_behind events (CutEvent k.kept ∷ Reopen k.kept ∷ []) w there possible ∙ c.1;
+        possible = joined events (CutEvent k.kept ∷ Reopen k.kept ∷ []) w there possible ∙ c.1;
         past = record {
           shows = new_group c.0 after fresh c.4 b.begins c.6 new;
           history = subst (λ (x : RegisterState). History x after (kept_after safe batch doubt) given) (sym (c.3 ∙ same_base)) (Cut p.history may doubt b);

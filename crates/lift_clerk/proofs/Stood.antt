@@ -1,20 +1,16 @@
 -- What a step takes was asked before it, by the desk's rule.
-use Rattle.std.proofs.Common.{◌≡◌, ◌≢◌, inr, ℕ, suc, ◌+◌, ◌*◌, ◌^◌, ◌<◌, ◌≤◌, Bool, true, false, cond, eqb, List, [], ◌∷◌, ◌++◌, map, length, refl, sym, ap, ◌∙◌, subst, arith, append_assoc}
+use Rattle.std.proofs.Common.{◌≡◌, ◌≢◌, inr, ℕ, suc, ◌+◌, ◌≤◌, Bool, true, false, cond, eqb, List, [], ◌∷◌, ◌++◌, map, length, refl, sym, ap, ◌∙◌, subst, arith, append_assoc}
 use Rattle.std.specs.Prelude.{All, filter}
 use Rattle.std.specs.List.{AllByRecursion}
 use Rattle.std.proofs.lemmas.Bool.{eqb-true, ne_eqb, eq-eqb, false≢true}
 use Rattle.std.proofs.lemmas.List.{append_cancel_left, append-nil}
 use Rattle.std.proofs.lemmas.List.Elements.{filter_passes}
 use mathlib.Core.List.{IsPrefix, map-append}
-use Rattle.lift_base.specs.declared.travel.Dir.{Dir}
-use Rattle.lift_base.specs.declared.travel.Dir.TheVariants.{Up, Down}
-use Rattle.lift_base.specs.declared.command.Body.{Body}
-use Rattle.lift_base.specs.declared.command.Body.TheVariants.{Call, Stop, Place}
 use Rattle.lift_base.specs.declared.command.Reply.{Reply}
 use Rattle.lift_desk.specs.declared.view.TerminalView.{TerminalView}
 use Rattle.lift_desk.specs.declared.view.ClerkView.{ClerkView}
 use Rattle.lift_desk.specs.declared.words.Ask.{Ask}
-use Rattle.lift_desk.specs.Words.{dir_bit, body_bits, ask_word, IsBodyInRange}
+use Rattle.lift_desk.specs.Words.{ask_word}
 use Rattle.lift_desk.specs.Spelled.{ask_words, IsAsk}
 use Rattle.lift_desk.specs.Seats.{view_at}
 use Rattle.lift_policy.specs.declared.command.Command.{Command}
@@ -27,55 +23,8 @@ use Rattle.lift_clerk.specs.Steps.{GroupState}
 use Rattle.lift_clerk.specs.Group.{Terminals, ShowsTerminal, IsGroup, TakesAsks, WereAsked}
 use Rattle.lift_clerk.specs.lemmas.Lists.{no_asks}
 use Rattle.lift_clerk.specs.lemmas.Standing.{waiting_is}
-use Rattle.lift_clerk.specs.lemmas.Words.{asks_both, asks_count, splits_of}
-use Rattle.lift_clerk.proofs.Groups.{last_has}
-
--- a word spells one ask
-dir_same : (d e : Dir) → dir_bit d ≡ dir_bit e → d ≡ e
-dir_same Up Up h = refl
-dir_same Up Down h = absurd (omega arith)
-dir_same Down Up h = absurd (omega arith)
-dir_same Down Down h = refl
-
-dir_small : (d : Dir) → dir_bit d ≤ 1
-dir_small Up = omega arith
-dir_small Down = omega arith
-
-bits_small : (b : Body) → IsBodyInRange b → body_bits b < 2 ^ 20
-bits_small (Call floor party) h = omega arith
-bits_small (Stop floor dir) h = let d = dir_small dir in omega arith
-bits_small (Place floor dir) h = let d = dir_small dir in omega arith
-
-bits_same : (b c : Body) → IsBodyInRange b → IsBodyInRange c → body_bits b ≡ body_bits c → b ≡ c
-bits_same (Call f p) (Call g q) h k e =
-    let fs : f ≡ g = omega arith in
-    let ps : p ≡ q = omega arith in
-    ap (λ (x : ℕ). Call x p) fs ∙ ap (λ (x : ℕ). Call g x) ps
-bits_same (Call f p) (Stop g d) h k e = absurd (omega arith)
-bits_same (Call f p) (Place g d) h k e = absurd (omega arith)
-bits_same (Stop f d) (Call g q) h k e = absurd (omega arith)
-bits_same (Stop f d) (Stop g u) h k e =
-    let fs : f ≡ g = omega arith in
-    let ds : dir_bit d ≡ dir_bit u = omega arith in
-    ap (λ (x : ℕ). Stop x d) fs ∙ ap (λ (x : Dir). Stop g x) (dir_same d u ds)
-bits_same (Stop f d) (Place g u) h k e = let s = dir_small d in let r = dir_small u in absurd (omega arith)
-bits_same (Place f d) (Call g q) h k e = absurd (omega arith)
-bits_same (Place f d) (Stop g u) h k e = let s = dir_small d in let r = dir_small u in absurd (omega arith)
-bits_same (Place f d) (Place g u) h k e =
-    let fs : f ≡ g = omega arith in
-    let ds : dir_bit d ≡ dir_bit u = omega arith in
-    ap (λ (x : ℕ). Place x d) fs ∙ ap (λ (x : Dir). Place g x) (dir_same d u ds)
-
-fields_same : (turn n m b c : ℕ) → b < 2 ^ 20 → c < 2 ^ 20 → turn * 2 ^ 44 + n * 2 ^ 20 + b ≡ turn * 2 ^ 44 + m * 2 ^ 20 + c → (n ≡ m) × (b ≡ c)
-fields_same turn n m b c bs cs e = (omega arith, omega arith)
-
-ask_same : (turn : ℕ) (a b : Ask) → IsAsk a → IsAsk b → ask_word turn a.number a.body ≡ ask_word turn b.number b.body → (a.number ≡ b.number) × (a.body ≡ b.body)
-ask_same turn a b h k e =
-    let same = fields_same turn a.number b.number (body_bits a.body) (body_bits b.body) (bits_small a.body h.1) (bits_small b.body k.1) e in
-    (same.0, bits_same a.body b.body h.1 k.1 same.1)
-
-cons-head : (x y : ℕ) (xs ys : List ℕ) → x ∷ xs ≡ y ∷ ys → x ≡ y
-cons-head x y xs ys e = cc
+use Rattle.lift_clerk.specs.lemmas.Words.{last_has, one_ask, asks_both, asks_count, splits_of}
+use Rattle.lift_clerk.proofs.Groups.{cons-head}
 
 -- the ask of each command waits in this world
 abbrev pub Stand : World → List Command → Type 0
@@ -120,7 +69,7 @@ module _ (w : World) (c : Command) (view : ClerkView) (own : TerminalView) (show
       let count : suc (length view.taken) ≡ 1 + length firsts = omega (arith, ap length shows.taken, asks_count 1 firsts) in
       let first : word ≡ ask_word (1 + length firsts) d.number d.body =
       cons-head word (ask_word (1 + length firsts) d.number d.body) fits.0 [] (begins ∙ ap (λ (cs : List Command). ask_words (1 + length firsts) (map ask_of cs)) e) in
-      let same = ask_same (1 + length firsts) (ask_of c) (ask_of d) spelled theirs_spelled (ap (λ (n : ℕ). ask_word n c.number c.body) (sym count) ∙ first) in
+      let same = one_ask (1 + length firsts) (1 + length firsts) (ask_of c) (ask_of d) spelled theirs_spelled (ap (λ (n : ℕ). ask_word n c.number c.body) (sym count) ∙ first) in
       let is : d ≡ c = λ i. record { terminal = at i; number = sym same.0 i; body = sym same.1 i } in
       waiting_is w t (splits_of w t view shows) ∙ e ∙ ap (λ (x : Command). x ∷ []) is
 

@@ -1,5 +1,5 @@
 -- A scan and its answers, as far as they have come.
-use Rattle.std.specs.Prelude.{ℕ, Bool, true, false, ◌≡◌, List, [], map, length, if◌then◌else◌}
+use Rattle.std.specs.Prelude.{ℕ, Bool, true, false, ◌≡◌, List, map, length, if◌then◌else◌}
 use Rattle.lift_base.specs.declared.command.Reply.{Reply}
 use Rattle.lift_base.specs.declared.command.Reply.TheVariants.{Unknown}
 use Rattle.lift_building.specs.Plan.{Plan}
@@ -9,7 +9,7 @@ use Rattle.lift_policy.specs.Eligible.{Choice}
 use Rattle.lift_policy.specs.Step.{State}
 use Rattle.lift_policy.specs.Run.{Run, RunWhileBroken}
 use Rattle.lift_clerk.specs.declared.scan.Answer.{Answer}
-use Rattle.lift_clerk.specs.Visits.{Visit, Finds, commands_of, served}
+use Rattle.lift_clerk.specs.Visits.{Visit, Finds, commands_of, looked_at}
 
 abbrev pub terminals_in : List Answer → List ℕ
 terminals_in answers = map (λ (a : Answer). a.terminal) answers
@@ -37,7 +37,7 @@ Decides false plan choice state commands replies next = Run plan choice state co
 pub record IsScanned (places : List ClerkPlace) (visits : List Visit) (seat : List ClerkPlace)
     (answers : List Answer) : Type 0 where
   pub finds : Finds places visits
-  pub looked : seat ≡ served places visits []
+  pub looked : seat ≡ looked_at places visits
   pub terminals : terminals_in answers ≡ terminals_of (commands_of 0 visits)
 
 -- the first n places were looked at, and what was found was decided

@@ -26,11 +26,22 @@ pub record FindsAt (place : ClerkPlace) (visit : Visit) : Type 0 where
   pub known : IsPrefix place.view.told (with_taking place.view visit.word).taken
   pub told : (ask : Ask) → IsToldAsk place.view ask → visit.found ≡ Some ask
 
--- these looks are at the first places, one at each, in their order
+-- these looks are at the first places, one at each, in their order, and each is one of its place
+abbrev pub AreLooksAt : (ClerkPlace → Visit → Type 0) → List ClerkPlace → List Visit → Type 0
+AreLooksAt IsLook places [] = Unit {0}
+AreLooksAt IsLook [] (visit ∷ visits) = ⊥
+AreLooksAt IsLook (place ∷ places) (visit ∷ visits) =
+    IsLook place visit × AreLooksAt IsLook places visits
+
 abbrev pub Finds : List ClerkPlace → List Visit → Type 0
-Finds places [] = Unit {0}
-Finds [] (visit ∷ visits) = ⊥
-Finds (place ∷ places) (visit ∷ visits) = FindsAt place visit × Finds places visits
+Finds places visits = AreLooksAt FindsAt places visits
+
+-- the seats behind these looks
+abbrev pub looked_at : List ClerkPlace → List Visit → List ClerkPlace
+looked_at places [] = places
+looked_at [] (visit ∷ visits) = []
+looked_at (place ∷ places) (visit ∷ visits) =
+    placed_at place.table (with_taking place.view visit.word) ∷ looked_at places visits
 
 -- the command that a look at a terminal took
 abbrev pub command_at : ℕ → Option Ask → List Command

@@ -1,3 +1,4 @@
+pub mod Looking
 pub mod Visiting
 pub mod Scanned
 pub mod Lists
@@ -5,6 +6,7 @@ pub mod Served
 pub mod Standing
 pub mod Words
 pub mod Asked
+pub mod Between
 pub mod Turned
 pub mod Reopened
 pub mod Committed

@@ -163,7 +163,7 @@ unknown_as (t ∷ batch) = ap (λ (xs : List Answer). answer_told false t ∷ xs
 
 -- what a batch takes and answers
 module _ where
-  with_replies_as : (batch : List NotedCommand) → with_replies (commands_in batch) (replies_in batch) ≡ map held_as batch
+  pub with_replies_as : (batch : List NotedCommand) → with_replies (commands_in batch) (replies_in batch) ≡ map held_as batch
   with_replies_as [] = refl
   with_replies_as (t ∷ batch) = ap (λ (xs : List Taken). held_as t ∷ xs) (with_replies_as batch)
 

@@ -37,6 +37,7 @@ use Rattle.lift_clerk.specs.lemmas.Adding.{failed, turned_while_broken}
 use Rattle.lift_clerk.specs.lemmas.Keeps.{kept_now}
 use Rattle.lift_parts.specs.declared.counts.FlushCounts.{FlushCounts}
 use Rattle.lift_parts.specs.Batch.{BatchState, state_with_entries, AreBelow, commands_in, replies_in, entries_of_batches}
+use Rattle.lift_clerk.specs.lemmas.Asked.{not_both}
 use Rattle.lift_parts.specs.Flusher.{FlusherState, IsFlusher, IsEmptyTurn, IsBatchTurn, Answered}
 use Rattle.lift_parts.specs.Turns.{NoFlush, OneFlush}
 use Rattle.lift_parts.specs.History.{group_behind, held_in, Adds, GoesOnTo, FlushStands, FlushesStand, TurnsGoOn, SplitsGoOn, JoinedGoOn}
@@ -47,10 +48,6 @@ use Rattle.lift_parts.proofs.Answering.{replies_of, held_is, answers_them}
 is_whole : (b : Bool) → (b ≡ true → ⊥) → b ≡ false
 is_whole true never = absurd (never refl)
 is_whole false never = refl
-
-both : {A : Type 0} (b : Bool) → b ≡ false → b ≡ true → A
-both true isnt is = absurd (cc)
-both false isnt is = absurd (cc)
 
 some_long : (xs : List Entry) → xs ≢ [] → 0 < length xs
 some_long [] some = absurd (some refl)
@@ -233,7 +230,7 @@ module _ {D : Type 0} (state : D → DiskState) (crashes : CrashesKeep D) (law :
         received = one_received;
         more_is = refl;
         told_is = refl;
-        was_broken = λ broken. both f.writer.is_broken whole broken;
+        was_broken = λ broken. not_both f.writer.is_broken whole broken;
         is_whole = λ still. refl;
       }
 
@@ -245,7 +242,7 @@ module _ {D : Type 0} (state : D → DiskState) (crashes : CrashesKeep D) (law :
         more_is = refl;
         told_is = refl;
         was_broken = λ broken. (refl, breaks);
-        is_whole = λ still. both g.writer.is_broken still breaks;
+        is_whole = λ still. not_both g.writer.is_broken still breaks;
       }
 
       kept_told : with_given true ≡ given ++ (held_in (batch ∷ []) ++ map unknown_to (held_in []))
@@ -292,7 +289,7 @@ module _ {D : Type 0} (state : D → DiskState) (crashes : CrashesKeep D) (law :
         receives = one_received (Ok counts) t;
         batch = batch.entries;
         while_whole = λ whole. sym (append-nil batch.entries);
-        while_broken = λ broken. both f.writer.is_broken was_whole broken;
+        while_broken = λ broken. not_both f.writer.is_broken was_whole broken;
         stands = law (group_behind f) batch.entries g.writer.device (inr (accepts (Ok counts) t was_whole)) (moments_whole (Ok counts) t was_whole c) base safe given h;
         now = keeps_behind (Ok counts) c (safe ++ entries_of_batches (batch ∷ [])) (given ++ (held_in (batch ∷ []) ++ map unknown_to (held_in []))) safe_history;
       }
@@ -360,7 +357,7 @@ module _ {D : Type 0} (state : D → DiskState) (crashes : CrashesKeep D) (law :
         receives = one_received (Err fault) t;
         batch = batch.entries;
         while_whole = λ still. sym (append-nil batch.entries);
-        while_broken = λ broken. both f.writer.is_broken whole broken;
+        while_broken = λ broken. not_both f.writer.is_broken whole broken;
         stands = law (group_behind f) batch.entries g.writer.device (inr (accepts (Err fault) t whole)) (moments_whole (Err fault) t whole c) base safe given h;
         now = lost_now (failed h (leaves_in_doubt whole e));
       }
@@ -371,7 +368,7 @@ module _ {D : Type 0} (state : D → DiskState) (crashes : CrashesKeep D) (law :
         received = batch ∷ [];
         receives = one_received (Err fault) t;
         batch = f.writer.doubt;
-        while_whole = λ whole. both f.writer.is_broken whole broken;
+        while_whole = λ whole. not_both f.writer.is_broken whole broken;
         while_broken = λ still. refl;
         stands = law (group_behind f) f.writer.doubt g.writer.device (inl refl) (c.is.safe.while_broken broken) base safe given h;
         now = lost_now (turned_while_broken h (answers_unknown broken));
@@ -396,7 +393,7 @@ module _ {D : Type 0} (state : D → DiskState) (crashes : CrashesKeep D) (law :
       leads_by_cause past w terminals p takes whole (inl e) =
           let k = past.doubts (group_behind f) (group_behind g) (leaves_in_doubt whole e) w terminals safe given p takes in
           lost_leads w terminals false k.0 whole k.1
-      leads_by_cause past w terminals p takes whole (inr e) = both f.writer.is_broken whole (c.is.broken.0 (ap (λ (x : KeeperFault). Err x) e))
+      leads_by_cause past w terminals p takes whole (inr e) = not_both f.writer.is_broken whole (c.is.broken.0 (ap (λ (x : KeeperFault). Err x) e))
 
       pub fault_leads : PastsGoOn D → (w : World) (terminals : Terminals) → IsPastOf w (group_behind f) terminals safe given → TakesAsks (group_behind g) terminals
           → (b : Bool) → f.writer.is_broken ≡ b → FlushLeadsOn f g (Err fault) w terminals safe given
@@ -407,7 +404,7 @@ module _ {D : Type 0} (state : D → DiskState) (crashes : CrashesKeep D) (law :
 
       by_cause : f.writer.is_broken ≡ false → (fault ≡ Journal Disk) ⊎ (fault ≡ Journal Broken) → FlushStands f g base safe given old new
       by_cause whole (inl e) = disk_stands whole e
-      by_cause whole (inr e) = both f.writer.is_broken whole (c.is.broken.0 (ap (λ (x : KeeperFault). Err x) e))
+      by_cause whole (inr e) = not_both f.writer.is_broken whole (c.is.broken.0 (ap (λ (x : KeeperFault). Err x) e))
 
       pub fault_stands : (b : Bool) → f.writer.is_broken ≡ b → FlushStands f g base safe given old new
       fault_stands true broken = broken_stands broken
@@ -460,7 +457,7 @@ module _ {D : Type 0} (f m g : FlusherState D) (base : RegisterState) (safe : Li
             ∙ ap (λ (hs : List Taken). hs ++ map unknown_to (held_in y.lost)) x.told_is ∙ append_assoc (held_in x.kept) (map unknown_to (held_in x.lost)) (map unknown_to (held_in y.lost))
             ∙ ap (λ (hs : List Taken). held_in x.kept ++ hs) (sym (map-append unknown_to (held_in x.lost) (held_in y.lost)) ∙ ap (map unknown_to) (sym (held_both x.lost y.lost)));
         was_broken = λ was. ((x.was_broken was).0, now);
-        is_whole = λ whole. both g.writer.is_broken whole now;
+        is_whole = λ whole. not_both g.writer.is_broken whole now;
       }
   adds_both a b u v x y false whole =
       let none : x.lost ≡ [] = x.is_whole whole in
@@ -474,7 +471,7 @@ module _ {D : Type 0} (f m g : FlusherState D) (base : RegisterState) (safe : Li
         told_is = ap (λ (hs : List Taken). hs ++ v) (x.told_is ∙ ap (λ (bs : List BatchState). held_in x.kept ++ map unknown_to (held_in bs)) none ∙ append-nil (held_in x.kept))
             ∙ ap (λ (hs : List Taken). held_in x.kept ++ hs) y.told_is ∙ sym (append_assoc (held_in x.kept) (held_in y.kept) (map unknown_to (held_in y.lost)))
             ∙ ap (λ (hs : List Taken). hs ++ map unknown_to (held_in y.lost)) (sym (held_both x.kept y.kept));
-        was_broken = λ was. both m.writer.is_broken whole (x.was_broken was).1;
+        was_broken = λ was. not_both m.writer.is_broken whole (x.was_broken was).1;
         is_whole = y.is_whole;
       }
 

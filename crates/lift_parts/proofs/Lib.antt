@@ -1,4 +1,3 @@
-pub mod OneAsk
 pub mod Tied
 pub mod TiedScan
 pub mod TiedTake

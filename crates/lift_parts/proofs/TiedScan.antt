@@ -1,6 +1,6 @@
 -- A scan is the machine's.
 use Rattle.lift_clerk.specs.Answered.{AreApart, AreOthers, ask_of}
-use Rattle.std.proofs.Common.{ℕ, zero, suc, ◌≡◌, ◌≢◌, ◌+◌, ◌<◌, ◌≤◌, Bool, true, false, cond, eqb, List, [], ◌∷◌, ◌++◌, length, map, Option, Some, None, refl, sym, ap, subst, ◌∙◌, arith, append_assoc}
+use Rattle.std.proofs.Common.{ℕ, zero, suc, ◌≡◌, ◌≢◌, ◌+◌, ◌*◌, ◌^◌, ◌<◌, ◌≤◌, Bool, true, false, cond, eqb, List, [], ◌∷◌, ◌++◌, length, map, Option, Some, None, refl, sym, ap, subst, ◌∙◌, arith, append_assoc}
 use Rattle.std.specs.Prelude.{filter, count_by, All, Contains}
 use Rattle.std.specs.List.{AllByRecursion, flat_map}
 use Rattle.std.proofs.lemmas.Bool.{ne_eqb, eq-eqb, eqb-true, false≢true}
@@ -8,13 +8,17 @@ use Rattle.std.proofs.lemmas.List.{append-nil, length-append, length-map}
 use Rattle.std.proofs.lemmas.List.Elements.{filter_passes}
 use Rattle.std.proofs.lemmas.List.Sums.{length-filter}
 use mathlib.Core.List.{map-append}
+use Rattle.lift_base.specs.declared.travel.Dir.{Dir}
+use Rattle.lift_base.specs.declared.travel.Dir.TheVariants.{Up, Down}
+use Rattle.lift_base.specs.declared.command.Body.{Body}
+use Rattle.lift_base.specs.declared.command.Body.TheVariants.{Call, Stop, Place}
 use Rattle.lift_base.specs.declared.command.Reply.{Reply}
 use Rattle.lift_base.specs.declared.history.Entry.{Entry}
 use Rattle.lift_building.specs.Plan.{Plan}
 use Rattle.lift_desk.specs.declared.view.ClerkView.{ClerkView}
 use Rattle.lift_desk.specs.declared.words.Ask.{Ask}
 use Rattle.lift_desk.specs.Rule.{CountTurns, IsAhead}
-use Rattle.lift_desk.specs.Words.{turn_of, last_of, body_bits, ask_word}
+use Rattle.lift_desk.specs.Words.{turn_of, last_of, dir_bit, body_bits, ask_word, IsBodyInRange}
 use Rattle.lift_desk.specs.Spelled.{ask_words, IsAsk}
 use Rattle.lift_desk.specs.Steps.{with_taking}
 use Rattle.lift_desk.specs.Seats.{ClerkPlace, view_at, TakesOf}
@@ -30,30 +34,27 @@ use Rattle.lift_world.specs.Among.{StandsAsk}
 use Rattle.lift_world.specs.Headline.{AsksOneByOne}
 use Rattle.lift_world.specs.Turns.{AreFound}
 use Rattle.lift_clerk.specs.Turn.{settled}
-use Rattle.lift_clerk.specs.Visits.{Visit, command_at, commands_of}
+use Rattle.lift_clerk.specs.Visits.{Visit, AreLooksAt, command_at, commands_of, looked_at}
 use Rattle.lift_clerk.specs.Machine.{IsReached}
 use Rattle.lift_clerk.specs.lemmas.Lists.{no_asks}
 use Rattle.lift_clerk.specs.lemmas.Served.{behind}
 use Rattle.lift_clerk.specs.lemmas.Standing.{finds_last}
-use Rattle.lift_clerk.specs.lemmas.Words.{asks_both, asks_count}
+use Rattle.lift_clerk.specs.lemmas.Words.{last_has, one_ask, asks_both, asks_count}
 use Rattle.lift_clerk.specs.lemmas.Visiting.{taken-new, taken-old}
 use Rattle.lift_clerk.specs.declared.counts.Counts.{Counts}
 use Rattle.lift_parts.specs.Batch.{BatchState, AreBelow, replies_in}
-use Rattle.lift_parts.specs.Scan.{TakesAt, TakesEach, looked_at}
-use Rattle.lift_parts.specs.lemmas.Looking.{length-looked}
+use Rattle.lift_parts.specs.Scan.{TakesAt, TakesEach}
+use Rattle.lift_clerk.specs.lemmas.Looking.{length-looked}
 use Rattle.lift_parts.specs.Allocator.{AllocatorState, IsScanTurn}
 use Rattle.lift_parts.specs.Flusher.{FlusherState}
 use Rattle.lift_parts.specs.Laws.{RelayLaws}
 use Rattle.lift_parts.specs.Tie.{command_of, queued_in, on_way, ShowsBoth, IsRelayOf, TakesAsked, QueuedHaveRoom, NothingTakenIsNoEvent}
 use Rattle.lift_parts.specs.lemmas.Used.{below_is}
-use Rattle.lift_parts.proofs.OneAsk.{bits_small, word_turn, one_ask}
 use Rattle.lift_parts.proofs.Tied.{hears, one_by_one, shown_same, nothing_gathered}
 
 -- each look takes the word of its place's next turn, or nothing
 abbrev pub Reads : List ClerkPlace → List Visit → Type 0
-Reads places [] = Unit {0}
-Reads [] (visit ∷ visits) = ⊥
-Reads (place ∷ places) (visit ∷ visits) = TakesOf place.view visit.word visit.found × Reads places visits
+Reads places visits = AreLooksAt (λ p v. TakesOf p.view v.word v.found) places visits
 
 -- ---- what is on its way of a terminal
 module _ (t : ℕ) where
@@ -107,10 +108,17 @@ is_queued w a f m = by_state f.writer.is_broken refl
         record { on = ap is_off k.broken; all = only_queued w m.nothing_due k.nothing_flies m.between.nothing_taken }
 
 -- ---- one look
--- one of some has what all have
-pub last_has : {A : Type 0} (Q : A → Type 0) (xs : List A) (x : A) (ys : List A) → All Q (xs ++ x ∷ ys) → Q x
-last_has Q [] x ys h = h 0 x (omega arith)
-last_has Q (y ∷ xs) x ys h = last_has Q xs x ys (λ k d below. h (suc k) d (omega arith))
+dir_small : (d : Dir) → dir_bit d ≤ 1
+dir_small Up = omega arith
+dir_small Down = omega arith
+
+bits_small : (b : Body) → IsBodyInRange b → body_bits b < 2 ^ 20
+bits_small (Call floor party) h = omega arith
+bits_small (Stop floor dir) h = let d = dir_small dir in omega arith
+bits_small (Place floor dir) h = let d = dir_small dir in omega arith
+
+word_turn : (turn n b : ℕ) → n < 2 ^ 24 → b < 2 ^ 20 → turn_of (turn * 2 ^ 44 + n * 2 ^ 20 + b) ≡ turn
+word_turn turn n b ns bs = omega arith
 
 -- the words of asks have the turns from the first on
 turns_count : (first : ℕ) (asks : List Ask) → All IsAsk asks → CountTurns first (ask_words first asks)
@@ -240,8 +248,10 @@ module _ (laws : RelayLaws) (w : World) (reached : IsReached w) (only : OnlyQueu
         let count : suc (length p.view.taken) ≡ 1 + length (map ask_of fa) = omega (arith, ap length s.taken, asks_count 1 (map ask_of fa)) in
         let first : word ≡ ask_word (suc (length p.view.taken)) d.number d.body = last_word d e ∙ ap (λ (n : ℕ). ask_word n d.number d.body) (sym count) in
         let same = one_ask (turn_of word) (suc (length p.view.taken)) ask (ask_of d) at.in_range spelled (sym at.reads.1 ∙ first) in
-        let says : word ≡ ask_word (suc (length p.view.taken)) ask.number ask.body = at.reads.1 ∙ ap (λ (n : ℕ). ask_word n ask.number ask.body) same.0 in
-        record { is = λ i. record { terminal = own i; number = sym same.1 i; body = sym same.2 i }; turn = says }
+        record {
+          is = λ i. record { terminal = own i; number = sym same.0 i; body = sym same.1 i };
+          turn = first ∙ (λ i. ask_word (suc (length p.view.taken)) (sym same.0 i) (sym same.1 i));
+        }
 
     one : (d : Command) → s.waiting ≡ d ∷ [] → Next d → Stands w t s.waiting command × (word ≡ ask_word (suc (length p.view.taken)) ask.number ask.body)
     one d e n =

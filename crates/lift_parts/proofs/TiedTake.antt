@@ -19,7 +19,6 @@ use Rattle.lift_policy.specs.Eligible.{Choice, any_eligible}
 use Rattle.lift_policy.specs.Step.{State}
 use Rattle.lift_policy.specs.Run.{Run}
 use Rattle.lift_policy.specs.declared.command.Command.{Command}
-use Rattle.lift_world.specs.declared.event.Taken.{Taken}
 use Rattle.lift_world.specs.World.{World, SealedBatch, asks, state_of, safe_list, batch_in_flight}
 use Rattle.lift_world.specs.Next.{goes}
 use Rattle.lift_world.specs.Policies.{RunsAreAny}
@@ -27,15 +26,14 @@ use Rattle.lift_world.specs.Relay.{IsBetweenScans, flown, allocated, allocator_e
 use Rattle.lift_world.specs.Turns.{AreFound, with_replies}
 use Rattle.lift_world.specs.lemmas.Ordered.{end_above}
 use Rattle.lift_world.specs.lemmas.Steps.{GoesOn, state_goes_on, steps_go_on}
-use Rattle.lift_clerk.specs.Visits.{commands_of}
+use Rattle.lift_clerk.specs.Visits.{commands_of, looked_at}
 use Rattle.lift_clerk.specs.Machine.{IsReached}
 use Rattle.lift_clerk.specs.declared.counts.Counts.{Counts}
 use Rattle.lift_clerk.specs.lemmas.Served.{all_apart}
 use Rattle.lift_clerk.specs.lemmas.Words.{asks_both, asks_count}
 use Rattle.lift_clerk.specs.lemmas.Asked.{not_both, run_in}
-use Rattle.lift_parts.specs.Scan.{looked_at}
-use Rattle.lift_parts.specs.lemmas.Looking.{length-looked}
-use Rattle.lift_parts.specs.declared.taken.NotedCommand.{NotedCommand}
+use Rattle.lift_clerk.specs.lemmas.Looking.{length-looked}
+use Rattle.lift_parts.proofs.Answering.{with_replies_as}
 use Rattle.lift_parts.specs.Batch.{BatchState, AreBelow, commands_in, replies_in, entries_of_batches}
 use Rattle.lift_parts.specs.Allocator.{AllocatorState, IsScanTurn}
 use Rattle.lift_parts.specs.Flusher.{FlusherState}
@@ -97,10 +95,6 @@ pub run_commands : (plan : Plan) (choice : Choice) (state next : State) (cs : Li
 run_commands plan choice state next [] rs r = refl
 run_commands plan choice state next (c ∷ cs) [] r = absurd r
 run_commands plan choice state next (c ∷ cs) (reply ∷ rs) r = ap (λ (ds : List Command). c ∷ ds) (run_commands plan choice r.0 next cs rs r.2)
-
-pub held_all : (taken : List NotedCommand) → with_replies (commands_in taken) (replies_in taken) ≡ map held_as taken
-held_all [] = refl
-held_all (t ∷ taken) = ap (λ (xs : List Taken). held_as t ∷ xs) (held_all taken)
 
 -- the register of the decided state is that of all that is accepted then
 runs_go_on : (plan : Plan) (choice : Choice) (base : RegisterState) (prefix : List Entry) (state next : State) (cs : List Command) (rs : List Reply) → GoesOn base prefix state → Run plan choice state cs rs next → GoesOn base prefix next
@@ -243,7 +237,7 @@ module _ {D P : Type 0} (laws : RelayLaws) (choice : Choice) (any : RunsAreAny c
             ∙ ap (λ (x : List Entry × List Entry). x.0 ++ x.1) (λ i. (sym safe i, sym entries i));
         decided = subst (λ (n : ℕ). AreDecided n (m.waiting ++ t.batch ∷ []) (w.queue ++ record { commands = with_replies cs replies; upto = length now } ∷ [])) (ap length (sym safe))
             (decided_more (length (safe_list w)) m.waiting w.queue t.batch (record { commands = with_replies cs replies; upto = length now }) k.decided
-            (ap (λ (xs : List Command). with_replies xs replies) (sym t.commands) ∙ held_all t.batch.commands)
+            (ap (λ (xs : List Command). with_replies xs replies) (sym t.commands) ∙ with_replies_as t.batch.commands)
             (omega (arith, length-append w.accepted t.decided.batch, ap length k.accepted, length-append (safe_list w) (entries_of_batches m.waiting), ap length t.entries)));
         register = k.register;
         no_doubt = k.no_doubt;

@@ -8,11 +8,11 @@ use Rattle.lift_policy.specs.Step.{State}
 use Rattle.lift_policy.specs.Run.{Run}
 use Rattle.lift_clerk.specs.declared.counts.Counts.{Counts}
 use Rattle.lift_clerk.specs.Turn.{settled}
-use Rattle.lift_clerk.specs.Visits.{Visit, commands_of}
+use Rattle.lift_clerk.specs.Visits.{Visit, commands_of, looked_at}
 use Rattle.lift_parts.specs.Batch.{BatchState, turns_behind, turns_of, commands_in}
 use Rattle.lift_parts.specs.Batch.{replies_in, noted_in}
 use Rattle.lift_parts.specs.Line.{SendState, Tries, tried, Begins, IsNextBatch, WasFull}
-use Rattle.lift_parts.specs.Scan.{TakesEach, turns_in, looked_at, words_of}
+use Rattle.lift_parts.specs.Scan.{TakesEach, turns_in, words_of}
 
 pub record AllocatorState (P : Type 0) : Type 0 where
   pub desk : List TableId

@@ -6,11 +6,11 @@ use Rattle.lift_desk.specs.declared.words.Ask.{Ask}
 use Rattle.lift_desk.specs.Words.{turn_of, last_of}
 use Rattle.lift_desk.specs.Spelled.{IsAsk}
 use Rattle.lift_desk.specs.Steps.{with_taking}
-use Rattle.lift_desk.specs.Seats.{ClerkPlace, placed_at, TakesAheadOf, IsToldAhead}
+use Rattle.lift_desk.specs.Seats.{ClerkPlace, TakesAheadOf, IsToldAhead}
 use Rattle.lift_policy.specs.Eligible.{Choice}
 use Rattle.lift_policy.specs.Step.{State}
 use Rattle.lift_policy.specs.Run.{Run}
-use Rattle.lift_clerk.specs.Visits.{Visit, commands_of}
+use Rattle.lift_clerk.specs.Visits.{Visit, AreLooksAt, commands_of, looked_at}
 use Rattle.lift_parts.specs.declared.taken.NotedCommand.{NotedCommand}
 use Rattle.lift_parts.specs.Batch.{commands_in, replies_in, noted_in}
 
@@ -40,16 +40,7 @@ turns_in (place ∷ places) = turn_at place + turns_in places
 
 -- these looks are at the first places, one at each, in their order
 abbrev pub TakesEach : List ClerkPlace → List Visit → Type 0
-TakesEach places [] = Unit {0}
-TakesEach [] (visit ∷ visits) = ⊥
-TakesEach (place ∷ places) (visit ∷ visits) = TakesAt place visit × TakesEach places visits
-
--- the seats behind these looks
-abbrev pub looked_at : List ClerkPlace → List Visit → List ClerkPlace
-looked_at places [] = places
-looked_at [] (visit ∷ visits) = []
-looked_at (place ∷ places) (visit ∷ visits) =
-    placed_at place.table (with_taking place.view visit.word) ∷ looked_at places visits
+TakesEach places visits = AreLooksAt TakesAt places visits
 
 -- the words that these looks took
 abbrev pub word_at : ℕ → Option Ask → List ℕ

@@ -1,5 +1,4 @@
 pub mod Used
-pub mod Looking
 pub mod Paired
 pub mod Received
 pub mod TiedTurns

@@ -15,13 +15,13 @@ use Rattle.lift_policy.specs.Run.{Run}
 use Rattle.lift_clerk.specs.declared.counts.Counts.{Counts}
 use Rattle.lift_clerk.specs.Turn.{settled}
 use Rattle.lift_policy.specs.declared.command.Command.{Command}
-use Rattle.lift_clerk.specs.Visits.{commands_of}
+use Rattle.lift_clerk.specs.Visits.{commands_of, looked_at}
 use Rattle.std.proofs.lemmas.List.{length-map}
 use Rattle.lift_parts.specs.declared.taken.NotedCommand.{NotedCommand}
 use Rattle.lift_parts.specs.Batch.{BatchState, turns_behind, turns_of, turns_after, commands_in, replies_in, noted_in}
 use Rattle.lift_parts.specs.Line.{SendState, Tries, tried, Begins, IsNextBatch, SendsOne, WasFull, FindsNoRoom}
-use Rattle.lift_parts.specs.Scan.{ScansAhead, TakesEach, turns_in, looked_at}
-use Rattle.lift_relay.specs.Scanner.{ScannerState, MakesBatch, MakesIt, HasScanned}
+use Rattle.lift_parts.specs.Scan.{ScansAhead, TakesEach, turns_in}
+use Rattle.lift_relay.specs.Scanner.{ScannerState, MakesBatch, HasScanned}
 use Rattle.lift_relay.proofs.Queues.{full_by}
 use Rattle.lift_parts.specs.Allocator.{AllocatorState, DecidesAlong, GoesOnBehind, IsAllocator, IsScanTurn, IsAllocation, tries_behind}
 

@@ -16,16 +16,13 @@ use Rattle.lift_desk.specs.lemmas.WordLists.{last_of-push}
 use Rattle.lift_clerk.specs.Scanning.{reply_told}
 use Rattle.lift_clerk.specs.Visits.{Visit, FindsAt}
 use Rattle.lift_clerk.specs.Answered.{ask_of}
-use Rattle.lift_clerk.specs.lemmas.Visiting.{finds-at, taken-new}
-use Rattle.lift_clerk.specs.lemmas.Scanned.{Looked}
+use Rattle.lift_clerk.specs.lemmas.Visiting.{taken-new}
+use Rattle.lift_clerk.specs.lemmas.Looking.{Looked}
 use Rattle.lift_parts.specs.declared.taken.NotedCommand.{NotedCommand}
 use Rattle.lift_parts.specs.Batch.{AreBelow, commands_in, turns_of, turns_with, turns_after, IsNoted, AreNoted}
 use Rattle.lift_parts.specs.Flusher.{AnswersOne, Answered, IsSettled}
 use Rattle.lift_parts.specs.lemmas.Used.{is_below}
 use Rattle.lift_relay.specs.Settler.{IsToBeAnswered}
-
-finds : (places next : List ClerkPlace) (n word : ℕ) (found : Option Ask) → Looked places next n word found → FindsAt (get_or places n no_place) (record { word = word; found = found })
-finds places next n word found look = finds-at (get_or places n no_place) word found look.takes look.even look.number look.in_range look.known look.told
 
 number_given : (taken : NotedCommand) (found : Option Ask) (n : ℕ) → IfSome found (λ (ask : Ask). n ≡ ask.number) → found ≡ Some (ask_of taken.command) → n ≡ taken.command.number
 number_given taken found n is gives = subst (λ (o : Option Ask). IfSome o (λ (ask : Ask). n ≡ ask.number)) gives is
@@ -46,7 +43,7 @@ changed_twice (p ∷ places) zero v w = refl
 changed_twice (p ∷ places) (suc t) v w = ap (λ (l : List ClerkPlace). p ∷ l) (changed_twice places t v w)
 
 -- the look gave the command, and its answer is stored
-pub gives_one : (is_safe : Bool) (places mid next : List ClerkPlace) (taken : NotedCommand) (word : ℕ) (found : Option Ask) (reply : Reply) → Looked places mid taken.command.terminal word found → found ≡ Some (ask_of taken.command)
+pub gives_one : (is_safe : Bool) (places mid next : List ClerkPlace) (taken : NotedCommand) (word : ℕ) (found : Option Ask) (reply : Reply) → Looked FindsAt places mid taken.command.terminal word found → found ≡ Some (ask_of taken.command)
     → view_at mid taken.command.terminal ≡ with_taking (view_at places taken.command.terminal) word
     → next ≡ clerk_with mid taken.command.terminal (with_answer (view_at mid taken.command.terminal)
     (reply_word (length (view_at mid taken.command.terminal).taken) (number_of (last_of (view_at mid taken.command.terminal).taken)) reply))
@@ -55,13 +52,15 @@ pub gives_one : (is_safe : Bool) (places mid next : List ClerkPlace) (taken : No
 gives_one is_safe places mid next taken word found reply look gives here stored said noted =
     let t = taken.command.terminal in
     let view : ClerkView = with_taking (view_at places t) word in
-    let number : number_of (last_of (view_at mid t).taken) ≡ taken.command.number = ap (λ (w : ClerkView). number_of (last_of w.taken)) here ∙ number_given taken found _ look.number gives in
+    let is : word ≡ taken.note.word = one_word (view_at places t) word taken.note.word found taken look.look.reads gives noted in
+    let number : number_of (last_of (view_at mid t).taken) ≡ taken.command.number =
+    ap (λ (w : ClerkView). number_of (last_of w.taken)) here ∙ ap (λ l. number_of (last_of l)) noted ∙ ap number_of (last_of-push (view_at places t).taken taken.note.word ∙ sym is) ∙ number_given taken found _ look.look.number gives in
     let told : Reply = reply_told is_safe taken.reply in
     let count : length view.taken ≡ suc (length (view_at places t).taken) = omega (arith, ap length noted, length-append (view_at places t).taken (taken.note.word ∷ [])) in
     record {
-      finds = finds places mid t word found look;
+      finds = look.look;
       gives = gives;
-      word = one_word (view_at places t) word taken.note.word found taken look.takes gives noted;
+      word = is;
       answered = stored ∙ ap (λ (p : ℕ × Reply). clerk_with mid t (with_answer (view_at mid t) (reply_word (length (view_at mid t).taken) p.0 p.1))) (λ i. (number i, said i))
           ∙ ap (λ (v : ClerkView). clerk_with mid t (with_answer v (reply_word (length v.taken) taken.command.number told))) here
           ∙ ap (λ (l : List ClerkPlace). clerk_with l t (with_answer view (reply_word (length view.taken) taken.command.number told))) look.seat_is

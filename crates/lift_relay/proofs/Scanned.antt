@@ -1,5 +1,5 @@
 -- A scan ahead of the answers that has come one terminal further, and what a whole one leaves.
-use Rattle.std.proofs.Common.{◌≡◌, ℕ, zero, suc, ◌+◌, ◌<◌, ◌≤◌, ◌^◌, false, List, [], ◌∷◌, ◌++◌, length, get_or, Option, Some, None, refl, sym, ap, ◌∙◌, subst, arith, length-append, append_assoc, append-nil}
+use Rattle.std.proofs.Common.{◌≡◌, ℕ, suc, ◌+◌, ◌<◌, ◌≤◌, ◌^◌, false, List, [], ◌∷◌, ◌++◌, length, Option, Some, None, refl, sym, ap, ◌∙◌, subst, arith, append_assoc, append-nil}
 use Rattle.std.specs.Prelude.{IfSome, IsSome}
 use Rattle.std.proofs.lemmas.List.{map-append}
 use Rattle.lift_base.specs.declared.command.Reply.{Reply}
@@ -10,7 +10,7 @@ use Rattle.lift_desk.specs.declared.words.Ask.{Ask}
 use Rattle.lift_desk.specs.Words.{last_of, turn_of}
 use Rattle.lift_desk.specs.Spelled.{IsAsk}
 use Rattle.lift_desk.specs.Steps.{with_taking}
-use Rattle.lift_desk.specs.Seats.{ClerkPlace, no_place, view_at, clerk_with, TakesAheadOf, IsToldAhead}
+use Rattle.lift_desk.specs.Seats.{ClerkPlace, view_at, clerk_with, TakesAheadOf, IsToldAhead}
 use Rattle.lift_desk.specs.lemmas.Places.{view_at-here}
 use Rattle.lift_policy.specs.declared.command.Command.{Command}
 use Rattle.lift_policy.specs.Eligible.{Choice}
@@ -21,18 +21,10 @@ use Rattle.lift_keeper.specs.Keeper.{IsKeeper}
 use Rattle.lift_keeper.specs.lemmas.Keepers.{decided_keeper, settled_keeper}
 use Rattle.lift_clerk.specs.Visits.{Visit, command_at, commands_of}
 use Rattle.lift_clerk.specs.lemmas.Visiting.{commands-more}
-use Rattle.lift_parts.specs.lemmas.Looking.{looked-more, untouched}
+use Rattle.lift_clerk.specs.lemmas.Looking.{Looked, one-more}
 use Rattle.lift_parts.specs.declared.taken.NotedCommand.{NotedCommand}
 use Rattle.lift_parts.specs.Batch.{commands_in, replies_in, noted_in, AreBelow}
-use Rattle.lift_parts.specs.Scan.{TakesAt, TakesEach, ScansAhead, word_at, words_of}
-
-takes-more : (places : List ClerkPlace) (visits : List Visit) (n : ℕ) (v : Visit) → n ≡ length visits → n < length places → TakesEach places visits → TakesAt (get_or places n no_place) v
-    → TakesEach places (visits ++ v ∷ [])
-takes-more [] visits n v e h takes here = absurd (omega arith)
-takes-more (p ∷ places) [] zero v e h takes here = (here, tt)
-takes-more (p ∷ places) [] (suc n) v e h takes here = absurd (omega arith)
-takes-more (p ∷ places) (u ∷ visits) zero v e h takes here = absurd (omega arith)
-takes-more (p ∷ places) (u ∷ visits) (suc n) v e h takes here = (takes.0, takes-more places visits n v (omega arith) (omega arith) takes.1 here)
+use Rattle.lift_parts.specs.Scan.{TakesAt, ScansAhead, word_at, words_of}
 
 -- the words of one look more
 words-more : (visits : List Visit) (v : Visit) → words_of (visits ++ v ∷ []) ≡ words_of visits ++ word_at v.word v.found
@@ -44,30 +36,24 @@ pub scans-none : (choice : Choice) (plan : Plan) (places : List ClerkPlace) (sta
 scans-none choice plan places state = record { visits = []; count = refl; takes = tt; looked = refl; commands = refl; notes = refl; run = refl }
 
 -- what the call says of one look
-pub record Looked (seat next : List ClerkPlace) (n word : ℕ) (found : Option Ask) : Type 0 where
-  pub seat_is : next ≡ clerk_with seat n (with_taking (view_at seat n) word)
-  pub takes : TakesAheadOf (view_at seat n) word found
-  pub in_range : IfSome found IsAsk
-  pub turn : IsSome found → turn_of (last_of (with_taking (view_at seat n) word).taken) < 2 ^ 20
-  pub known : length (view_at seat n).told ≤ turn_of (last_of (with_taking (view_at seat n) word).taken)
-  pub told : (ask : Ask) → IsToldAhead (view_at seat n) ask → IsSome found × (turn_of (last_of (with_taking (view_at seat n) word).taken) ≡ length (view_at seat n).told → found ≡ Some ask)
-
 pub looked-at : (seat next : List ClerkPlace) (n word : ℕ) (found : Option Ask) → n < length seat → next ≡ clerk_with seat n (with_taking (view_at seat n) word) → TakesAheadOf (view_at seat n) word found
     → IfSome found IsAsk → (IsSome found → turn_of (last_of (view_at next n).taken) < 2 ^ 20) → length (view_at seat n).told ≤ turn_of (last_of (view_at next n).taken)
-    → ((ask : Ask) → IsToldAhead (view_at seat n) ask → IsSome found × (turn_of (last_of (view_at next n).taken) ≡ length (view_at seat n).told → found ≡ Some ask)) → Looked seat next n word found
+    → ((ask : Ask) → IsToldAhead (view_at seat n) ask → IsSome found × (turn_of (last_of (view_at next n).taken) ≡ length (view_at seat n).told → found ≡ Some ask)) → Looked TakesAt seat next n word found
 looked-at seat next n word found inside is takes in_range turn known told =
     let here : view_at next n ≡ with_taking (view_at seat n) word = ap (λ l. view_at l n) is ∙ view_at-here seat n (with_taking (view_at seat n) word) inside in
     record {
       seat_is = is;
-      takes = takes;
-      in_range = in_range;
-      turn = subst (λ (w : ClerkView). IsSome found → turn_of (last_of w.taken) < 2 ^ 20) here turn;
-      known = subst (λ (w : ClerkView). length (view_at seat n).told ≤ turn_of (last_of w.taken)) here known;
-      told = subst (λ (w : ClerkView). (ask : Ask) → IsToldAhead (view_at seat n) ask → IsSome found × (turn_of (last_of w.taken) ≡ length (view_at seat n).told → found ≡ Some ask)) here told;
+      look = record {
+        reads = takes;
+        in_range = in_range;
+        turn = subst (λ (w : ClerkView). IsSome found → turn_of (last_of w.taken) < 2 ^ 20) here turn;
+        known = subst (λ (w : ClerkView). length (view_at seat n).told ≤ turn_of (last_of w.taken)) here known;
+        told = subst (λ (w : ClerkView). (ask : Ask) → IsToldAhead (view_at seat n) ask → IsSome found × (turn_of (last_of w.taken) ≡ length (view_at seat n).told → found ≡ Some ask)) here told;
+      };
     }
 
 pub scans-more : (choice : Choice) (plan : Plan) (places seat next : List ClerkPlace) (before mid after : State) (taken others : List NotedCommand) (n word : ℕ) (found : Option Ask)
-    → RunsJoin choice → n < length places → ScansAhead choice plan places seat before mid taken n → Looked seat next n word found
+    → RunsJoin choice → n < length places → ScansAhead choice plan places seat before mid taken n → Looked TakesAt seat next n word found
     → commands_in others ≡ command_at n found → noted_in others ≡ word_at word found
     → Run plan choice mid (commands_in others) (replies_in others) after
     → ScansAhead choice plan places next before after (taken ++ others) (suc n)
@@ -75,19 +61,12 @@ scans-more choice plan places seat next before mid after taken others n word fou
     let visits = old.visits in
     let v : Visit = record { word = word; found = found } in
     let count : n ≡ length visits = sym old.count in
-    let here : view_at seat n ≡ view_at places n = ap (λ l. view_at l n) old.looked ∙ ap (λ (p : ClerkPlace). p.view) (untouched places visits n no_place (omega arith)) in
-    let takes : TakesAt (get_or places n no_place) v = record {
-      reads = subst (λ (w : ClerkView). TakesAheadOf w word found) here look.takes;
-      in_range = look.in_range;
-      turn = subst (λ (w : ClerkView). IsSome found → turn_of (last_of (with_taking w word).taken) < 2 ^ 20) here look.turn;
-      known = subst (λ (w : ClerkView). length w.told ≤ turn_of (last_of (with_taking w word).taken)) here look.known;
-      told = subst (λ (w : ClerkView). (ask : Ask) → IsToldAhead w ask → IsSome found × (turn_of (last_of (with_taking w word).taken) ≡ length w.told → found ≡ Some ask)) here look.told;
-    } in
+    let all = one-more TakesAt places seat next visits n word found inside (record { count = old.count; looks = old.takes; looked = old.looked }) look in
     record {
       visits = visits ++ v ∷ [];
-      count = omega (arith, length-append visits (v ∷ []));
-      takes = takes-more places visits n v count inside old.takes takes;
-      looked = look.seat_is ∙ ap (λ l. clerk_with l n (with_taking (view_at l n) word)) old.looked ∙ looked-more places visits n v count inside;
+      count = all.count;
+      takes = all.looks;
+      looked = all.looked;
       notes = map-append (λ (t : NotedCommand). t.note.word) taken others ∙ ap (λ l. l ++ noted_in others) old.notes ∙ ap (λ l. words_of visits ++ l) noted ∙ sym (words-more visits v);
       commands = map-append (λ (t : NotedCommand). t.command) taken others ∙ ap (λ l. l ++ commands_in others) old.commands ∙ ap (λ l. commands_of 0 visits ++ l) same ∙ sym (commands-more 0 n visits v (omega arith));
       run = subst (λ (p : List Command × List Reply). Run plan choice before p.0 p.1 after) (λ i. (sym (map-append (λ (t : NotedCommand). t.command) taken others) i, sym (map-append (λ (t : NotedCommand). t.reply) taken others) i))

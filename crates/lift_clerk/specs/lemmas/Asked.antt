@@ -1,8 +1,8 @@
 -- The worlds between calls, and what terminals do first.
 use Rattle.lift_clerk.specs.Answered.{AreApart}
-use Rattle.std.proofs.Common.{ℕ, ◌≡◌, ◌≤◌, Bool, true, false, List, [], ◌∷◌, ◌++◌, length, Option}
-use Rattle.std.proofs.Common.{Some, None, refl, sym, ap, subst, ◌∙◌, arith}
-use Rattle.std.specs.Prelude.{IsTrue, unwrap_or, option_and_then}
+use Rattle.std.proofs.Common.{ℕ, ◌≡◌, ◌≤◌, Bool, true, false, List, [], ◌∷◌, ◌++◌, length}
+use Rattle.std.proofs.Common.{Some, refl, sym, ap, subst, ◌∙◌, arith}
+use Rattle.std.specs.Prelude.{IsTrue}
 use Rattle.std.specs.List.{AllByRecursion, flat_map}
 use Rattle.std.proofs.lemmas.Bool.{false≢true}
 use Rattle.std.proofs.lemmas.List.{append-nil}
@@ -14,31 +14,18 @@ use Rattle.lift_policy.specs.Run.{Run}
 use Rattle.lift_policy.specs.declared.command.Command.{Command}
 use Rattle.lift_world.specs.declared.event.Answer.{Answer}
 use Rattle.lift_world.specs.declared.event.Event.{Event}
-use Rattle.lift_world.specs.declared.event.Power.{Power}
-use Rattle.lift_world.specs.declared.event.Power.TheVariants.{Running, Broken, Off}
 use Rattle.lift_world.specs.declared.event.Taken.{Taken}
-use Rattle.lift_world.specs.World.{World, SealedBatch, start, state_of, is_running, is_off}
-use Rattle.lift_world.specs.Next.{next, run, goes, unanswered}
+use Rattle.lift_world.specs.World.{World, SealedBatch, start, state_of, is_off}
+use Rattle.lift_world.specs.Next.{run, goes, unanswered}
 use Rattle.lift_world.specs.Asking.{asked_on}
 use Rattle.lift_world.specs.Beside.{is_of_terminals}
 use Rattle.lift_world.specs.Headline.{HearsInOrder}
 use Rattle.lift_world.specs.Policies.{RunsAreAny}
 use Rattle.lift_world.specs.Turns.{IsAtRest, IsBrokenAtRest, AreFound}
+use Rattle.lift_world.specs.lemmas.Leads.{running_on}
 use Rattle.lift_clerk.specs.Machine.{IsReached, LooksAgree}
 use Rattle.lift_clerk.specs.Laws.{Laws}
 use Rattle.lift_clerk.specs.lemmas.Standing.{fresh, Splits, fresh_answered, all_found}
-
--- a list of possible events, and one behind it
-by_next : (xs ys : List Event) (v : World) (o : Option World)
-    → ((u : World) → goes xs u ≡ Some v → goes (xs ++ ys) u ≡ goes ys v)
-    → option_and_then (goes xs) o ≡ Some v → option_and_then (goes (xs ++ ys)) o ≡ goes ys v
-by_next xs ys v None h e = cc
-by_next xs ys v (Some u) h e = h u e
-
-pub goes_behind : (xs ys : List Event) (w v : World) → goes xs w ≡ Some v
-    → goes (xs ++ ys) w ≡ goes ys v
-goes_behind [] ys w v e = ap (λ (o : Option World). goes ys (unwrap_or o w)) e
-goes_behind (x ∷ xs) ys w v e = by_next xs ys v (next w x) (λ u h. goes_behind xs ys u v h) e
 
 -- nothing is on its way
 pub record IsResting (w : World) : Type 0 where
@@ -55,11 +42,6 @@ nothing_left w d f q t =
     f
     ∙ ap (λ (xs : List SealedBatch). flat_map (λ (b : SealedBatch). b.commands) xs ++ w.taken) q ∙ t
 
-is_on : (p : Power) → is_running p ≡ true → is_off p ≡ false
-is_on Running e = refl
-is_on Broken e = absurd (false≢true e)
-is_on (Off kept) e = absurd (false≢true e)
-
 none_few : (w : World) → w.queue ≡ [] → length w.queue ≤ 4
 none_few w q = let l : length w.queue ≡ 0 = ap length q in omega arith
 
@@ -67,7 +49,7 @@ pub rests : (w : World) → IsAtRest w → IsResting w
 rests w k = record {
   nothing = nothing_left w k.nothing_due
       (ap (λ (b : SealedBatch). b.commands) k.nothing_flies) k.nothing_queued k.nothing_taken;
-  on = is_on w.power k.running;
+  on = running_on w.power k.running;
   few = none_few w k.nothing_queued;
 }
 

@@ -7,7 +7,6 @@ use Rattle.std.proofs.lemmas.List.{append-nil}
 use Rattle.atomic_table.specs.Seated.{TableId}
 use Rattle.lift_base.specs.declared.history.Entry.{Entry}
 use Rattle.lift_register.specs.Register.{RegisterState, register_of}
-use Rattle.lift_register.specs.Joins.{RegistersJoin}
 use Rattle.lift_desk.specs.declared.view.ClerkView.{ClerkView}
 use Rattle.lift_desk.specs.Rule.{no_answers}
 use Rattle.lift_desk.specs.Seats.{ClerkPlace, view_at, clerk_of}
@@ -32,6 +31,7 @@ use Rattle.lift_clerk.specs.Machine.{IsReached, WaitsNowhere, ClerkReopens, Stay
 use Rattle.lift_clerk.specs.Machine.{kept_after}
 use Rattle.lift_clerk.specs.Steps.{ClerkRests}
 use Rattle.lift_clerk.specs.Laws.{Laws}
+use Rattle.lift_keeper.specs.lemmas.Keepers.{nothing_behind}
 use Rattle.lift_clerk.specs.lemmas.Asked.{reaches, not_both}
 use Rattle.lift_clerk.specs.lemmas.Turned.{register_with, safe_all, state_is}
 
@@ -63,12 +63,6 @@ pub nothing_kept : {A B : Type 0} (safe batch : List Entry) (o : A ⊎ B) → ba
     → kept_after safe batch o ≡ safe
 nothing_kept safe batch (inl without) e = refl
 nothing_kept safe batch (inr whole) e = ap (λ (xs : List Entry). safe ++ xs) e ∙ append-nil safe
-
-module _ (registers : RegistersJoin) where
-  -- nothing in doubt
-  pub with_nothing : (base : RegisterState) (xs : List Entry)
-      → register_of (register_of base xs) [] ≡ register_of base xs
-  with_nothing base xs = registers base xs [] ∙ ap (register_of base) (append-nil xs)
 
 -- an opening leaves the world of its register
 opened : {D P : Type 0} (end : World) (clerk : ClerkState D P) → IsAtRest end
@@ -130,7 +124,7 @@ module _ {D P : Type 0} (laws : Laws) (w : World) (before after : ClerkState D P
   safe_again s d (inl e) = e ∙ s
   safe_again s d (inr e) =
       e ∙ ap (register_of before.keeper.writer.register) d ∙ ap (λ (x : RegisterState).
-      register_of x []) s ∙ with_nothing laws.registers w.base (safe_list w)
+      register_of x []) s ∙ nothing_behind w.base (safe_list w)
 
   while_whole : before.keeper.writer.is_broken ≡ false → Keeps r.one_of
   while_whole e =
@@ -289,7 +283,7 @@ faults_are_events laws w before after s was is m =
     }
 
 -- a new desk
-new_view : (desk : List TableId) (t : ℕ) → view_at (clerk_of desk) t ≡ no_answers
+pub new_view : (desk : List TableId) (t : ℕ) → view_at (clerk_of desk) t ≡ no_answers
 new_view [] t = refl
 new_view (x ∷ desk) zero = refl
 new_view (x ∷ desk) (suc t) = new_view desk t

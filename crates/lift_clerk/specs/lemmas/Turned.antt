@@ -37,7 +37,8 @@ use Rattle.lift_clerk.specs.lemmas.Served.{answers_of}
 use Rattle.lift_clerk.specs.lemmas.Standing.{fresh, fresh_none, Splits, Asks, waiting_is}
 use Rattle.lift_clerk.specs.lemmas.Standing.{asks_after}
 use Rattle.lift_clerk.specs.lemmas.Words.{Ends, splits_of, words_after}
-use Rattle.lift_clerk.specs.lemmas.Asked.{Asked, ask, reaches, rests, goes_behind, not_both}
+use Rattle.lift_world.specs.lemmas.Goes.{joined}
+use Rattle.lift_clerk.specs.lemmas.Asked.{Asked, ask, reaches, rests, not_both}
 
 module _ {D P : Type 0} (laws : Laws) (w : World) (before after : ClerkState D P)
     (m : IsMachineOf w before) where
@@ -195,7 +196,7 @@ module _ (laws : Laws) (w : World) (rest : IsAtRest w) where
           before = a.events;
           theirs = a.theirs;
           end = world_after_turn w1 (c ∷ cs) (reply ∷ rs) state;
-          possible = goes_behind a.events (turn_events (c ∷ cs) t.0 folds (length state.batch)) w w1
+          possible = joined a.events (turn_events (c ∷ cs) t.0 folds (length state.batch)) w w1
               a.possible ∙ t.1 folds;
           ends = record { building = refl; base = refl; asked = refl; answered = refl; given = refl };
           alone = a.alone;

@@ -1,22 +1,19 @@
 -- One more look, and one more reply.
-use Rattle.std.proofs.Common.{◌≡◌, ℕ, zero, suc, ◌+◌, ◌<◌, ◌≤◌, true, false, List, [], ◌∷◌, ◌++◌}
+use Rattle.std.proofs.Common.{◌≡◌, ℕ, zero, suc, ◌+◌, ◌<◌, true, false, List, [], ◌∷◌, ◌++◌}
 use Rattle.std.proofs.Common.{length, get_or, Option, Some, None, refl, sym, ap, ◌∙◌, subst, arith}
 use Rattle.std.proofs.Common.{length-append, append_assoc}
-use Rattle.std.specs.Prelude.{IfSome, IsSome}
 use Rattle.std.proofs.lemmas.List.{append-nil}
-use mathlib.Core.List.{IsPrefix}
 use Rattle.lift_base.specs.declared.command.Reply.{Reply}
 use Rattle.lift_desk.specs.declared.view.ClerkView.{ClerkView}
 use Rattle.lift_desk.specs.declared.words.Ask.{Ask}
 use Rattle.lift_desk.specs.Words.{last_of, number_of, reply_word}
-use Rattle.lift_desk.specs.Spelled.{IsAsk}
 use Rattle.lift_desk.specs.Steps.{is_new_word, with_taking, with_answer}
-use Rattle.lift_desk.specs.Seats.{ClerkPlace, no_place, view_at, clerk_with, placed_at, TakesOf}
-use Rattle.lift_desk.specs.Seats.{IsToldAsk, Owes, OwesNothing}
+use Rattle.lift_desk.specs.Seats.{ClerkPlace, view_at, clerk_with, placed_at}
+use Rattle.lift_desk.specs.Seats.{Owes, OwesNothing}
 use Rattle.lift_desk.specs.lemmas.WordLists.{last_of-push}
 use Rattle.lift_policy.specs.declared.command.Command.{Command}
 use Rattle.lift_clerk.specs.Visits.{Visit, FindsAt, Finds, command_at, commands_of, with_reply}
-use Rattle.lift_clerk.specs.Visits.{replies_behind, served}
+use Rattle.lift_clerk.specs.Visits.{looked_at, replies_behind, served}
 use Rattle.lift_clerk.specs.Scanning.{terminals_of}
 
 pub commands-more : (first n : ℕ) (visits : List Visit) (v : Visit) → n ≡ first + length visits
@@ -29,54 +26,22 @@ commands-more first n (u ∷ visits) v e =
     ∙ sym (append_assoc (command_at first u.found) (commands_of (suc first) visits)
     (command_at n v.found))
 
-pub finds-more : (places : List ClerkPlace) (visits : List Visit) (n : ℕ) (v : Visit)
-    → n ≡ length visits → n < length places → Finds places visits
-    → FindsAt (get_or places n no_place) v → Finds places (visits ++ v ∷ [])
-finds-more [] visits n v e h finds here = absurd (omega arith)
-finds-more (p ∷ places) [] zero v e h finds here = (here, tt)
-finds-more (p ∷ places) [] (suc n) v e h finds here = absurd (omega arith)
-finds-more (p ∷ places) (u ∷ visits) zero v e h finds here = absurd (omega arith)
-finds-more (p ∷ places) (u ∷ visits) (suc n) v e h finds here =
-    (finds.0, finds-more places visits n v (omega arith) (omega arith) finds.1 here)
+-- the seats behind these looks, where nothing is stored yet
+none_stored : (p : ClerkPlace) (places : List ClerkPlace) (word : ℕ) (found : Option Ask)
+    (visits : List Visit) → served places visits [] ≡ looked_at places visits
+    → served (p ∷ places) (record { word = word; found = found } ∷ visits) []
+    ≡ looked_at (p ∷ places) (record { word = word; found = found } ∷ visits)
+none_stored p places word None visits e =
+    ap (λ l. placed_at p.table (with_taking p.view word) ∷ l) e
+none_stored p places word (Some ask) visits e =
+    ap (λ l. placed_at p.table (with_taking p.view word) ∷ l) e
 
-none_behind : (found : Option Ask) (replies : List Reply) → replies ≡ []
-    → replies_behind found replies ≡ []
-none_behind None replies e = e
-none_behind (Some ask) [] e = refl
-none_behind (Some ask) (r ∷ replies) e = absurd (cc)
-
-none_stored : (view : ClerkView) (found : Option Ask) (replies : List Reply) → replies ≡ []
-    → with_reply view found replies ≡ view
-none_stored view None replies e = refl
-none_stored view (Some ask) [] e = refl
-none_stored view (Some ask) (r ∷ replies) e = absurd (cc)
-
--- a look behind those that were made
-pub looked-more : (places : List ClerkPlace) (visits : List Visit) (replies : List Reply) (n : ℕ)
-    (v : Visit) → replies ≡ [] → n ≡ length visits → n < length places
-    → clerk_with (served places visits replies) n
-    (with_taking (view_at (served places visits replies) n) v.word)
-    ≡ served places (visits ++ v ∷ []) replies
-looked-more [] visits replies n v none e h = absurd (omega arith)
-looked-more (p ∷ places) [] replies zero v none e h =
-    ap (λ view. placed_at p.table view ∷ places)
-    (sym (none_stored (with_taking p.view v.word) v.found replies none))
-looked-more (p ∷ places) [] replies (suc n) v none e h = absurd (omega arith)
-looked-more (p ∷ places) (u ∷ visits) replies zero v none e h = absurd (omega arith)
-looked-more (p ∷ places) (u ∷ visits) replies (suc n) v none e h =
-    ap (λ l. placed_at p.table (with_reply (with_taking p.view u.word) u.found replies) ∷ l)
-    (looked-more places visits (replies_behind u.found replies) n v
-    (none_behind u.found replies none) (omega arith) (omega arith))
-
--- the places behind these looks are as they were
-pub untouched : (places : List ClerkPlace) (visits : List Visit) (replies : List Reply) (n : ℕ)
-    (d : ClerkPlace) → length visits ≤ n
-    → get_or (served places visits replies) n d ≡ get_or places n d
-untouched places [] replies n d h = refl
-untouched [] (u ∷ visits) replies n d h = refl
-untouched (p ∷ places) (u ∷ visits) replies zero d h = absurd (omega arith)
-untouched (p ∷ places) (u ∷ visits) replies (suc n) d h =
-    untouched places visits (replies_behind u.found replies) n d (omega arith)
+pub served-none : (places : List ClerkPlace) (visits : List Visit)
+    → served places visits [] ≡ looked_at places visits
+served-none places [] = refl
+served-none [] (u ∷ visits) = refl
+served-none (p ∷ places) (u ∷ visits) =
+    none_stored p places u.word u.found visits (served-none places visits)
 
 pub length-served : (places : List ClerkPlace) (visits : List Visit) (replies : List Reply)
     → length (served places visits replies) ≡ length places
@@ -92,26 +57,6 @@ taken-new view word new = rw new
 pub taken-old : (view : ClerkView) (word : ℕ) → is_new_word view word ≡ false
     → (with_taking view word).taken ≡ view.taken
 taken-old view word old = rw old
-
--- what a look finds, of what its call says
-pub finds-at : (place : ClerkPlace) (word : ℕ) (found : Option Ask) → TakesOf place.view word found
-    → (IsSome found → length place.view.answered ≡ length place.view.taken)
-    → IfSome found (λ (ask : Ask). number_of (last_of (with_taking place.view word).taken)
-    ≡ ask.number) → IfSome found IsAsk
-    → IsPrefix place.view.told (with_taking place.view word).taken
-    → ((ask : Ask) → IsToldAsk place.view ask → found ≡ Some ask)
-    → FindsAt place (record { word = word; found = found })
-finds-at place word None reads even number in_range known told =
-    record { reads = reads; even = even; number = tt; in_range = tt; known = known; told = told }
-finds-at place word (Some ask) reads even number in_range known told = record {
-  known = known;
-  told = told;
-  in_range = in_range;
-  reads = reads;
-  even = even;
-  number = ap number_of (sym (last_of-push place.view.taken word)) ∙ ap (λ l.
-      number_of (last_of l)) (sym (taken-new place.view word reads.0)) ∙ number;
-}
 
 -- the next reply can be stored where its ask was found, and then it is
 pub record Answerable (first : ℕ) (places : List ClerkPlace) (visits : List Visit)

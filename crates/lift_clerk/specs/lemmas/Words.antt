@@ -2,7 +2,7 @@
 use Rattle.lift_clerk.specs.Answered.{Grows, answer_words, answers_to, ask_of}
 use Rattle.std.proofs.Common.{ℕ, suc, ◌≡◌, ◌+◌, List, [], ◌∷◌, ◌++◌, length, map, refl, sym, ap}
 use Rattle.std.proofs.Common.{◌∙◌, arith}
-use Rattle.std.specs.Prelude.{filter, count_by}
+use Rattle.std.specs.Prelude.{filter, count_by, All}
 use Rattle.std.proofs.lemmas.List.{length-append, length-map}
 use Rattle.std.proofs.lemmas.List.Elements.{filter-append}
 use Rattle.std.proofs.lemmas.List.Sums.{length-filter}
@@ -10,14 +10,30 @@ use mathlib.Core.List.{map-append}
 use Rattle.lift_base.specs.declared.command.Reply.{Reply}
 use Rattle.lift_desk.specs.declared.view.ClerkView.{ClerkView}
 use Rattle.lift_desk.specs.declared.words.Ask.{Ask}
-use Rattle.lift_desk.specs.Words.{ask_word, reply_word}
-use Rattle.lift_desk.specs.Spelled.{ask_words}
+use Rattle.lift_desk.specs.Words.{ask_word, reply_word, ask_of as word_ask}
+use Rattle.lift_desk.specs.Spelled.{ask_words, IsAsk}
+use Rattle.lift_desk.specs.lemmas.ReadBack.{ask_back}
 use Rattle.lift_policy.specs.declared.command.Command.{Command}
 use Rattle.lift_world.specs.declared.event.Answer.{Answer}
 use Rattle.lift_world.specs.World.{World, asks, is_answer_to}
 use Rattle.lift_world.specs.Turns.{with_replies}
 use Rattle.lift_clerk.specs.Machine.{ShowsWords}
 use Rattle.lift_clerk.specs.lemmas.Standing.{fresh, Splits}
+
+-- one of some has what all have
+pub last_has : {A : Type 0} (P : A → Type 0) (xs : List A) (a : A) (ys : List A)
+    → All P (xs ++ a ∷ ys) → P a
+last_has P [] a ys h = h 0 a (omega arith)
+last_has P (x ∷ xs) a ys h = last_has P xs a ys (λ k d below. h (suc k) d (omega arith))
+
+-- a word spells one ask
+pub one_ask : (turn other : ℕ) (a b : Ask) → IsAsk a → IsAsk b
+    → ask_word turn a.number a.body ≡ ask_word other b.number b.body
+    → (a.number ≡ b.number) × (a.body ≡ b.body)
+one_ask turn other a b h k e =
+    let same = sym (ask_back turn a.number a.body h.0 h.1) ∙ ap word_ask e
+    ∙ ask_back other b.number b.body k.0 k.1 in
+    (ap (λ (x : Ask). x.number) same, ap (λ (x : Ask). x.body) same)
 
 pub asks_both : (n : ℕ) (xs ys : List Ask)
     → ask_words n (xs ++ ys) ≡ ask_words n xs ++ ask_words (n + length xs) ys

@@ -10,9 +10,9 @@ use Rattle.lift_desk.specs.Words.{turn_of, last_of}
 use Rattle.lift_desk.specs.Steps.{with_taking}
 use Rattle.lift_desk.specs.Seats.{ClerkPlace, TakesAheadOf}
 use Rattle.lift_desk.specs.lemmas.WordLists.{last_of-push}
-use Rattle.lift_clerk.specs.Visits.{Visit, command_at, commands_of}
+use Rattle.lift_clerk.specs.Visits.{Visit, command_at, commands_of, looked_at}
 use Rattle.lift_clerk.specs.lemmas.Visiting.{taken-new, taken-old}
-use Rattle.lift_parts.specs.Scan.{TakesAt, TakesEach, capped, turns_in, looked_at}
+use Rattle.lift_parts.specs.Scan.{TakesAt, TakesEach, capped, turns_in}
 
 pub below_is : (m n : ℕ) → nat_lt m n ≡ true → m < n
 below_is m n e = grind (arith, nat_tests)

@@ -1,8 +1,10 @@
 use Rattle.std.proofs.Common.{◌≡◌, ◌<◌, ◌∙◌, length, sym, ap, subst, arith}
 use Rattle.std.proofs.lemmas.List.{length-map}
+use Rattle.std.proofs.lemmas.List.Elements.{All-nil}
 use Rattle.lift_desk.specs.Words.{last_of, number_of, reply_word, IsReply}
 use Rattle.lift_desk.specs.Steps.{with_answer}
 use Rattle.lift_desk.specs.Seats.{ClerkPlace, view_at, clerk_with}
+use Rattle.lift_clerk.specs.lemmas.Visiting.{served-none}
 use Rattle.lift_clerk.proofs.Answered.{answerable, owed_at, stored_at, stored_all, all_told, told_all}
 use Rattle.lift_clerk.proofs.scan.answer_all.Goals as goal
 
@@ -29,6 +31,13 @@ answer-requires-clause-owes c =
     let still : length c.loop-place.seat ≡ length c.args.desk.now = sym (length-map c.loop-place.seat (λ (p : ClerkPlace). p.table)) ∙ ap length i.seated in
     let here = answerable places visits c.args.seat.now answers c.deref.result.now c.args.is_safe c.loop-place.place c.index-deref-place.result scanned c.deref.ensures.0 (omega arith) c.index-deref-place.is in
     (owed_at (length c.args.desk.now) places c.loop-place.seat visits _ _ c.index-deref-place.result.terminal here (i.stored places visits scanned) still).1
+
+pub loop-place-init : goal.loop-place-init
+loop-place-init c = record {
+  stored = λ places visits scanned. scanned.looked ∙ sym (served-none places visits);
+  in_range = All-nil IsReply;
+  seated = c.requires.seated;
+}
 
 pub loop-place-preserved : goal.loop-place-preserved
 loop-place-preserved c =

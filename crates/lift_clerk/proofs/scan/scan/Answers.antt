@@ -4,9 +4,10 @@ use Rattle.std.specs.Option.{option_to_list}
 use Rattle.std.proofs.lemmas.List.{length-map}
 use Rattle.lift_desk.specs.Seats.{ClerkPlace}
 use Rattle.lift_keeper.specs.Writer.{WriterView}
-use Rattle.lift_clerk.specs.Visits.{command_at}
+use Rattle.lift_clerk.specs.Visits.{command_at, FindsAt}
 use Rattle.lift_clerk.specs.Scanning.{Decides, Scans, terminals_in, terminals_of, replies_in}
-use Rattle.lift_clerk.specs.lemmas.Scanned.{Looked, looked-at, scans-more, few-more}
+use Rattle.lift_clerk.specs.lemmas.Looking.{Looked}
+use Rattle.lift_clerk.specs.lemmas.Scanned.{looked-at, scans-more, few-more}
 use Rattle.lift_clerk.proofs.scan.scan.Goals as goal
 
 pub loop-t-preserved : goal.loop-t-preserved
@@ -22,7 +23,7 @@ loop-t-preserved g c =
     let many : length c.args.seat.now ≡ length c.args.desk.now = sym (length-map c.args.seat.now (λ (p : ClerkPlace). p.table)) ∙ ap length c.requires.seated in
     let still : length c.loop-t.seat ≡ length c.args.desk.now = sym (length-map c.loop-t.seat (λ (p : ClerkPlace). p.table)) ∙ ap length i.seated in
     let look = c.look-ask.ensures in
-    let looked = subst (λ n. Looked c.loop-t.seat c.look-ask.new.clerk n look.looked.0 found) terminal
+    let looked = subst (λ n. Looked FindsAt c.loop-t.seat c.look-ask.new.clerk n look.looked.0 found) terminal
     (looked-at c.loop-t.seat c.look-ask.new.clerk c.unwrap-terminal.result look.looked.0 found (omega arith) look.looked.1 look.looked.2 look.tells) in
     let same = subst (λ n. terminals_in more ≡ terminals_of (command_at n found)) terminal c.answer_to-answer.ensures.terminal in
     let decides = subst (λ (w : WriterView g.row.D.Denot). Decides w.is_broken w.plan choice c.loop-t.keeper.state (command_at t found) (replies_in more) after) i.writer

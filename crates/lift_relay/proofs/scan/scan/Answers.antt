@@ -12,12 +12,13 @@ use Rattle.lift_clerk.specs.lemmas.Scanned.{few-more}
 use Rattle.lift_keeper.specs.lemmas.Keepers.{nothing_more}
 use Rattle.lift_parts.specs.Batch.{AreBelow, AreNoted, commands_in, replies_in, turns_of, turns_after}
 use Rattle.lift_parts.specs.declared.taken.NotedCommand.{NotedCommand}
-use Rattle.lift_parts.specs.Scan.{ScansAhead, turns_in}
+use Rattle.lift_parts.specs.Scan.{TakesAt, ScansAhead, turns_in}
 use Rattle.lift_relay.proofs.Noted.{noted_more}
 use Rattle.lift_parts.specs.lemmas.Used.{uses}
 use Rattle.lift_clerk.specs.Answered.{AreApart}
 use Rattle.lift_clerk.specs.lemmas.Served.{all_apart}
-use Rattle.lift_relay.proofs.Scanned.{Looked, looked-at, scans-more, below, run-keeps}
+use Rattle.lift_clerk.specs.lemmas.Looking.{Looked}
+use Rattle.lift_relay.proofs.Scanned.{looked-at, scans-more, below, run-keeps}
 use Rattle.lift_relay.proofs.scan.scan.Goals as goal
 
 pub loop-t-preserved : goal.loop-t-preserved
@@ -33,7 +34,7 @@ loop-t-preserved g c =
     let many : length c.args.seat.now ≡ length c.args.desk.now = sym (length-map c.args.seat.now (λ (p : ClerkPlace). p.table)) ∙ ap length c.requires.seated in
     let still : length c.loop-t.seat ≡ length c.args.desk.now = sym (length-map c.loop-t.seat (λ (p : ClerkPlace). p.table)) ∙ ap length i.seated in
     let look = c.take-ask.ensures in
-    let looked = subst (λ n. Looked c.loop-t.seat c.take-ask.new.ahead n look.looked.0 found) terminal
+    let looked = subst (λ n. Looked TakesAt c.loop-t.seat c.take-ask.new.ahead n look.looked.0 found) terminal
     (looked-at c.loop-t.seat c.take-ask.new.ahead c.unwrap-terminal.result look.looked.0 found (omega arith) look.looked.1 look.looked.2 look.in_range look.turn look.known look.finds) in
     let same = subst (λ n. commands_in more ≡ command_at n found) terminal c.decide-decided.ensures.command in
     let decides = subst (λ (p : Plan). Run p choice c.loop-t.decider.state (commands_in more) (replies_in more) after) i.plan c.decide-decided.ensures.decides in
@@ -42,7 +43,7 @@ loop-t-preserved g c =
     let note = subst (λ n. IfSome c.decide-decided.result (λ (k : NotedCommand). IsNoteOf c.args.desk.now n k.note × (k.note.word ≡ last_of (view_at c.take-ask.new.ahead n).taken))) terminal c.decide-decided.ensures.noted in
     let last = subst (λ n. IfSome found (λ (ask : Ask). last_of (view_at c.take-ask.new.ahead n).taken ≡ ask_word (turn_of (last_of (view_at c.take-ask.new.ahead n).taken)) ask.number ask.body)) terminal look.last in
     let noted = noted_more c.args.desk.now (turns_of c.args.seat.now) c.loop-t.taken.items c.decide-decided.result c.loop-t.seat c.take-ask.new.ahead t look.looked.0 found
-    (omega arith) looked.seat_is looked.takes look.in_range last note same i.noted i.turns in
+    (omega arith) looked.seat_is looked.look.reads look.in_range last note same i.noted i.turns in
     let scans = scans-more choice c.args.decider.now.plan c.args.seat.now c.loop-t.seat c.take-ask.new.ahead c.args.decider.now.state
     c.loop-t.decider.state after c.loop-t.taken.items more t look.looked.0 found c.decisions_keep.ensures.runs (omega arith) i.scans looked same noted.2 decides in
     let added : List NotedCommand = c.keep.new.list.items in
