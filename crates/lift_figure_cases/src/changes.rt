@@ -1,69 +1,50 @@
 //! A fixed list of changes of a schedule, each compared with the same made from nothing.
-use crate::numbers::Numbers;
-use crate::trip::{costs_in, plain_costs, row_of, schedule_with};
+use crate::cases::Came;
+use crate::numbers::{floor, next, next_dir, party};
+use crate::trip::{costs_in, plain_costs, rows_after, schedule_with};
 use arrayvec::ArrayVec;
-use lift_base::{Dir, Floor, Halt, Party, Pass, Position, Row, Stop};
+use lift_base::text::number_up_to;
+use lift_base::{Halt, Pass, Position, Row, Stop};
 use lift_building::Building;
 use lift_cost::{NewCall, etd, etd_of, waiting_row};
 use lift_stops::{Leaving, Schedule, next_stop, pass_of, stop_list};
 
-fn next_floor(numbers: &mut Numbers) -> u8 {
-    (numbers.next() % 10) as u8
-}
-
 /// A call between two floors that differ.
-fn next_call(numbers: &mut Numbers) -> NewCall {
-    let from = numbers.next() % 10;
-    let to = (from + numbers.next() % 9 + 1) % 10;
-    let persons = numbers.next() % 15 + 1;
+fn next_call(seed: &mut u32) -> NewCall {
+    let from = next(seed) % 10;
+    let to = (from + next(seed) % 9 + 1) % 10;
     NewCall {
-        from: Floor::new(from as u8).unwrap_or_default(),
-        to: Floor::new(to as u8).unwrap_or_default(),
-        party: Party::new(persons as u8).unwrap_or_default(),
+        from: floor(from),
+        to: floor(to),
+        party: party(next(seed) % 15 + 1),
     }
 }
 
-fn at(number: u8, dir: Dir) -> Position {
-    Position {
-        floor: Floor::new(number).unwrap_or_default(),
-        dir,
-    }
-}
-
-fn stop_at(number: u8, dir: Dir) -> Stop {
-    Stop {
-        floor: Floor::new(number).unwrap_or_default(),
-        dir,
-    }
-}
-
-/// Whether the schedule has the same halts as those made from nothing, also with one call more.
-fn are_halts_same(schedule: &Schedule, rows: &[Row], position: &Position, more: &Row) -> bool {
+/// Whether a schedule is that of these calls, its halts are those that are made from nothing and
+/// call by call, and so also with one call more.
+pub(crate) fn is_as_from_nothing(schedule: &Schedule, rows: &[Row], more: &Row) -> bool {
     if rows.len() > 32 || schedule.rows().len() > 32 {
         return false;
     }
+    let position = &schedule.position();
     let halts = stop_list(rows, *position);
-    let Some(anew) = schedule_with(*position, rows) else {
+    let Some(mut anew) = schedule_with(*position, rows) else {
         return false;
     };
+    let are_same = (schedule.rows() == rows)
+        & (schedule.halts() == halts.as_slice())
+        & (anew.halts() == halts.as_slice())
+        & (schedule.next_stop() == next_stop(rows, *position));
     if anew.rows().len() > 32 {
         return false;
     }
-    let halts_with = schedule.halts_with(more);
-    let Some(mut with_more) = schedule_with(*position, rows) else {
-        return false;
-    };
-    if with_more.rows().len() > 32 {
-        return false;
-    }
-    with_more.insert(*more);
-    schedule.rows() == rows
-        && schedule.position() == *position
-        && schedule.halts() == halts.as_slice()
-        && anew.halts() == halts.as_slice()
-        && schedule.next_stop() == next_stop(rows, *position)
-        && anew.halts_with(more) == halts_with
-        && halts_with.as_slice() == stop_list(with_more.rows(), *position).as_slice()
+    let halts = schedule.halts_with(more);
+    let is_same_anew = anew.halts_with(more) == halts;
+    anew.insert(*more);
+    are_same
+        & is_same_anew
+        & (anew.halts() == halts.as_slice())
+        & (stop_list(anew.rows(), *position).as_slice() == halts.as_slice())
 }
 
 /// How many persons of these calls leave at a halt.
@@ -84,24 +65,18 @@ fn are_leaving_in(schedule: &Schedule, rows: &[Row], position: &Position, pass: 
         return false;
     }
     let anew = Leaving::of(rows, position);
-    for number in 0..64u8 {
-        let floor = Floor::new(number).unwrap_or_default();
-        let halt = Halt { pass, floor };
+    for number in 0..64 {
+        let halt = Halt {
+            pass,
+            floor: floor(number),
+        };
         let persons = leaving_at(rows, position, &halt);
-        if u32::from(schedule.leaving().at(&halt)) != persons
-            || u32::from(anew.at(&halt)) != persons
-        {
+        let told = u32::from(schedule.leaving().at(&halt));
+        if told != persons || u32::from(anew.at(&halt)) != persons {
             return false;
         }
     }
     true
-}
-
-/// The same in all passes.
-fn are_leaving_same(schedule: &Schedule, rows: &[Row], position: &Position) -> bool {
-    are_leaving_in(schedule, rows, position, Pass::First)
-        && are_leaving_in(schedule, rows, position, Pass::Second)
-        && are_leaving_in(schedule, rows, position, Pass::Third)
 }
 
 /// The times of all passengers, each call's once for each of its persons.
@@ -122,86 +97,103 @@ fn is_cost_the_sums(
     rows: &[Row],
     position: &Position,
     call: &NewCall,
+    cost: u64,
 ) -> bool {
     let mut all: ArrayVec<Row, 33> = ArrayVec::new();
     if all.try_extend_from_slice(rows).is_err() || all.try_push(waiting_row(call)).is_err() {
         return false;
     }
-    let Some((cost, _)) = plain_costs(building, position, rows, call) else {
-        return false;
-    };
     times_of(building, position, rows).saturating_add(cost) == times_of(building, position, &all)
+}
+
+/// Whether all calls' times are the same both ways.
+fn are_times_same(building: &Building, schedule: &Schedule, rows: &[Row]) -> bool {
+    if rows.len() > 33 {
+        return false;
+    }
+    for row in rows {
+        if etd_of(building, schedule, row) != etd(building, schedule.position(), rows, row) {
+            return false;
+        }
+    }
+    true
 }
 
 /// Whether a new call's costs, all calls' times and who leaves where are the same both ways, and the
 /// cost is what the call adds.
-fn are_costs_same(
-    building: &Building,
-    schedule: &Schedule,
-    rows: &[Row],
-    position: &Position,
-    call: &NewCall,
-) -> bool {
-    let plain = plain_costs(building, position, rows, call);
-    if plain.is_none() || costs_in(building, schedule, call) != plain || rows.len() > 33 {
+fn are_costs_same(building: &Building, schedule: &Schedule, rows: &[Row], call: &NewCall) -> bool {
+    let position = &schedule.position();
+    let Some((cost, delay)) = plain_costs(building, position, rows, call) else {
         return false;
-    }
-    for row in rows {
-        if etd_of(building, schedule, row) != etd(building, *position, rows, row) {
-            return false;
-        }
-    }
-    is_cost_the_sums(building, rows, position, call) && are_leaving_same(schedule, rows, position)
+    };
+    (costs_in(building, schedule, call) == Some((cost, delay)))
+        & are_times_same(building, schedule, rows)
+        & is_cost_the_sums(building, rows, position, call, cost)
+        & are_leaving_in(schedule, rows, position, Pass::First)
+        & are_leaving_in(schedule, rows, position, Pass::Second)
+        & are_leaving_in(schedule, rows, position, Pass::Third)
 }
 
-/// The calls that are open after a stop.
-pub(crate) fn rows_after(rows: &[Row], number: u8, dir: Dir) -> ArrayVec<Row, 32> {
-    let mut left = ArrayVec::new();
-    for row in rows {
-        if let Some(row) = row.after(stop_at(number, dir)) {
-            let _ = left.try_push(row);
-        }
+/// A new call, a stop or a move of the car; where it is then, if it told so.
+fn change(
+    seed: &mut u32,
+    schedule: &mut Schedule,
+    rows: &mut ArrayVec<Row, 32>,
+) -> Option<Position> {
+    let kind = next(seed) % 8;
+    if kind < 4 && rows.len() < 32 && schedule.rows().len() <= 32 {
+        let row = &waiting_row(&next_call(seed));
+        schedule.insert(*row);
+        rows.push(*row);
+        return None;
     }
-    left
+    let position = &Position {
+        floor: floor(next(seed) % 10),
+        dir: next_dir(seed),
+    };
+    if kind < 7 {
+        let stop = &Stop {
+            floor: position.floor,
+            dir: position.dir,
+        };
+        schedule.serve(*stop);
+        *rows = rows_after(rows, stop);
+    } else {
+        schedule.replace_position(*position);
+    }
+    Some(*position)
 }
 
 /// Whether a schedule that is changed this many times, by a fixed list of calls, stops and moves,
 /// is each time as from nothing. The building has ten floors.
-pub(crate) fn are_changes_as_from_nothing(building: &Building, count: u32, seed: u32) -> bool {
-    let mut numbers = Numbers { seed };
+fn are_as_from_nothing(building: &Building, count: u32, seed: &mut u32) -> bool {
     let mut rows: ArrayVec<Row, 32> = ArrayVec::new();
-    let mut number = 0;
-    let mut dir = Dir::Up;
-    let mut schedule = Schedule::new(at(0, Dir::Up));
+    let mut position = Position::default();
+    let mut schedule = Schedule::new(position);
     for _ in 0..count {
-        let kind = numbers.next() % 8;
-        if kind < 4 && rows.len() < 32 && schedule.rows().len() <= 32 {
-            let row = &row_of(&next_call(&mut numbers), false);
-            schedule.insert(*row);
-            rows.push(*row);
-        } else if kind < 7 {
-            number = next_floor(&mut numbers);
-            dir = numbers.dir();
-            schedule.serve(stop_at(number, dir));
-            rows = rows_after(&rows, number, dir);
-        } else {
-            number = next_floor(&mut numbers);
-            dir = numbers.dir();
-            schedule.replace_position(at(number, dir));
-        }
-        let position = at(number, dir);
-        let more = row_of(&next_call(&mut numbers), false);
-        if !are_halts_same(&schedule, &rows, &position, &more)
-            || !are_costs_same(
-                building,
-                &schedule,
-                &rows,
-                &position,
-                &next_call(&mut numbers),
-            )
+        position = change(seed, &mut schedule, &mut rows).unwrap_or(position);
+        let more = waiting_row(&next_call(seed));
+        let call = next_call(seed);
+        if schedule.position() != position
+            || !is_as_from_nothing(&schedule, &rows, &more)
+            || !are_costs_same(building, &schedule, &rows, &call)
         {
             return false;
         }
     }
     true
+}
+
+/// `changes 500 from 1 = yes`: whether a schedule is as from nothing after each of this many
+/// changes.
+pub(crate) fn asked(building: &Building, words: &[&str], came: &mut Came) -> Option<()> {
+    match words {
+        [count, _from, seed] => {
+            let count = number_up_to(count, 10_000)?;
+            let mut seed = number_up_to(seed, u32::MAX)?;
+            came.yes_or_no(are_as_from_nothing(building, count, &mut seed));
+            Some(())
+        }
+        _ => None,
+    }
 }

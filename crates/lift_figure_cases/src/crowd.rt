@@ -3,23 +3,15 @@
 ghost use Rattle.std.specs.Prelude.{◌<◌};
 ghost use Rattle.lift_policy.specs.View.{IsViewIn};
 
+use crate::changes::is_as_from_nothing;
 use crate::group::ask;
-use crate::numbers::Numbers;
-use crate::trip::schedule_with;
-use lift_base::{Body, Floor, Letter, Number, Party, Position, Reply, Row, Stop, Terminal};
+use crate::numbers::{floor, letter, next, next_dir, party};
+use lift_base::{Body, Letter, Number, Party, Position, Reply, Row, Stop, Terminal};
 use lift_building::Building;
-use lift_cost::{NewCall, total_cost};
+use lift_cost::{NewCall, total_cost, waiting_row};
 use lift_decider::Decider;
 use lift_policy::{Etd, FewestOpen, View};
-use lift_stops::{Schedule, next_stop, stop_list};
-
-fn floor(number: u32) -> Floor {
-    Floor::new((number % 64) as u8).unwrap_or_default()
-}
-
-fn letter(index: u32) -> Letter {
-    Letter::new((index % 16) as u8).unwrap_or_default()
-}
+use lift_stops::next_stop;
 
 fn kiosk(index: u32) -> Terminal {
     Terminal::of_kiosk((index % 47) as u8).unwrap_or_default()
@@ -46,7 +38,7 @@ pub(crate) fn call(decider: &mut Decider, from: u32, to: u32) -> u32 {
     let mut taken = 0u32;
     for place in from..to {
         let (terminal, told, body) = call_at(place);
-        let reply = ask(decider, terminal, told, &body, &FewestOpen);
+        let (reply, _) = ask(decider, terminal, told, &body, &FewestOpen);
         if matches!(reply, Reply::Car(_)) {
             taken = taken.saturating_add(1);
         }
@@ -67,23 +59,6 @@ fn plain_cost(building: &Building, view: &View, call: &NewCall, car: Letter) -> 
     }
 }
 
-/// Whether a schedule is that of these calls, and its halts are those that are made from nothing
-/// and call by call.
-fn is_as_from_nothing(schedule: &Schedule, rows: &[Row]) -> bool {
-    if rows.len() > 32 {
-        return false;
-    }
-    let position = &schedule.position();
-    let halts = stop_list(rows, *position);
-    let Some(anew) = schedule_with(*position, rows) else {
-        return false;
-    };
-    schedule.rows() == rows
-        && schedule.halts() == halts.as_slice()
-        && anew.halts() == halts.as_slice()
-        && schedule.next_stop() == next_stop(rows, *position)
-}
-
 /// Whether a car with this many calls has the halts and the cost of a new call that are made from
 /// nothing.
 fn is_car_as_from_nothing(
@@ -102,16 +77,17 @@ fn is_car_as_from_nothing(
         return false;
     };
     let plain = plain_cost(building, view, call, car);
-    rows.len() == count
-        && is_as_from_nothing(schedule, rows)
-        && plain.is_some()
-        && Etd::cost(building, view, call, car) == plain
+    (rows.len() == count)
+        & is_as_from_nothing(schedule, rows, &waiting_row(call))
+        & plain.is_some()
+        & (Etd::cost(building, view, call, car) == plain)
 }
 
 /// The same of 16 cars, for calls to and from the ends and the middle of ten floors.
-pub(crate) fn are_as_from_nothing(building: &Building, view: &View, count: usize) -> bool
-    requires possible { IsViewIn building.now view.now }
-{
+pub(crate) fn are_as_from_nothing(decider: &Decider, count: usize) -> bool {
+    let building = decider.building();
+    let _possible = decider.register();
+    let view = &decider.view();
     let floors = building.floors();
     for (from, to) in [(0, 9), (9, 0), (5, 4), (4, 5)] {
         let call = NewCall {
@@ -133,15 +109,14 @@ pub(crate) fn are_as_from_nothing(building: &Building, view: &View, count: usize
 
 /// Half are calls of the two kiosks; the others tell of the first three cars: of two each a
 /// stop where the car goes next, and one of a stop and a place anywhere.
-fn next_command(numbers: &mut Numbers, decider: &Decider) -> (Terminal, Body) {
-    let kind = numbers.next() % 8;
-    let car = letter(numbers.next() % 3);
-    let (at, dir) = (floor(numbers.next() % 10), numbers.dir());
+fn next_command(seed: &mut u32, decider: &Decider) -> (Terminal, Body) {
+    let kind = next(seed) % 8;
+    let car = letter(next(seed) % 3);
+    let (at, dir) = (floor(next(seed) % 10), next_dir(seed));
+    if kind < 4 {
+        return (kiosk(kind % 2), Body::Call(at, party(next(seed) % 3 + 1)));
+    }
     let told = match kind {
-        0..=3 => {
-            let party = Party::new((numbers.next() % 3 + 1) as u8).unwrap_or_default();
-            return (kiosk(kind % 2), Body::Call(at, party));
-        }
         4 | 5 => match next_of(decider, car) {
             Some(stop) => Body::Stop(stop.floor, stop.dir),
             None => Body::Stop(at, dir),
@@ -164,7 +139,8 @@ fn ask_next(decider: &mut Decider, terminal: Terminal, body: &Body) -> Reply {
         Body::Place(_, _) => 0,
         _ => decider.register().last_number(terminal) + 1,
     };
-    ask(decider, terminal, number(told), body, &Etd)
+    let (reply, _) = ask(decider, terminal, number(told), body, &Etd);
+    reply
 }
 
 /// Where a car is after what it told, if anything.
@@ -185,7 +161,7 @@ fn is_car_right(decider: &Decider, car: Letter, position: &Option<Position>) -> 
     let view = decider.view();
     match (view.schedule(car), position) {
         (Some(schedule), Some(position)) => {
-            schedule.position() == *position && is_as_from_nothing(schedule, rows)
+            (schedule.position() == *position) & is_as_from_nothing(schedule, rows, &Row::default())
         }
         (None, None) => rows.is_empty(),
         _ => false,
@@ -195,11 +171,11 @@ fn is_car_right(decider: &Decider, car: Letter, position: &Option<Position>) -> 
 /// Whether each of the three cars' schedules is as from nothing after each of this many commands of
 /// a fixed list, and calls were served and many were open at once.
 pub(crate) fn are_commands_as_from_nothing(decider: &mut Decider, count: u32, seed: u32) -> bool {
-    let mut numbers = Numbers { seed };
+    let mut seed = seed;
     let mut positions = [None; 3];
     let mut most = 0;
     for _ in 0..count {
-        let (terminal, body) = next_command(&mut numbers, decider);
+        let (terminal, body) = next_command(&mut seed, decider);
         let reply = ask_next(decider, terminal, &body);
         if let Some(position) = told(&reply, &body) {
             match positions.get_mut(usize::from(terminal.get())) {
@@ -214,5 +190,5 @@ pub(crate) fn are_commands_as_from_nothing(decider: &mut Decider, count: u32, se
         }
         most = decider.register().open_count().max(most);
     }
-    decider.register().done() > 20 && most > 8
+    (decider.register().done() > 20) & (most > 8)
 }

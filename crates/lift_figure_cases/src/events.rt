@@ -1,145 +1,120 @@
-//! A run of the machine of events.
-use crate::cases::{Trouble, body_of, car_of, number_of, push_reply, terminal_of};
-use lift_building::Building;
+//! Runs of the machine of events.
+use crate::cases::{Came, body_of, terminal_of};
+use lift_base::text::{letter_of_word, number_of_word};
 use lift_world::{Event, Kept, Phase, Power, World};
-use std::alloc::Global;
-use std::fmt::Write;
 
-#[derive(Drop)]
-pub(crate) struct Run<'b> {
-    world: World<'b>,
-}
-
-fn kept_of(word: &str) -> Result<Kept, Trouble> {
+fn kept_of(word: &str) -> Option<Kept> {
     match word {
-        "safe" => Ok(Kept::Safe),
-        "with-batch" => Ok(Kept::WithBatch),
-        _ => Err(Trouble::Words),
-    }
-}
-
-fn kept_word(kept: Kept) -> &'static str {
-    match kept {
-        Kept::Safe => "safe",
-        Kept::WithBatch => "with-batch",
+        "safe" => Some(Kept::Safe),
+        "with-batch" => Some(Kept::WithBatch),
+        _ => None,
     }
 }
 
 /// An event of one word.
-fn plain_event(word: &str) -> Result<Event, Trouble> {
+fn plain_event(word: &str) -> Option<Event> {
     match word {
-        "seal" => Ok(Event::Seal),
-        "pull" => Ok(Event::Pull),
-        "fold" => Ok(Event::Fold),
-        "body" => Ok(Event::Body),
-        "first-sync" => Ok(Event::FirstSync),
-        "gate" => Ok(Event::Gate),
-        "second-sync" => Ok(Event::SecondSync),
-        "fault" => Ok(Event::Fault),
-        _ => Err(Trouble::Words),
+        "seal" => Some(Event::Seal),
+        "pull" => Some(Event::Pull),
+        "fold" => Some(Event::Fold),
+        "body" => Some(Event::Body),
+        "first-sync" => Some(Event::FirstSync),
+        "gate" => Some(Event::Gate),
+        "second-sync" => Some(Event::SecondSync),
+        "fault" => Some(Event::Fault),
+        _ => None,
     }
 }
 
 /// An event of a verb and its words: `ask K0 1 call 5`, `take K0 A`, `take A`, `answer K0`, `hear
 /// K0`, `cut safe` or `reopen with-batch`.
-fn event_of(words: &[&str]) -> Result<Event, Trouble> {
+fn event_of(words: &[&str]) -> Option<Event> {
     match words {
         [word] => plain_event(word),
-        ["answer", who] => Ok(Event::Answer(terminal_of(who)?)),
-        ["hear", who] => Ok(Event::Hear(terminal_of(who)?)),
-        ["take", who] => Ok(Event::Take(terminal_of(who)?, None)),
-        ["take", who, car] => Ok(Event::Take(terminal_of(who)?, Some(car_of(car)?))),
-        ["cut", kept] => Ok(Event::Cut(kept_of(kept)?)),
-        ["reopen", kept] => Ok(Event::Reopen(kept_of(kept)?)),
-        ["ask", who, number, body @ ..] => Ok(Event::Ask(
+        ["answer", who] => Some(Event::Answer(terminal_of(who)?)),
+        ["hear", who] => Some(Event::Hear(terminal_of(who)?)),
+        ["take", who] => Some(Event::Take(terminal_of(who)?, None)),
+        ["take", who, car] => Some(Event::Take(terminal_of(who)?, Some(letter_of_word(car)?))),
+        ["cut", kept] => Some(Event::Cut(kept_of(kept)?)),
+        ["reopen", kept] => Some(Event::Reopen(kept_of(kept)?)),
+        ["ask", who, number, body @ ..] => Some(Event::Ask(
             terminal_of(who)?,
-            number_of(number)?,
+            number_of_word(number)?,
             body_of(body)?,
         )),
-        _ => Err(Trouble::Words),
+        _ => None,
     }
 }
 
-impl<'b> Run<'b> {
-    pub(crate) fn new(alloc: Global, building: &'b Building) -> Self {
-        Run {
-            world: World::new(alloc, building, 64).unwrap(),
-        }
-    }
-
-    /// Whether it is possible; then it happens.
-    fn happens(&mut self, event: Result<Event, Trouble>) -> Result<bool, Trouble> {
-        match event {
-            Ok(event) => match self.world.step(&event) {
-                Ok(is_possible) => Ok(is_possible),
-                Err(_) => Err(Trouble::Memory),
-            },
-            Err(trouble) => Err(trouble),
-        }
-    }
-
-    /// `event seal then pull`: each of these happens. The first that isn't possible ends the line.
-    pub(crate) fn event(&mut self, words: &[&str], came: &mut String) -> Result<(), Trouble> {
-        for part in words.split(|word| *word == "then") {
-            if !self.happens(event_of(part))? {
-                return Ok(came.push_str("not possible")?);
+/// Whether an event is possible; then it happens.
+fn happens(world: &mut World, event: Option<Event>, came: &mut Came) -> Option<bool> {
+    match event {
+        Some(event) => match world.step(&event) {
+            Ok(is_possible) => Some(is_possible),
+            Err(_) => {
+                came.cut_off();
+                Some(true)
             }
-        }
-        Ok(())
+        },
+        None => None,
     }
+}
 
-    /// `run power`.
-    fn power(&self, came: &mut String) -> Result<(), Trouble> {
-        match self.world.power() {
-            Power::Running => came.push_str("running")?,
-            Power::Broken => came.push_str("broken")?,
-            Power::Off(kept) => {
-                let kept = kept_word(kept);
-                write!(came, "off {kept}")?;
-            }
-        }
-        Ok(())
-    }
-
-    /// `run phase`: how far the batch in flight is.
-    fn phase(&self, came: &mut String) -> Result<(), Trouble> {
-        match self.world.phase() {
-            Phase::Idle => came.push_str("idle")?,
-            Phase::Writing(count) => write!(came, "writing {count}")?,
-            Phase::Synced => came.push_str("synced")?,
-            Phase::GateWritten => came.push_str("gate written")?,
-        }
-        Ok(())
-    }
-
-    /// `run told`: the reply that was stored last.
-    fn told(&self, came: &mut String) -> Result<(), Trouble> {
-        match self.world.answered().last() {
-            Some(answer) => push_reply(came, &answer.reply)?,
-            None => came.push_str("none")?,
-        }
-        Ok(())
-    }
-
-    /// `run entries`: how many entries were accepted, how many of them are safe, and how many
-    /// batches are queued.
-    fn entries(&self, came: &mut String) -> Result<(), Trouble> {
-        let (accepted, safe) = (self.world.accepted().len(), self.world.safe());
-        let queued = self.world.queued();
-        Ok(write!(came, "{accepted} accepted, {safe} safe, {queued} queued")?)
-    }
-
-    pub(crate) fn answer(&self, words: &[&str], came: &mut String) -> Result<(), Trouble> {
-        match words {
-            ["power"] => self.power(came),
-            ["phase"] => self.phase(came),
-            ["told"] => self.told(came),
-            ["entries"] => self.entries(came),
-            ["heard"] => {
-                let count = self.world.heard().len();
-                Ok(write!(came, "{count}")?)
-            }
-            _ => Err(Trouble::Words),
+/// `event seal then pull`: each of these happens. The first that isn't possible ends the line.
+pub(crate) fn happen(world: &mut World, words: &[&str], came: &mut Came) -> Option<()> {
+    for part in words.split(|word| *word == "then") {
+        if !happens(world, event_of(part), came)? {
+            came.word("not possible");
+            return Some(());
         }
     }
+    Some(())
+}
+
+fn power_word(power: Power) -> &'static str {
+    match power {
+        Power::Running => "running",
+        Power::Broken => "broken",
+        Power::Off(Kept::Safe) => "off safe",
+        Power::Off(Kept::WithBatch) => "off with-batch",
+    }
+}
+
+/// How far the batch in flight is.
+fn push_phase(phase: Phase, came: &mut Came) {
+    match phase {
+        Phase::Idle => came.word("idle"),
+        Phase::Writing(count) => {
+            came.word("writing");
+            came.word(count);
+        }
+        Phase::Synced => came.word("synced"),
+        Phase::GateWritten => came.word("gate written"),
+    }
+}
+
+/// How many entries were accepted, how many of them are safe, and how many batches are queued.
+fn push_entries(world: &World, came: &mut Came) {
+    came.word(world.accepted().len());
+    came.word("accepted,");
+    came.word(world.safe());
+    came.word("safe,");
+    came.word(world.queued());
+    came.word("queued");
+}
+
+/// What is asked of the machine: `run told` is the reply that was stored last.
+pub(crate) fn asked(world: &World, words: &[&str], came: &mut Came) -> Option<()> {
+    match words {
+        ["power"] => came.word(power_word(world.power())),
+        ["phase"] => push_phase(world.phase(), came),
+        ["told"] => match world.answered().last() {
+            Some(answer) => came.word(answer.reply),
+            None => came.word("none"),
+        },
+        ["entries"] => push_entries(world, came),
+        ["heard"] => came.word(world.heard().len()),
+        _ => return None,
+    }
+    Some(())
 }

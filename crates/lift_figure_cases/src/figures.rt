@@ -1,79 +1,49 @@
-//! What the lines of a case are put to: a car's trip, the calls of a group, its decisions, and a
-//! run of events.
-use crate::cases::{Subject, Trouble, count_of, yes_or_no};
-use crate::changes::are_changes_as_from_nothing;
-use crate::events::Run;
+//! What the lines of a case are put to: a car's trip, registers, the calls of a group, and a run of
+//! events.
+use crate::cases::Came;
 use crate::group::Calls;
 use crate::registers::Registers;
 use crate::trip::Trip;
+use crate::{changes, events};
+use lift_base::Position;
 use lift_building::Building;
+use lift_world::World;
 use std::alloc::Global;
 
 #[derive(Drop)]
 pub(crate) struct Figures<'b> {
-    alloc: Global,
     building: &'b Building,
     trip: Trip,
     registers: Registers<'b>,
     calls: Calls<'b>,
-    run: Run<'b>,
+    world: World<'b>,
 }
 
 impl<'b> Figures<'b> {
     pub(crate) fn new(alloc: Global, building: &'b Building) -> Self {
         Figures {
-            alloc,
             building,
-            trip: Trip::new(),
+            trip: Trip::at(&Position::default()),
             registers: Registers::new(building),
             calls: Calls::new(building),
-            run: Run::new(alloc, building),
+            world: World::new(alloc, building, 64).unwrap(),
         }
     }
 
-    /// `changes 500 from 1 = yes`: whether a schedule is as from nothing after each of this many
-    /// changes.
-    fn changes(&self, words: &[&str], came: &mut String) -> Result<(), Trouble> {
-        match words {
-            [count, _from, seed] => {
-                let count = count_of(count, 10_000)?;
-                let seed = count_of(seed, u32::MAX)?;
-                let is_so = are_changes_as_from_nothing(self.building, count, seed);
-                came.push_str(yes_or_no(is_so))?;
-                Ok(())
-            }
-            _ => Err(Trouble::Words),
-        }
-    }
-}
-
-impl Subject for Figures<'_> {
-    fn begin(&mut self) -> Result<(), Trouble> {
-        self.trip = Trip::new();
-        self.registers = Registers::new(self.building);
-        self.calls = Calls::new(self.building);
-        self.run = Run::new(self.alloc, self.building);
-        Ok(())
-    }
-
-    fn answer(&mut self, words: &[&str], came: &mut String) -> Result<(), Trouble> {
-        let (verb, behind) = words.split_first().ok_or(Trouble::Words)?;
-        if *verb == "car" {
-            self.trip.answer(self.building, behind, came)
-        } else if *verb == "register" {
-            self.registers.answer(behind, came)
-        } else if *verb == "checkpoint" {
-            self.registers.checkpoint(behind, came)
-        } else if *verb == "group" {
-            self.calls.answer(behind, came)
-        } else if *verb == "event" {
-            self.run.event(behind, came)
-        } else if *verb == "run" {
-            self.run.answer(behind, came)
-        } else if *verb == "changes" {
-            self.changes(behind, came)
-        } else {
-            Err(Trouble::Words)
+    /// Does what the words of a line say, and writes what they come to; nothing where they only do
+    /// something. None where they are none that the cases know, or ask for what a call's condition
+    /// rules out.
+    pub(crate) fn answer(&mut self, words: &[&str], came: &mut Came) -> Option<()> {
+        let (verb, behind) = words.split_first()?;
+        match *verb {
+            "car" => self.trip.answer(self.building, behind, came),
+            "register" => self.registers.answer(behind, came),
+            "checkpoint" => self.registers.checkpoint(behind, came),
+            "group" => self.calls.answer(behind, came),
+            "event" => events::happen(&mut self.world, behind, came),
+            "run" => events::asked(&self.world, behind, came),
+            "changes" => changes::asked(self.building, behind, came),
+            _ => None,
         }
     }
 }

@@ -1,14 +1,11 @@
 //! Registers: one that grows by entries, and one that is read from a checkpoint's records.
 ghost use Rattle.lift_register.specs.Balanced.{IsBalanced};
 
-use crate::cases::{
-    Trouble, car_of, count_of, entry_of, push_record, push_row, record_of, terminal_of, yes_or_no,
-};
-use lift_base::{Record, Row};
+use crate::cases::{Came, entry_of, record_of, terminal_of};
+use lift_base::text::{letter_of_word, number_up_to};
+use lift_base::{Record, Row, Terminal};
 use lift_building::Building;
 use lift_register::Register;
-use std::alloc::AllocError;
-use std::fmt::Write;
 
 #[derive(Drop)]
 pub(crate) struct Registers<'b> {
@@ -21,81 +18,56 @@ pub(crate) struct Registers<'b> {
 /// What an entry or a record comes to that can't be taken in.
 const MISFIT: &str = "misfit";
 
-fn push_rows(text: &mut String, rows: &[Row]) -> Result<(), AllocError> {
-    for row in rows {
-        if !text.is_empty() {
-            text.push_str(", ")?;
+/// A car's open calls, in order of allotment.
+fn push_rows(rows: &[Row], came: &mut Came) {
+    for (index, row) in rows.iter().enumerate() {
+        if index > 0 {
+            came.joined(',');
         }
-        push_row(text, row)?;
+        came.row(row);
     }
     if rows.is_empty() {
-        text.push_str("none")?;
-    }
-    Ok(())
-}
-
-/// `open A`: a car's open calls, in order of allotment.
-fn open(register: &Register, words: &[&str], came: &mut String) -> Result<(), Trouble> {
-    match words {
-        [car] => Ok(push_rows(came, register.open_rows(car_of(car)?))?),
-        _ => Err(Trouble::Words),
+        came.word("none");
     }
 }
 
-/// `last K0`: a terminal's last command.
-fn last(register: &Register, words: &[&str], came: &mut String) -> Result<(), Trouble> {
-    let [word] = words else {
-        return Err(Trouble::Words);
-    };
-    let terminal = terminal_of(word)?;
+/// A terminal's last command.
+fn push_last(register: &Register, terminal: Terminal, came: &mut Came) {
     match register.last(terminal) {
-        Some(last) => push_record(came, &Record::Last { terminal, last })?,
-        None => came.push_str("none")?,
-    }
-    Ok(())
-}
-
-/// `number K0`: a terminal's last number, 0 for none.
-fn number(register: &Register, words: &[&str], came: &mut String) -> Result<(), Trouble> {
-    match words {
-        [word] => {
-            let number = register.last_number(terminal_of(word)?);
-            Ok(write!(came, "{number}")?)
-        }
-        _ => Err(Trouble::Words),
+        Some(last) => came.last(terminal, &last),
+        None => came.word("none"),
     }
 }
 
-/// `record 2`: the record at a place of the register's checkpoint, counted from 0.
-fn record(register: &Register, words: &[&str], came: &mut String) -> Result<(), Trouble> {
-    let [word] = words else {
-        return Err(Trouble::Words);
-    };
-    let place = count_of(word, 575)? as usize;
+/// The record at a place of the register's checkpoint, counted from 0.
+fn push_record(register: &Register, place: u32, came: &mut Came) -> Option<()> {
+    let place = place as usize;
     if place >= register.base_len() {
-        return Err(Trouble::Words);
+        return None;
     }
-    Ok(push_record(came, &register.base_record(place))?)
+    came.record(&register.base_record(place));
+    Some(())
+}
+
+fn push_calls(register: &Register, came: &mut Came) {
+    came.word(register.open_count());
+    came.word("open,");
+    came.word(register.done());
+    came.word("done");
 }
 
 /// What is asked of a register.
-pub(crate) fn asked(register: &Register, words: &[&str], came: &mut String) -> Result<(), Trouble> {
-    let (verb, behind) = words.split_first().ok_or(Trouble::Words)?;
-    match *verb {
-        "open" => open(register, behind, came),
-        "last" => last(register, behind, came),
-        "number" => number(register, behind, came),
-        "record" => record(register, behind, came),
-        "records" => {
-            let count = register.base_len();
-            Ok(write!(came, "{count}")?)
-        }
-        "calls" => {
-            let (open, done) = (register.open_count(), register.done());
-            Ok(write!(came, "{open} open, {done} done")?)
-        }
-        _ => Err(Trouble::Words),
+pub(crate) fn asked(register: &Register, words: &[&str], came: &mut Came) -> Option<()> {
+    match words {
+        ["open", car] => push_rows(register.open_rows(letter_of_word(car)?), came),
+        ["last", who] => push_last(register, terminal_of(who)?, came),
+        ["number", who] => came.word(register.last_number(terminal_of(who)?)),
+        ["record", place] => push_record(register, number_up_to(place, 575)?, came)?,
+        ["records"] => came.word(register.base_len()),
+        ["calls"] => push_calls(register, came),
+        _ => return None,
     }
+    Some(())
 }
 
 impl<'b> Registers<'b> {
@@ -109,66 +81,60 @@ impl<'b> Registers<'b> {
     }
 
     /// `register allot K0 1 0 5 A x2` and `register stop A 1 0 up`: an entry more, where it fits.
-    fn take(&mut self, words: &[&str], came: &mut String) -> Result<(), Trouble> {
+    fn take(&mut self, words: &[&str], came: &mut Came) -> Option<()> {
         let entry = &entry_of(words)?;
         if self.register.fits(self.building, entry) {
             self.register.apply(self.building, entry);
         } else {
-            came.push_str(MISFIT)?;
+            came.word(MISFIT);
         }
-        Ok(())
+        Some(())
     }
 
     /// `checkpoint holds row K0 1 0 5 A aboard`: a record more, where it fits.
-    fn take_record(
-        &mut self,
-        record: Result<Record, Trouble>,
-        came: &mut String,
-    ) -> Result<(), Trouble> {
+    fn take_record(&mut self, record: Option<Record>, came: &mut Came) -> Option<()> {
         match record {
-            Ok(record) => {
+            Some(record) => {
                 if self.checkpoint.base_fits(self.building, &record) {
                     self.checkpoint.apply_base(self.building, &record);
                 } else {
-                    came.push_str(MISFIT)?;
+                    came.word(MISFIT);
                 }
-                Ok(())
+                Some(())
             }
-            Err(trouble) => Err(trouble),
+            None => None,
         }
     }
 
     /// `checkpoint fits done 1`.
-    fn fits(&self, record: Result<Record, Trouble>, came: &mut String) -> Result<(), Trouble> {
+    fn fits(&self, record: Option<Record>, came: &mut Came) -> Option<()> {
         match record {
-            Ok(record) => {
-                let fits = self.checkpoint.base_fits(self.building, &record);
-                Ok(came.push_str(yes_or_no(fits))?)
+            Some(record) => {
+                came.yes_or_no(self.checkpoint.base_fits(self.building, &record));
+                Some(())
             }
-            Err(trouble) => Err(trouble),
+            None => None,
         }
     }
 
-    pub(crate) fn answer(&mut self, words: &[&str], came: &mut String) -> Result<(), Trouble> {
-        let (verb, behind) = words.split_first().ok_or(Trouble::Words)?;
-        match *verb {
-            "allot" | "stop" => self.take(words, came),
-            "fits" => {
-                let fits = self.register.fits(self.building, &entry_of(behind)?);
-                Ok(came.push_str(yes_or_no(fits))?)
+    pub(crate) fn answer(&mut self, words: &[&str], came: &mut Came) -> Option<()> {
+        match words {
+            ["allot" | "stop", ..] => self.take(words, came),
+            ["fits", entry @ ..] => {
+                came.yes_or_no(self.register.fits(self.building, &entry_of(entry)?));
+                Some(())
             }
             _ => asked(&self.register, words, came),
         }
     }
 
-    pub(crate) fn checkpoint(&mut self, words: &[&str], came: &mut String) -> Result<(), Trouble> {
-        let (verb, behind) = words.split_first().ok_or(Trouble::Words)?;
-        match *verb {
-            "holds" => self.take_record(record_of(behind), came),
-            "fits" => self.fits(record_of(behind), came),
-            "same" => {
-                let is_same = self.checkpoint.is_same(&self.register);
-                Ok(came.push_str(yes_or_no(is_same))?)
+    pub(crate) fn checkpoint(&mut self, words: &[&str], came: &mut Came) -> Option<()> {
+        match words {
+            ["holds", record @ ..] => self.take_record(record_of(record), came),
+            ["fits", record @ ..] => self.fits(record_of(record), came),
+            ["same"] => {
+                came.yes_or_no(self.checkpoint.is_same(&self.register));
+                Some(())
             }
             _ => asked(&self.checkpoint, words, came),
         }

@@ -3,17 +3,14 @@
 ghost use Rattle.std.specs.Prelude.{◌≡◌, ◌<◌, ◌≤◌, length, true};
 ghost use Rattle.lift_cost.specs.Calls.{AreWithin};
 
-use crate::cases::{
-    Trouble, count_of, floor_of, party_of, position_of, push_halt, push_space, push_stop, stop_of,
-};
-use crate::changes::rows_after;
+use crate::cases::{Came, call_of, floor_of, place_of, position_of};
 use arrayvec::ArrayVec;
-use lift_base::{Halt, Pass, Position, Row};
+use lift_base::{Halt, Pass, Position, Row, Stop};
 use lift_building::Building;
-use lift_cost::{NewCall, cost_of, degradation, degradation_of, etd, etd_of, total_cost};
-use lift_stops::{Schedule, next_stop, pass_of, stop_list};
-use std::alloc::AllocError;
-use std::fmt::Write;
+use lift_cost::{
+    NewCall, cost_of, degradation, degradation_of, etd, etd_of, total_cost, waiting_row,
+};
+use lift_stops::{Schedule, next_stop, pass_of, stop_list, stop_of};
 
 /// Where the car is and its calls, in two forms.
 #[derive(Drop)]
@@ -23,42 +20,16 @@ pub(crate) struct Trip {
     schedule: Schedule,
 }
 
-/// What came two ways, where it came to the same.
-const DIFFER: &str = "two ways differ";
-
-/// The floors and the party of a call, as `0 5 x2`.
-pub(crate) fn call_of(words: &[&str]) -> Result<NewCall, Trouble> {
-    match words {
-        [from, to, party @ ..] => Ok(NewCall {
-            from: floor_of(from)?,
-            to: floor_of(to)?,
-            party: party_of(party)?,
-        }),
-        _ => Err(Trouble::Words),
-    }
-}
-
-/// A call for this many persons, which waits or is aboard.
-pub(crate) fn row_of(call: &NewCall, aboard: bool) -> Row {
-    Row {
-        from: call.from,
-        to: call.to,
-        party: call.party,
-        aboard,
-        ..Row::default()
-    }
-}
-
 /// A halt as `1:0`.
-fn halt_of(word: &str) -> Result<Halt, Trouble> {
-    let (pass, floor) = word.split_once(':').ok_or(Trouble::Words)?;
-    let pass = match count_of(pass, 3)? {
-        1 => Pass::First,
-        2 => Pass::Second,
-        3 => Pass::Third,
-        _ => return Err(Trouble::Words),
+fn halt_of(word: &str) -> Option<Halt> {
+    let (pass, floor) = word.split_once(':')?;
+    let pass = match pass {
+        "1" => Pass::First,
+        "2" => Pass::Second,
+        "3" => Pass::Third,
+        _ => return None,
     };
-    Ok(Halt {
+    Some(Halt {
         pass,
         floor: floor_of(floor)?,
     })
@@ -131,221 +102,175 @@ pub(crate) fn schedule_with(position: Position, rows: &[Row]) -> Option<Schedule
     Some(schedule)
 }
 
-fn push_halts(text: &mut String, halts: &[Halt]) -> Result<(), AllocError> {
-    for halt in halts {
-        push_space(text)?;
-        push_halt(text, halt)?;
+/// The calls that are open after a stop.
+pub(crate) fn rows_after(rows: &[Row], stop: &Stop) -> ArrayVec<Row, 32> {
+    let mut left = ArrayVec::new();
+    for row in rows {
+        if let Some(row) = row.after(*stop) {
+            let _ = left.try_push(row);
+        }
     }
-    if halts.is_empty() {
-        text.push_str("none")?;
-    }
-    Ok(())
+    left
 }
 
-fn push_numbers(text: &mut String, numbers: &[u64]) -> Result<(), AllocError> {
+fn push_numbers(numbers: &[u64], came: &mut Came) {
     for number in numbers {
-        push_space(text)?;
-        write!(text, "{number}")?;
+        came.word(*number);
     }
-    Ok(())
 }
 
 impl Trip {
-    pub(crate) fn new() -> Self {
+    /// The car is there, without calls.
+    pub(crate) fn at(position: &Position) -> Self {
         Trip {
-            position: Position::default(),
+            position: *position,
             rows: ArrayVec::new(),
-            schedule: Schedule::new(Position::default()),
+            schedule: Schedule::new(*position),
         }
-    }
-
-    /// `car at 0 up`: the car is there, without calls.
-    fn at(&mut self, words: &[&str]) -> Result<(), Trouble> {
-        self.position = position_of(words)?;
-        self.rows = ArrayVec::new();
-        self.schedule = Schedule::new(self.position);
-        Ok(())
     }
 
     /// `car waiting 0 5 x2` and `car aboard 0 5`: one call more.
-    fn insert(&mut self, words: &[&str], aboard: bool) -> Result<(), Trouble> {
-        let row = &row_of(&call_of(words)?, aboard);
+    fn insert(&mut self, call: &NewCall, aboard: bool) -> Option<()> {
+        let row = &Row {
+            aboard,
+            ..waiting_row(call)
+        };
         if self.rows.len() >= 32 || self.schedule.rows().len() > 32 {
-            return Err(Trouble::Words);
+            return None;
         }
         self.rows.push(*row);
         self.schedule.insert(*row);
-        Ok(())
+        Some(())
     }
 
     /// `car stops 0 up`: passengers leave and board, and the car is there.
-    fn serve(&mut self, words: &[&str]) -> Result<(), Trouble> {
-        self.schedule.serve(stop_of(words)?);
-        self.position = position_of(words)?;
-        let (floor, dir) = (self.position.floor.get(), self.position.dir);
-        self.rows = rows_after(&self.rows, floor, dir);
-        Ok(())
+    fn serve(&mut self, stop: &Stop) {
+        self.schedule.serve(*stop);
+        self.rows = rows_after(&self.rows, stop);
+        self.position = Position {
+            floor: stop.floor,
+            dir: stop.dir,
+        };
     }
 
     /// `car moves 7 up`: its calls stay.
-    fn replace_position(&mut self, words: &[&str]) -> Result<(), Trouble> {
-        self.position = position_of(words)?;
-        self.schedule.replace_position(self.position);
-        Ok(())
+    fn replace_position(&mut self, position: &Position) {
+        self.position = *position;
+        self.schedule.replace_position(*position);
     }
 
     /// `car halts`: by a list made from nothing, by the schedule, and by one newly made.
-    fn halts(&self, came: &mut String) -> Result<(), Trouble> {
+    fn halts(&self, came: &mut Came) -> Option<()> {
         let halts = stop_list(&self.rows, self.position);
-        let anew = schedule_with(self.position, &self.rows).ok_or(Trouble::Words)?;
-        if self.schedule.halts() != halts.as_slice() || anew.halts() != halts.as_slice() {
-            came.push_str(DIFFER)?;
-        }
-        Ok(push_halts(came, &halts)?)
+        let anew = schedule_with(self.position, &self.rows)?;
+        came.both_ways(self.schedule.halts() == halts.as_slice());
+        came.both_ways(anew.halts() == halts.as_slice());
+        came.halts(&halts);
+        Some(())
     }
 
     /// `car halts-with 9 5`: with one call more.
-    fn halts_with(&self, words: &[&str], came: &mut String) -> Result<(), Trouble> {
-        let row = &row_of(&call_of(words)?, false);
+    fn halts_with(&self, call: &NewCall, came: &mut Came) -> Option<()> {
         if self.schedule.rows().len() > 32 {
-            return Err(Trouble::Words);
+            return None;
         }
-        let halts = self.schedule.halts_with(row);
-        Ok(push_halts(came, &halts)?)
-    }
-
-    /// `car next`: its next stop.
-    fn next(&self, came: &mut String) -> Result<(), Trouble> {
-        let next = next_stop(&self.rows, self.position);
-        if self.schedule.next_stop() != next {
-            came.push_str(DIFFER)?;
-        }
-        Ok(push_stop(came, next)?)
-    }
-
-    /// `car pass 3 6`: the pass of a call.
-    fn pass(&self, words: &[&str], came: &mut String) -> Result<(), Trouble> {
-        let row = &row_of(&call_of(words)?, false);
-        let pass = pass_of(row, self.position).number();
-        Ok(write!(came, "{pass}")?)
-    }
-
-    /// `car stop-of 2:0`: the stop that a halt is.
-    fn stop_of(&self, words: &[&str], came: &mut String) -> Result<(), Trouble> {
-        match words {
-            [halt] => {
-                let stop = lift_stops::stop_of(halt_of(halt)?, self.position);
-                Ok(push_stop(came, Some(stop))?)
-            }
-            _ => Err(Trouble::Words),
-        }
-    }
-
-    /// `car position`.
-    fn position(&self, came: &mut String) -> Result<(), Trouble> {
-        let position = self.schedule.position();
-        if position != self.position {
-            came.push_str(DIFFER)?;
-        }
-        let stop = lift_base::Stop {
-            floor: position.floor,
-            dir: position.dir,
-        };
-        Ok(push_stop(came, Some(stop))?)
+        came.halts(&self.schedule.halts_with(&waiting_row(call)));
+        Some(())
     }
 
     /// `car calls`: how many of its calls wait, and how many are aboard.
-    fn calls(&self, came: &mut String) -> Result<(), Trouble> {
-        if self.schedule.rows() != self.rows.as_slice() {
-            came.push_str(DIFFER)?;
-        }
-        let mut waiting = 0u32;
-        let mut aboard = 0u32;
+    fn calls(&self, came: &mut Came) {
+        let mut aboard = 0usize;
         for row in &self.rows {
-            if row.aboard {
-                aboard = aboard.saturating_add(1);
-            } else {
-                waiting = waiting.saturating_add(1);
-            }
+            aboard = aboard.saturating_add(usize::from(row.aboard));
         }
-        Ok(write!(came, "{waiting} waiting, {aboard} aboard")?)
+        came.both_ways(self.schedule.rows() == self.rows.as_slice());
+        came.word(self.rows.len().saturating_sub(aboard));
+        came.word("waiting,");
+        came.word(aboard);
+        came.word("aboard");
     }
 
     /// `car arrivals`: when it is at each of its halts, in ms; `car arrivals 1:0 1:5`: at these.
-    fn arrivals(
-        &self,
-        building: &Building,
-        words: &[&str],
-        came: &mut String,
-    ) -> Result<(), Trouble> {
+    fn arrivals(&self, building: &Building, words: &[&str], came: &mut Came) -> Option<()> {
         let mut halts = stop_list(&self.rows, self.position);
         if !words.is_empty() {
             halts.clear();
-            for word in words {
-                let _ = halts.try_push(halt_of(word)?);
-            }
         }
-        let moments = building.arrivals(self.position, &halts);
-        Ok(push_numbers(came, &moments)?)
+        for word in words {
+            let _ = halts.try_push(halt_of(word)?);
+        }
+        push_numbers(&building.arrivals(self.position, &halts), came);
+        Some(())
     }
 
     /// `car cost 0 3 x2`: the total cost of a new call, and how much of it is the delay of other
     /// passengers, in ms.
-    fn cost(&self, building: &Building, words: &[&str], came: &mut String) -> Result<(), Trouble> {
-        let call = &call_of(words)?;
-        let costs = plain_costs(building, &self.position, &self.rows, call).ok_or(Trouble::Words)?;
-        if costs_in(building, &self.schedule, call) != Some(costs) {
-            came.push_str(DIFFER)?;
-        }
-        let (cost, delay) = costs;
-        Ok(write!(came, "{cost} {delay}")?)
+    fn cost(&self, building: &Building, call: &NewCall, came: &mut Came) -> Option<()> {
+        let (cost, delay) = plain_costs(building, &self.position, &self.rows, call)?;
+        came.both_ways(costs_in(building, &self.schedule, call) == Some((cost, delay)));
+        push_numbers(&[cost, delay], came);
+        Some(())
     }
 
     /// `car times`: until each of its calls' passengers are where they go, in ms, in order of
     /// allotment.
-    fn times(&self, building: &Building, came: &mut String) -> Result<(), Trouble> {
+    fn times(&self, building: &Building, came: &mut Came) {
         for row in &self.rows {
             let time = etd(building, self.position, &self.rows, row);
-            if etd_of(building, &self.schedule, row) != time {
-                came.push_str(DIFFER)?;
-            }
-            push_space(came)?;
-            write!(came, "{time}")?;
+            came.both_ways(etd_of(building, &self.schedule, row) == time);
+            came.word(time);
         }
-        Ok(())
     }
 
     pub(crate) fn answer(
         &mut self,
         building: &Building,
         words: &[&str],
-        came: &mut String,
-    ) -> Result<(), Trouble> {
-        let (verb, behind) = words.split_first().ok_or(Trouble::Words)?;
+        came: &mut Came,
+    ) -> Option<()> {
+        let (verb, behind) = words.split_first()?;
         match *verb {
-            "at" => self.at(behind),
-            "waiting" => self.insert(behind, false),
-            "aboard" => self.insert(behind, true),
-            "stops" => self.serve(behind),
-            "moves" => self.replace_position(behind),
-            _ => self.asked(building, words, came),
+            "at" => *self = Trip::at(&position_of(behind)?),
+            "waiting" => self.insert(&call_of(behind)?, false)?,
+            "aboard" => self.insert(&call_of(behind)?, true)?,
+            "stops" => {
+                let (floor, dir) = place_of(behind)?;
+                self.serve(&Stop { floor, dir });
+            }
+            "moves" => self.replace_position(&position_of(behind)?),
+            _ => return self.asked(building, words, came),
         }
+        Some(())
     }
 
-    fn asked(&self, building: &Building, words: &[&str], came: &mut String) -> Result<(), Trouble> {
-        let (verb, behind) = words.split_first().ok_or(Trouble::Words)?;
-        match *verb {
-            "halts" => self.halts(came),
-            "halts-with" => self.halts_with(behind, came),
-            "next" => self.next(came),
-            "pass" => self.pass(behind, came),
-            "stop-of" => self.stop_of(behind, came),
-            "position" => self.position(came),
-            "calls" => self.calls(came),
-            "arrivals" => self.arrivals(building, behind, came),
-            "cost" => self.cost(building, behind, came),
-            "times" => self.times(building, came),
-            _ => Err(Trouble::Words),
+    /// What is asked of the car: its next stop, the pass of a call, and the stop that a halt is
+    /// stand here.
+    fn asked(&self, building: &Building, words: &[&str], came: &mut Came) -> Option<()> {
+        match words {
+            ["halts"] => self.halts(came)?,
+            ["halts-with", call @ ..] => self.halts_with(&call_of(call)?, came)?,
+            ["next"] => {
+                let next = next_stop(&self.rows, self.position);
+                came.both_ways(self.schedule.next_stop() == next);
+                came.stop(next);
+            }
+            ["pass", call @ ..] => {
+                let row = waiting_row(&call_of(call)?);
+                came.word(pass_of(&row, self.position).number());
+            }
+            ["stop-of", halt] => came.stop(Some(stop_of(halt_of(halt)?, self.position))),
+            ["position"] => {
+                let position = self.schedule.position();
+                came.both_ways(position == self.position);
+                came.place(position.floor, position.dir);
+            }
+            ["calls"] => self.calls(came),
+            ["arrivals", halts @ ..] => self.arrivals(building, halts, came)?,
+            ["cost", call @ ..] => self.cost(building, &call_of(call)?, came)?,
+            ["times"] => self.times(building, came),
+            _ => return None,
         }
+        Some(())
     }
 }

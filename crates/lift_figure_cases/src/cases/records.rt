@@ -1,180 +1,88 @@
 //! Records as words: `allot K0 1 0 5 A x2`, `stop A 1 0 up`, `row K0 1 0 5 A aboard x2`, `last K0 1
 //! 0 5 A x2`, `last A 1 0 up` and `done 3`.
-use crate::cases::showing::{dir_word, push_letter, push_party, push_row, push_terminal};
-use crate::cases::trouble::Trouble;
-use crate::cases::words::{
-    car_of, count_of, floor_of, number_of, party_of, position_of, terminal_of,
-};
-use lift_base::{Content, Entry, Last, Letter, Number, Party, Record, Row, Stop, Terminal};
-use std::alloc::AllocError;
-use std::fmt::Write;
+use crate::cases::words::{floor_of, party_of, place_of, terminal_of};
+use lift_base::text::{letter_of_word, number_of_word, number_up_to};
+use lift_base::{Content, Entry, Last, Record, Row};
 
-/// A call: its kiosk, number, floors, car and party. It waits.
-fn row_of(words: &[&str]) -> Result<Row, Trouble> {
+/// A call that waits: its kiosk, number, floors and car, and its party in the words from this place
+/// on.
+fn row_of(words: &[&str], party: usize) -> Option<Row> {
     match words {
-        [kiosk, number, from, to, car, party @ ..] => Ok(Row {
+        [kiosk, number, from, to, car, ..] if party <= words.len() => Some(Row {
             kiosk: terminal_of(kiosk)?,
-            number: number_of(number)?,
+            number: number_of_word(number)?,
             from: floor_of(from)?,
             to: floor_of(to)?,
-            car: car_of(car)?,
-            party: party_of(party)?,
+            car: letter_of_word(car)?,
+            party: party_of(&words[party..])?,
             aboard: false,
         }),
-        _ => Err(Trouble::Words),
+        _ => None,
     }
 }
 
 /// A call with its status before its party.
-fn open_row_of(words: &[&str]) -> Result<Row, Trouble> {
-    if words.len() < 6 {
-        return Err(Trouble::Words);
-    }
-    let status = words[5];
-    if status != "aboard" && status != "waiting" {
-        return Err(Trouble::Words);
-    }
-    let row = row_of(&words[..5])?;
-    let party = party_of(&words[6..])?;
-    let aboard = status == "aboard";
-    Ok(Row {
-        aboard,
-        party,
-        ..row
-    })
-}
-
-/// A car's stop: its number, floor and direction.
-fn stopped_of(words: &[&str]) -> Result<(Letter, Number, Stop), Trouble> {
+fn open_row_of(words: &[&str]) -> Option<Row> {
+    let row = row_of(words, 6)?;
     match words {
-        [car, number, at @ ..] => {
-            let at = position_of(at)?;
-            let stop = Stop {
-                floor: at.floor,
-                dir: at.dir,
-            };
-            Ok((car_of(car)?, number_of(number)?, stop))
-        }
-        _ => Err(Trouble::Words),
+        [_, _, _, _, _, "aboard", ..] => Some(Row {
+            aboard: true,
+            ..row
+        }),
+        [_, _, _, _, _, "waiting", ..] => Some(row),
+        _ => None,
     }
 }
 
-/// The last stop of any terminal, as `last A 1 0 up`.
-fn last_stop_of(words: &[&str]) -> Result<Record, Trouble> {
-    match words {
-        [terminal, number, at @ ..] => {
-            let at = position_of(at)?;
-            let content = Content::Stopped {
-                floor: at.floor,
-                dir: at.dir,
-            };
-            Ok(Record::Last {
-                terminal: terminal_of(terminal)?,
-                last: Last {
-                    number: number_of(number)?,
-                    content,
-                },
-            })
-        }
-        _ => Err(Trouble::Words),
+/// The last command of a terminal, a stop or a call.
+fn last_of(words: &[&str]) -> Option<Record> {
+    if let [terminal, number, at @ ..] = words
+        && let Some((floor, dir)) = place_of(at)
+    {
+        return Some(Record::Last {
+            terminal: terminal_of(terminal)?,
+            last: Last {
+                number: number_of_word(number)?,
+                content: Content::Stopped { floor, dir },
+            },
+        });
     }
-}
-
-/// The last call of any terminal, as `last K0 1 0 5 A`.
-fn last_call_of(words: &[&str]) -> Result<Record, Trouble> {
-    let row = row_of(words)?;
-    Ok(Record::Last {
+    let row = row_of(words, 5)?;
+    Some(Record::Last {
         terminal: row.kiosk,
         last: row.kept(),
     })
 }
 
 /// The record that these words name.
-pub(crate) fn record_of(words: &[&str]) -> Result<Record, Trouble> {
-    let (kind, behind) = words.split_first().ok_or(Trouble::Words)?;
-    if *kind == "allot" || *kind == "stop" {
-        Ok(Record::Entry(entry_of(words)?))
-    } else if *kind == "row" {
-        Ok(Record::Row(open_row_of(behind)?))
-    } else if *kind == "last" && behind.len() == 4 {
-        last_stop_of(behind)
-    } else if *kind == "last" {
-        last_call_of(behind)
-    } else if *kind == "done" && behind.len() == 1 {
-        Ok(Record::Done {
-            count: count_of(behind[0], u32::MAX)?,
-        })
-    } else {
-        Err(Trouble::Words)
+pub(crate) fn record_of(words: &[&str]) -> Option<Record> {
+    let (kind, behind) = words.split_first()?;
+    match *kind {
+        "row" => Some(Record::Row(open_row_of(behind)?)),
+        "last" => last_of(behind),
+        "done" => match behind {
+            [count] => Some(Record::Done {
+                count: number_up_to(count, u32::MAX)?,
+            }),
+            _ => None,
+        },
+        _ => Some(Record::Entry(entry_of(words)?)),
     }
 }
 
 /// The entry that these words name.
-pub(crate) fn entry_of(words: &[&str]) -> Result<Entry, Trouble> {
-    let (kind, behind) = words.split_first().ok_or(Trouble::Words)?;
-    if *kind == "allot" {
-        Ok(row_of(behind)?.allotment())
-    } else if *kind == "stop" {
-        let (car, number, stop) = stopped_of(behind)?;
-        Ok(Entry::Stop {
-            car,
-            number,
-            floor: stop.floor,
-            dir: stop.dir,
-        })
-    } else {
-        Err(Trouble::Words)
-    }
-}
-
-fn push_call(
-    text: &mut String,
-    terminal: Terminal,
-    number: Number,
-    content: &Content,
-) -> Result<(), AllocError> {
-    push_terminal(text, terminal)?;
-    let number = number.get();
-    match content {
-        Content::Letter {
-            from,
-            to,
-            car,
-            party,
-        } => {
-            let (from, to) = (from.get(), to.get());
-            write!(text, " {number} {from} {to} ")?;
-            push_letter(text, *car)?;
-            push_party(text, *party)
+pub(crate) fn entry_of(words: &[&str]) -> Option<Entry> {
+    match words {
+        ["allot", call @ ..] => Some(row_of(call, 5)?.allotment()),
+        ["stop", car, number, at @ ..] => {
+            let (floor, dir) = place_of(at)?;
+            Some(Entry::Stop {
+                car: letter_of_word(car)?,
+                number: number_of_word(number)?,
+                floor,
+                dir,
+            })
         }
-        Content::Stopped { floor, dir } => {
-            let (floor, dir) = (floor.get(), dir_word(*dir));
-            write!(text, " {number} {floor} {dir}")
-        }
-    }
-}
-
-fn push_entry(text: &mut String, entry: &Entry) -> Result<(), AllocError> {
-    text.push_str(match entry {
-        Entry::Allot { .. } => "allot ",
-        Entry::Stop { .. } => "stop ",
-    })?;
-    let last = entry.kept();
-    push_call(text, entry.terminal(), last.number, &last.content)
-}
-
-/// The record as the words that name it.
-pub(crate) fn push_record(text: &mut String, record: &Record) -> Result<(), AllocError> {
-    match *record {
-        Record::Entry(ref entry) => push_entry(text, entry),
-        Record::Row(row) => {
-            text.push_str("row ")?;
-            push_row(text, &row)
-        }
-        Record::Last { terminal, last } => {
-            text.push_str("last ")?;
-            push_call(text, terminal, last.number, &last.content)
-        }
-        Record::Done { count } => write!(text, "done {count}"),
+        _ => None,
     }
 }

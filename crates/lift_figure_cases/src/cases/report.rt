@@ -1,21 +1,14 @@
 //! Cases, tried one after another.
-use crate::cases::trouble::Trouble;
+use crate::cases::came::Came;
+use crate::figures::Figures;
+use lift_building::Building;
 use std::alloc::{AllocError, Global};
 use std::fmt::Write;
-
-/// What the lines of cases are put to.
-pub(crate) trait Subject {
-    /// Forgets the case before.
-    fn begin(&mut self) -> Result<(), Trouble>;
-
-    /// Does what the words of a line say, and writes what they come to; nothing where they only do
-    /// something.
-    fn answer(&mut self, words: &[&str], came: &mut String) -> Result<(), Trouble>;
-}
 
 /// What is told of the cases: a line for each, and the counts.
 #[derive(Drop)]
 pub(crate) struct Report {
+    alloc: Global,
     text: String,
     cases: u32,
     answers: u32,
@@ -25,6 +18,7 @@ pub(crate) struct Report {
 impl Report {
     pub(crate) fn new(alloc: Global) -> Report {
         Report {
+            alloc,
             text: String::new(alloc),
             cases: 0,
             answers: 0,
@@ -32,71 +26,55 @@ impl Report {
         }
     }
 
-    /// Tries the cases of a text, each of which begins with a line `case NAME`.
-    pub(crate) fn try_cases<S: Subject>(
-        &mut self,
-        alloc: Global,
-        text: &str,
-        subject: &mut S,
-    ) -> Result<(), Trouble> {
+    /// Tries the cases of a text, each of which begins with a line `case NAME`. None where memory is
+    /// refused.
+    pub(crate) fn try_cases(&mut self, building: &Building, text: &str) -> Option<()> {
         for case in text.split("\ncase ").skip(1) {
-            self.try_case(alloc, case, subject)?;
+            self.try_case(building, case)?;
         }
-        Ok(())
+        Some(())
     }
 
-    fn try_case<S: Subject>(
-        &mut self,
-        alloc: Global,
-        case: &str,
-        subject: &mut S,
-    ) -> Result<(), Trouble> {
-        subject.begin()?;
+    fn try_case(&mut self, building: &Building, case: &str) -> Option<()> {
+        let mut figures = Figures::new(self.alloc, building);
         let (name, lines) = case.split_once('\n').unwrap_or((case, ""));
         let wrong = self.wrong;
         for line in lines.lines() {
             let line = without_comment(line);
             if !line.is_empty() {
-                self.try_line(alloc, name, line, subject)?;
+                self.try_line(name, line, &mut figures)?;
             }
         }
         self.cases = self.cases.saturating_add(1);
         if self.wrong == wrong {
-            writeln!(self.text, "ok {name}")?;
+            writeln!(self.text, "ok {name}").ok()?;
         }
-        Ok(())
+        Some(())
     }
 
     /// A line that does something, or one that asks something, with ` = ` and the answer that is
     /// wanted.
-    fn try_line<S: Subject>(
-        &mut self,
-        alloc: Global,
-        name: &str,
-        line: &str,
-        subject: &mut S,
-    ) -> Result<(), Trouble> {
+    fn try_line(&mut self, name: &str, line: &str, figures: &mut Figures) -> Option<()> {
         let (said, wanted) = line.split_once(" = ").unwrap_or((line, ""));
-        let said = said.trim();
-        let wanted = wanted.trim();
-        let mut came = String::new(alloc);
-        let words: Vec<&str> = said.split_whitespace().collect(alloc)?;
-        match subject.answer(&words, &mut came) {
-            Ok(()) => {}
-            Err(Trouble::Words) => came.push_str(" not understood")?,
-            Err(trouble) => return Err(trouble),
+        let (said, wanted) = (said.trim(), wanted.trim());
+        let words: Vec<&str> = said.split_whitespace().collect(self.alloc).ok()?;
+        let mut came = Came::new(self.alloc);
+        if figures.answer(&words, &mut came).is_none() {
+            came.word("not understood");
         }
+        let came = came.text()?;
         if !wanted.is_empty() {
             self.answers = self.answers.saturating_add(1);
         }
-        if came.as_str() != wanted {
+        if came != wanted {
             self.wrong = self.wrong.saturating_add(1);
             writeln!(
                 self.text,
                 "WRONG {name}: {said}: wanted {wanted}, came {came}"
-            )?;
+            )
+            .ok()?;
         }
-        Ok(())
+        Some(())
     }
 
     /// Ends the report with its counts. Whether all cases came out.

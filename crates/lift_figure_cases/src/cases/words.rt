@@ -1,98 +1,74 @@
-//! Words of a case's line: floors, cars, terminals, numbers, parties, and what terminals ask.
-ghost use Rattle.std.specs.Prelude.{◌≤◌, IfOk};
+//! Words of a case's line: floors, terminals, parties, calls, and what terminals ask. There is none
+//! where they are spelled otherwise.
 
-use crate::cases::trouble::Trouble;
-use lift_base::text::{dir_of_word, letter_of_word, number_of_word, number_up_to};
-use lift_base::{Body, Dir, Floor, Letter, Number, Party, Position, Stop, Terminal};
-
-/// A number up to this one.
-pub(crate) fn count_of(word: &str, most: u32) -> Result<u32, Trouble>
-    ensures { IfOk result (λ number. number ≤ most) }
-{
-    match number_up_to(word, most) {
-        Some(number) => Ok(number),
-        None => Err(Trouble::Words),
-    }
-}
+use lift_base::text::{dir_of_word, letter_of_word, number_up_to};
+use lift_base::{Body, Dir, Floor, Party, Position, Terminal};
+use lift_cost::NewCall;
 
 /// A floor, 0 to 63.
-pub(crate) fn floor_of(word: &str) -> Result<Floor, Trouble> {
-    let number = count_of(word, 63)?;
-    Floor::new(number as u8).ok_or(Trouble::Words)
-}
-
-/// `up` or `down`.
-pub(crate) fn dir_of(word: &str) -> Result<Dir, Trouble> {
-    dir_of_word(word).ok_or(Trouble::Words)
-}
-
-/// A car, `A` to `P`.
-pub(crate) fn car_of(word: &str) -> Result<Letter, Trouble> {
-    letter_of_word(word).ok_or(Trouble::Words)
-}
-
-/// The number of a command.
-pub(crate) fn number_of(word: &str) -> Result<Number, Trouble> {
-    number_of_word(word).ok_or(Trouble::Words)
+pub(crate) fn floor_of(word: &str) -> Option<Floor> {
+    let number = number_up_to(word, 63)?;
+    Floor::new(number as u8)
 }
 
 /// A car, `A` to `P`, or a kiosk, `K0` to `K46`.
-pub(crate) fn terminal_of(word: &str) -> Result<Terminal, Trouble> {
-    match word.strip_prefix('K') {
-        Some("") | None => Ok(Terminal::of_car(car_of(word)?)),
-        Some(index) => {
-            let index = count_of(index, 46)?;
-            Terminal::of_kiosk(index as u8).ok_or(Trouble::Words)
-        }
+pub(crate) fn terminal_of(word: &str) -> Option<Terminal> {
+    if let Some(car) = letter_of_word(word) {
+        return Some(Terminal::of_car(car));
     }
+    let index = number_up_to(word.strip_prefix('K')?, 46)?;
+    Terminal::of_kiosk(index as u8)
 }
 
 /// The party that the last words name, as `x2`; without any it is one person.
-pub(crate) fn party_of(words: &[&str]) -> Result<Party, Trouble> {
+pub(crate) fn party_of(words: &[&str]) -> Option<Party> {
     match words {
-        [] => Ok(Party::default()),
+        [] => Some(Party::default()),
         [word] => {
-            let persons = word.strip_prefix('x').ok_or(Trouble::Words)?;
-            let persons = count_of(persons, 15)?;
-            Party::new(persons as u8).ok_or(Trouble::Words)
+            let persons = number_up_to(word.strip_prefix('x')?, 15)?;
+            Party::new(persons as u8)
         }
-        _ => Err(Trouble::Words),
+        _ => None,
     }
 }
 
-/// A floor and a direction, as where a car is.
-pub(crate) fn position_of(words: &[&str]) -> Result<Position, Trouble> {
+/// The floors and the party of a call, as `0 5 x2`.
+pub(crate) fn call_of(words: &[&str]) -> Option<NewCall> {
     match words {
-        [floor, dir] => Ok(Position {
-            floor: floor_of(floor)?,
-            dir: dir_of(dir)?,
+        [from, to, party @ ..] => Some(NewCall {
+            from: floor_of(from)?,
+            to: floor_of(to)?,
+            party: party_of(party)?,
         }),
-        _ => Err(Trouble::Words),
+        _ => None,
     }
 }
 
-/// A floor and a direction, as a car's stop.
-pub(crate) fn stop_of(words: &[&str]) -> Result<Stop, Trouble> {
-    let at = position_of(words)?;
-    Ok(Stop {
-        floor: at.floor,
-        dir: at.dir,
-    })
+/// A floor and a direction, as `0 up`.
+pub(crate) fn place_of(words: &[&str]) -> Option<(Floor, Dir)> {
+    match words {
+        [floor, dir] => Some((floor_of(floor)?, dir_of_word(dir)?)),
+        _ => None,
+    }
+}
+
+/// The same, as where a car is.
+pub(crate) fn position_of(words: &[&str]) -> Option<Position> {
+    let (floor, dir) = place_of(words)?;
+    Some(Position { floor, dir })
 }
 
 /// What a terminal asks: `call 5 x2`, `stop 0 up` or `place 0 up`.
-pub(crate) fn body_of(words: &[&str]) -> Result<Body, Trouble> {
-    let (verb, behind) = words.split_first().ok_or(Trouble::Words)?;
+pub(crate) fn body_of(words: &[&str]) -> Option<Body> {
+    let (verb, behind) = words.split_first()?;
     if *verb == "call" {
-        let (floor, party) = behind.split_first().ok_or(Trouble::Words)?;
-        return Ok(Body::Call(floor_of(floor)?, party_of(party)?));
+        let (floor, party) = behind.split_first()?;
+        return Some(Body::Call(floor_of(floor)?, party_of(party)?));
     }
-    let at = position_of(behind)?;
-    if *verb == "stop" {
-        Ok(Body::Stop(at.floor, at.dir))
-    } else if *verb == "place" {
-        Ok(Body::Place(at.floor, at.dir))
-    } else {
-        Err(Trouble::Words)
+    let (floor, dir) = place_of(behind)?;
+    match *verb {
+        "stop" => Some(Body::Stop(floor, dir)),
+        "place" => Some(Body::Place(floor, dir)),
+        _ => None,
     }
 }
