@@ -10,10 +10,10 @@ use lift_building::Building;
 use lift_cost::{NewCall, total_cost};
 use lift_decider::Decider;
 use lift_policy::{Eligible, Etd, FewestOpen, Policy, View};
-use std::alloc::{AllocError, Global};
+use std::alloc::Global;
 
 /// What is decided again and again. The open calls are the same after each round.
-#[derive(Clone, Copy)]
+#[derive(Drop)]
 pub(crate) enum Kind {
     /// A new call, by the cars' schedules; the two stops of its car, and its place, take it out
     /// again.
@@ -26,24 +26,6 @@ pub(crate) enum Kind {
     Ahead,
     /// A stop against the car's direction, at which nobody boards or leaves.
     Turn,
-}
-
-/// How many cars, open calls and rounds.
-#[derive(Clone, Copy)]
-pub(crate) struct Load {
-    pub(crate) cars: u8,
-    pub(crate) calls: u32,
-    pub(crate) times: u32,
-    pub(crate) kind: Kind,
-}
-
-/// What was decided.
-#[derive(Clone, Copy)]
-pub(crate) struct Decided {
-    /// The calls that were open before each round.
-    pub(crate) calls: u32,
-    /// The new calls that found a car, or else the stops.
-    pub(crate) decisions: u32,
 }
 
 /// The floors of the new call. No other call starts or ends there, and none starts between them.
@@ -212,25 +194,34 @@ fn least_plainly(building: &Building, view: &View, call: &NewCall, letters: &[Le
     best
 }
 
-/// Allots the open calls, and then decides as often as the load says.
-pub(crate) fn decide(alloc: Global, load: &Load) -> Result<Decided, Fault> {
-    let text = text_of(alloc, load.cars)?;
+/// Allots this many open calls, and then decides this often. The calls that are open then, and how
+/// many new calls found a car, or else the stops.
+pub(crate) fn decide(
+    alloc: Global,
+    cars: u8,
+    calls: u32,
+    times: u32,
+    kind: Kind,
+) -> Result<(u32, u32), Fault> {
+    let text = text_of(alloc, cars)?;
     // the building is this program's own, so that only memory may want
-    let building = Building::read(alloc, &text).map_err(|_fault| Fault::Memory(AllocError))?;
+    let Ok(building) = Building::read(alloc, &text) else {
+        return Err(Fault::Memory);
+    };
     let mut decider = Decider::new(&building);
-    place_all(&mut decider, load.cars);
-    fill(&mut decider, load.calls);
+    place_all(&mut decider, cars);
+    fill(&mut decider, calls);
     let calls = decider.register().open_count();
-    let mut decisions = load.times;
-    match load.kind {
-        Kind::Call => decisions = rounds(&mut decider, load.times, &Etd),
-        Kind::Plain => decisions = rounds(&mut decider, load.times, &PlainEtd),
+    let mut decisions = times;
+    match kind {
+        Kind::Call => decisions = rounds(&mut decider, times, &Etd),
+        Kind::Plain => decisions = rounds(&mut decider, times, &PlainEtd),
         Kind::Stops => {
             let car = round(&mut decider, &Etd).unwrap_or_default();
-            stops(&mut decider, car, load.times);
+            stops(&mut decider, car, times);
         }
-        Kind::Ahead => stops_ahead(&mut decider, Letter::default(), load.times),
-        Kind::Turn => turns(&mut decider, Letter::default(), load.times),
+        Kind::Ahead => stops_ahead(&mut decider, Letter::default(), times),
+        Kind::Turn => turns(&mut decider, Letter::default(), times),
     }
-    Ok(Decided { calls, decisions })
+    Ok((calls, decisions))
 }

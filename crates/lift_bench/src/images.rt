@@ -61,21 +61,6 @@ pub(crate) fn format<O: FileOpener>(opener: O, image: &str, half: u32) -> Result
     Ok(())
 }
 
-/// Appends batches of 63 records up to the end of the half; how many.
-pub(crate) fn fill<O: FileOpener>(opener: O, image: &str) -> Result<u32, Fault> {
-    let mut journal = journal_at(opener, image)?;
-    let batch = stops(63);
-    let mut batches = 0u32;
-    for _batch in 0..1_000_000 {
-        if !journal.room(63) {
-            break;
-        }
-        journal.append(&batch)?;
-        batches = batches.saturating_add(1);
-    }
-    Ok(batches)
-}
-
 /// Opens a journal; the sectors of its halves.
 pub(crate) fn open<O: FileOpener>(opener: O, image: &str) -> Result<u32, Fault> {
     let journal = journal_at(opener, image)?;
@@ -111,13 +96,21 @@ pub(crate) fn walk<O: FileOpener>(opener: O, image: &str) -> Result<(u32, u64), 
     }
 }
 
-/// Appends this many batches of one record; how many had room.
-pub(crate) fn append<O: FileOpener>(opener: O, image: &str, count: u32) -> Result<u32, Fault> {
+/// Appends this many batches of this many records, as long as the half has room; how many.
+pub(crate) fn append<O: FileOpener>(
+    opener: O,
+    image: &str,
+    records: usize,
+    count: u32,
+) -> Result<u32, Fault>
+    requires some { 1 ≤ records }
+    requires fit { records ≤ 63 }
+{
     let mut journal = journal_at(opener, image)?;
-    let batch = stops(1);
+    let batch = stops(records);
     let mut batches = 0u32;
     for _batch in 0..count {
-        if !journal.room(1) {
+        if !journal.room(records) {
             break;
         }
         journal.append(&batch)?;

@@ -1,4 +1,4 @@
-//! A clerk that is whole, or both parts of one split, which are driven by hand.
+//! Both parts of a clerk, which are driven by hand.
 ghost use Rattle.lift_parts.specs.Parts.{AreOfOne};
 
 use crate::trouble::Trouble;
@@ -22,7 +22,8 @@ pub(crate) struct Relay<'d, 'b> {
 }
 
 impl<'d, 'b> Relay<'d, 'b> {
-    fn of(alloc: Global, clerk: Clerk<'d, 'b, FuseDisk, Etd>) -> Result<Self, Trouble> {
+    /// Both parts of a clerk.
+    pub(crate) fn of(alloc: Global, clerk: Clerk<'d, 'b, FuseDisk, Etd>) -> Result<Self, Trouble> {
         match split(alloc, clerk) {
             Ok((allocator, flusher)) => Ok(Relay { allocator, flusher }),
             Err(_) => Err(Trouble::Memory),
@@ -53,48 +54,10 @@ impl<'d, 'b> Relay<'d, 'b> {
     }
 
     /// The clerk of both parts, whose registers are compared so.
-    fn rejoined(self) -> Result<Clerk<'d, 'b, FuseDisk, Etd>, Trouble> {
+    pub(crate) fn rejoined(self) -> Result<Clerk<'d, 'b, FuseDisk, Etd>, Trouble> {
         match rejoin(self.allocator, self.flusher) {
             Ok(clerk) => Ok(clerk),
             Err(_) => Err(Trouble::Apart),
-        }
-    }
-}
-
-/// A clerk, or both parts that it was split into.
-#[derive(Drop)]
-pub(crate) enum Group<'d, 'b> {
-    Whole(Clerk<'d, 'b, FuseDisk, Etd>),
-    Split(Relay<'d, 'b>),
-}
-
-impl<'d, 'b> Group<'d, 'b> {
-    /// Both parts, as they are, or those of the clerk.
-    pub(crate) fn parted(self, alloc: Global) -> Result<Relay<'d, 'b>, Trouble> {
-        match self {
-            Group::Split(relay) => Ok(relay),
-            Group::Whole(clerk) => Relay::of(alloc, clerk),
-        }
-    }
-
-    /// Both parts after a turn, and what it came to.
-    pub(crate) fn turned<R: Wait>(
-        self,
-        rt: &R,
-        alloc: Global,
-    ) -> Result<(Relay<'d, 'b>, Result<Counts, KeeperFault>), Trouble> {
-        let mut relay = self.parted(alloc)?;
-        match relay.turn(rt) {
-            Ok(turned) => Ok((relay, turned)),
-            Err(trouble) => Err(trouble),
-        }
-    }
-
-    /// The clerk, as it is, or that of both parts.
-    pub(crate) fn joined(self) -> Result<Clerk<'d, 'b, FuseDisk, Etd>, Trouble> {
-        match self {
-            Group::Whole(clerk) => Ok(clerk),
-            Group::Split(relay) => relay.rejoined(),
         }
     }
 }

@@ -9,54 +9,78 @@ mod shows;
 mod station;
 mod trouble;
 
-use crate::group::Group;
-use crate::station::{Next, Station};
+use crate::group::Relay;
+use crate::shows::show;
+use crate::station::Station;
 use crate::trouble::Trouble;
 use lift_base::text::Counted;
 use lift_building::{Building, BuildingFault};
 use lift_clerk::Clerk;
 use lift_desk::{Desk, DeskParts};
-use lift_disk::{FuseDisk, MemDisk};
+use lift_disk::{FuseDisk, MemDisk, Outcome};
 use lift_keeper::Keeper;
 use lift_policy::Etd;
-use lift_replay::report::{push_building_fault, push_cut};
+use lift_replay::report::{push_bad, push_building_fault, push_cut};
 use lift_replay::{
-    Lines, MOST_BYTES, MOST_CALLS, Terminals, Verdict, first_keeper, read_all, split_script,
+    Lines, MOST_BYTES, MOST_CALLS, ScriptLine, Terminals, first_keeper, read_all, split_script,
 };
 use std::alloc::Global;
 use std::process::ExitCode;
 use std::sync::Wait;
 
-/// How a segment of a run ends.
-#[derive(Drop)]
-enum SegmentEnd {
-    /// With the run.
-    Run(Verdict),
-    /// By a power cut, which has left this.
-    Cut(MemDisk),
+/// Carries out a line that shows or arms: it works on the whole clerk.
+fn on_clerk<'d, 'b>(
+    alloc: Global,
+    report: &mut String,
+    relay: Relay<'d, 'b>,
+    line: &ScriptLine,
+) -> Result<Relay<'d, 'b>, Trouble> {
+    let mut clerk = relay.rejoined()?;
+    match *line {
+        ScriptLine::Fuse { calls } => clerk.arm(calls),
+        _ => show(report, clerk.keeper(), line)?,
+    }
+    Relay::of(alloc, clerk)
 }
 
-/// Carries out lines at a desk, up to a power cut or to the end of the run.
+/// What a power cut leaves of the device.
+fn cut(relay: Relay<'_, '_>, outcome: Outcome) -> Result<MemDisk, Trouble> {
+    let (_seat, keeper, _policy) = relay.rejoined()?.into_parts();
+    Ok(keeper.into_disk().into_inner().cut(outcome))
+}
+
+/// Carries out lines at a desk, up to the end of the run or to a power cut, which has left what it
+/// gives.
 fn run_at<'d, 'b, R: Wait>(
     rt: &R,
     alloc: Global,
     station: &mut Station<'d, 'b>,
-    group: Group<'d, 'b>,
+    relay: Relay<'d, 'b>,
     lines: &mut Lines,
     report: &mut String,
-) -> Result<SegmentEnd, Trouble> {
-    let mut group = group;
+) -> Result<Option<MemDisk>, Trouble> {
+    let mut relay = relay;
     for _ in 0..=lines.len() {
-        let Some(numbered) = lines.next() else {
+        let Some((number, text)) = lines.next() else {
             break;
         };
-        match station.next(rt, alloc, report, group, numbered)? {
-            Next::Lines(left) => group = left,
-            Next::End(verdict) => return Ok(SegmentEnd::Run(verdict)),
-            Next::Cut(left) => return Ok(SegmentEnd::Cut(left)),
+        if text.is_empty() || text.starts_with('#') {
+            continue;
+        }
+        let Some(line) = station.line(text) else {
+            push_bad(report, number)?;
+            return Err(Trouble::Bad);
+        };
+        match line {
+            ScriptLine::Place { .. } | ScriptLine::Stop { .. } | ScriptLine::Call { .. } => {
+                station.ask_line(report, &line)?;
+            }
+            ScriptLine::Turn => station.push_turned(report, relay.turn(rt)?)?,
+            ScriptLine::Cut { outcome } => return Ok(Some(cut(relay, outcome)?)),
+            _ => relay = on_clerk(alloc, report, relay, &line)?,
         }
     }
-    Ok(SegmentEnd::Run(Verdict::Good))
+    Ok(None)
 }
 
 /// Carries out lines at a new desk, over a keeper that was just opened.
@@ -66,14 +90,14 @@ fn run_segment<'b, R: Wait>(
     keeper: Keeper<'b, FuseDisk>,
     lines: &mut Lines,
     report: &mut String,
-) -> Result<SegmentEnd, Trouble>
+) -> Result<Option<MemDisk>, Trouble>
     requires settled { keeper.state.batch ≡ [] }
 {
     let building = keeper.building();
     let DeskParts { desk, seats, clerk } = Desk::open(alloc, 16 + usize::from(building.kiosks()))?;
     let mut station = Station::new(building, Terminals::new(&desk, seats));
-    let group = Group::Whole(Clerk::new(&desk, clerk, keeper, Etd));
-    run_at(rt, alloc, &mut station, group, lines, report)
+    let relay = Relay::of(alloc, Clerk::new(&desk, clerk, keeper, Etd))?;
+    run_at(rt, alloc, &mut station, relay, lines, report)
 }
 
 /// A device with an empty journal of the building.
@@ -100,7 +124,7 @@ fn run_lines<R: Wait>(
     building: &Building,
     text: &str,
     report: &mut String,
-) -> Result<Verdict, Trouble> {
+) -> Result<(), Trouble> {
     let mut lines = Lines::new(text);
     let mut disk = formatted(alloc, building)?;
     for segment in 0..=text.len() {
@@ -109,11 +133,11 @@ fn run_lines<R: Wait>(
             push_cut(report, keeper.register().open_count())?;
         }
         match run_segment(rt, alloc, keeper, &mut lines, report)? {
-            SegmentEnd::Run(verdict) => return Ok(verdict),
-            SegmentEnd::Cut(left) => disk = FuseDisk::new(left),
+            Some(left) => disk = FuseDisk::new(left),
+            None => return Ok(()),
         }
     }
-    Ok(Verdict::Good)
+    Ok(())
 }
 
 fn run_text<R: Wait>(
@@ -121,37 +145,32 @@ fn run_text<R: Wait>(
     alloc: Global,
     text: &str,
     report: &mut String,
-) -> Result<Verdict, Trouble> {
+) -> Result<(), Trouble> {
     let Some((building, lines)) = split_script(alloc, text)? else {
         report.push_str("NO SCRIPT\n")?;
-        return Ok(Verdict::Bad);
+        return Err(Trouble::Bad);
     };
     match Building::read(alloc, &building) {
         Ok(building) => run_lines(rt, alloc, &building, lines, report),
         Err(BuildingFault::Memory(_)) => Err(Trouble::Memory),
         Err(fault) => {
             push_building_fault(report, &fault)?;
-            Ok(Verdict::Bad)
+            Err(Trouble::Bad)
         }
     }
 }
 
 /// Carries out a script: of what it reports as much is added as comes before a trouble.
-fn run<R: Wait>(
-    rt: &R,
-    alloc: Global,
-    bytes: &[u8],
-    report: &mut String,
-) -> Result<Verdict, Trouble> {
+fn run<R: Wait>(rt: &R, alloc: Global, bytes: &[u8], report: &mut String) -> Result<(), Trouble> {
     if bytes.len() > MOST_BYTES {
         report.push_str("TOO LONG\n")?;
-        return Ok(Verdict::Bad);
+        return Err(Trouble::Bad);
     }
     match str::from_utf8(bytes) {
         Ok(text) => run_text(rt, alloc, text, report),
         Err(_) => {
             report.push_str("NOT TEXT\n")?;
-            Ok(Verdict::Bad)
+            Err(Trouble::Bad)
         }
     }
 }
@@ -180,13 +199,13 @@ fn main(rt: HostRuntime) -> ExitCode {
         Err(trouble) => return tell(&rt, trouble),
     };
     let mut report = String::new(rt.alloc());
-    let verdict = run(&rt, rt.alloc(), &bytes, &mut report);
+    let ran = run(&rt, rt.alloc(), &bytes, &mut report);
     if let Err(trouble) = write(&rt, &report) {
         return tell(&rt, trouble);
     }
-    match verdict {
-        Ok(Verdict::Good) => ExitCode::from(0),
-        Ok(Verdict::Bad) => ExitCode::from(1),
+    match ran {
+        Ok(()) => ExitCode::from(0),
+        Err(Trouble::Bad) => ExitCode::from(1),
         Err(trouble) => tell(&rt, trouble),
     }
 }

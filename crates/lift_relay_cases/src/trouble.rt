@@ -1,12 +1,14 @@
-//! Why a script came to no report.
+//! Why a script came to no report, or to a bad one.
 use lift_base::Memory;
 use lift_keeper::KeeperFault;
 use lift_replay::{InputFault, NoMemory};
 use std::alloc::AllocError;
 use std::io;
 
-#[derive(Clone, Copy, PartialEq, Eq)]
+#[derive(Clone, Copy)]
 pub(crate) enum Trouble {
+    /// The script, its building or one of its lines is malformed, as the report tells.
+    Bad,
     /// The script can't be read, or the report can't be written.
     Stream,
     /// A growth was refused.
@@ -24,6 +26,7 @@ pub(crate) enum Trouble {
 impl Trouble {
     pub(crate) fn name(self) -> &'static str {
         match self {
+            Trouble::Bad => "a bad script",
             Trouble::Stream => "a stream",
             Trouble::Memory => "memory",
             Trouble::Unopened => "a device that doesn't open",
