@@ -20,7 +20,7 @@ use crate::text::OpenedText;
 use clap::ArgMatches;
 use clap::error::ErrorKind as WordsFault;
 use lift_disk::FileFault;
-use lift_serve::{Refusal, ServeFault};
+use lift_serve::{ServeFault, ServingEnd};
 use std::alloc::Global;
 use std::convert::AsStr;
 use std::io;
@@ -74,15 +74,15 @@ impl From<lift_replay::NoMemory> for Fault {
     }
 }
 
-impl From<Refusal> for Fault {
-    ghost from_gives = { λ refusal fault. Some fault ≡ served_fault false (Some refusal) };
-
-    fn from(refusal: Refusal) -> Fault {
-        match refusal.fault() {
-            ServeFault::Network => Fault::Network,
-            ServeFault::Thread => Fault::Thread,
-            ServeFault::Memory => Fault::Memory(NoMemory { made: () }),
-        }
+/// What a serving that ended so was refused.
+pub(crate) fn refused_in(end: &ServingEnd) -> Option<Fault>
+    ensures { result ≡ served_fault false end.now.fault }
+{
+    match end.fault() {
+        Some(ServeFault::Network) => Some(Fault::Network),
+        Some(ServeFault::Thread) => Some(Fault::Thread),
+        Some(ServeFault::Memory) => Some(Fault::Memory(NoMemory { made: () })),
+        None => None,
     }
 }
 

@@ -13,11 +13,12 @@ use crate::at_once::{AtOnce, FAILED};
 use crate::fault::Fault;
 use crate::keeping::{ImageKey, left_by};
 use crate::left::Left;
+use crate::refused::refused_in;
 use core::mem::replace_with;
 use lift_base::text::Watched;
 use lift_disk::Disk;
 use lift_policy::Shipped;
-use lift_serve::{NoWitness, PreparedGroup, Refusal, ServingEnd, ServingOutcome};
+use lift_serve::{NoWitness, PreparedGroup, ServingEnd, ServingOutcome};
 use std::alloc::Global;
 use std::io::Write;
 use std::sync::Wait;
@@ -25,13 +26,13 @@ use std::thread::Threads;
 use std::time::Clock;
 
 /// What the serving was undone for: a device that failed, and else the fault of the rest.
-fn fault_of(is_broken: bool, fault: Option<Refusal>) -> Option<Fault>
-    ensures { result ≡ served_fault is_broken fault }
+fn fault_of(is_broken: bool, end: &ServingEnd) -> Option<Fault>
+    ensures { result ≡ served_fault is_broken end.now.fault }
 {
     if is_broken {
         return Some(FAILED);
     }
-    Some(Fault::from(fault?))
+    refused_in(end)
 }
 
 /// What is told of a serving, the image as it was left, and how the serving ended.
@@ -58,7 +59,7 @@ fn serving_of<D: Disk + Drop, E: Write + Drop>(
     } = served;
     let is_broken = keeper.keeper().is_broken();
     Serving {
-        fault: fault_of(is_broken, end.fault()),
+        fault: fault_of(is_broken, &end),
         left: left_by(keeper),
         end,
     }

@@ -1,6 +1,6 @@
 -- What a run of both parts leaves for the clerk of them.
-use Rattle.std.proofs.Common.{◌≡◌, ◌≢◌, ℕ, ◌||◌, true, List, [], Option, Some, None, refl, sym, ap, subst, ◌∙◌}
-use Rattle.std.specs.Prelude.{is_err, Result, Ok, Err, IfSome, IsErr, IsSome}
+use Rattle.std.proofs.Common.{◌≡◌, ◌≢◌, ℕ, ◌||◌, true, false, List, [], Option, Some, None, refl, sym, ap, subst, ◌∙◌}
+use Rattle.std.specs.Prelude.{is_ok, is_err, Result, Ok, Err, IfSome, IsErr, IsSome}
 use Rattle.std.proofs.Math.Logic.{∥∥₁_map}
 use Rattle.lift_base.specs.declared.history.Entry.{Entry}
 use Rattle.lift_disk.specs.Disk.{DiskState}
@@ -209,6 +209,15 @@ come_by {D} {P} chooses state clerk a b f g (Some (Spawn no_thread)) refused ran
 pub come_on : {D P : Type 0} (chooses : P → Choice) (state : D → DiskState) (clerk : ClerkState D P) (a b : AllocatorState P) (f g : FlusherState D) (fault : Option RunFault) → ∥ ComeOf chooses state clerk a f ∥₁
     → (fault ≡ Some (Spawn tt) → (b ≡ a) × (g ≡ f)) → (fault ≢ Some (Spawn tt) → HaveRun (chooses a.policy) state a b f g fault) → ∥ ComeOf chooses state clerk b g ∥₁
 come_on chooses state clerk a b f g fault come refused ran = ∥∥₁_map come (come_by chooses state clerk a b f g fault refused ran)
+
+-- what is told behind the last end, and where all were given up
+pub told_at_last : (over : Result EndedState (Unit {0})) (first : Option ServeFault) → is_ok over ≡ true → told_behind over first ≡ first
+told_at_last (Ok ended) first is = refl
+told_at_last (Err given_up) first is = absurd (cc)
+
+pub told_given_up : (over : Result EndedState (Unit {0})) (first : Option ServeFault) → is_ok over ≡ false → told_behind over first ≡ Some Thread
+told_given_up (Ok ended) first is = absurd (cc)
+told_given_up (Err given_up) first is = refl
 
 -- that no thread could be made for the serving itself is told, whatever else there was
 pub tells_spawn : (over : Result EndedState (Unit {0})) (first is_told : Option ServeFault) → is_told ≡ told_behind over first → IsErr over → is_told ≡ Some Thread

@@ -1,5 +1,5 @@
 -- What comes of a connection.
-use Rattle.std.specs.Prelude.{ℕ, ◌≡◌, ◌≤◌, ◌+◌, ◌⊎◌, Option, false, List, [], ◌∷◌, ◌++◌, codes, length}
+use Rattle.std.specs.Prelude.{ℕ, ◌≡◌, ◌≤◌, ◌+◌, ◌⊎◌, Option, true, false, List, [], ◌∷◌, ◌++◌, codes, length}
 use Rattle.std.specs.Str.Lines.{strip_carriage_return}
 use Rattle.lift_base.specs.Output.{Sink, Takes, TakesFront}
 use Rattle.lift_kiosk.specs.Lines.{FailsOnce, FindsEnd, GivesLine, GivesPart, Source}
@@ -65,11 +65,12 @@ Attends cars kiosks (NoLine reason) source source' sink sink' =
     EndsWithoutLine first_reads reason source source' × (sink' ≡ sink)
 Attends cars kiosks Bad source source' sink sink' = NamesNone cars kiosks source source'
     × IsSaid (codes "BAD" ++ 10 ∷ []) sink sink'
-Attends cars kiosks (Busy absent) source source' sink sink' =
-    Names cars kiosks absent.terminal source source' × IsSaid (codes "BUSY" ++ 10 ∷ []) sink sink'
-Attends cars kiosks (Unseated missing) source source' sink sink' =
-    Names cars kiosks missing.terminal source source' × (length missing.desk ≤ missing.terminal)
-    × IsSaid (codes "BAD" ++ 10 ∷ []) sink sink'
+Attends cars kiosks (Busy no_seat) source source' sink sink' =
+    Names cars kiosks no_seat.terminal source source' × (no_seat.is_out ≡ true)
+    × IsSaid (codes "BUSY" ++ 10 ∷ []) sink sink'
+Attends cars kiosks (Unseated no_seat) source source' sink sink' =
+    Names cars kiosks no_seat.terminal source source' × (no_seat.is_out ≡ false)
+    × (length no_seat.desk ≤ no_seat.terminal) × IsSaid (codes "BAD" ++ 10 ∷ []) sink sink'
 Attends cars kiosks (Visited held' end) source source' sink sink' = (terminal : ℕ) × (mid : Source)
     × Names cars kiosks terminal source mid
     × (held : HeldState) × IsServedSeat held × (held.seat.terminal ≡ terminal)

@@ -1,5 +1,5 @@
 -- Where seats wait, and what is known of one that doesn't.
-use Rattle.std.specs.Prelude.{ℕ, ◌≡◌, ◌≤◌, List, map, Option, Some, None, length, slice_get}
+use Rattle.std.specs.Prelude.{ℕ, ◌≡◌, Bool, List, map, Option, Some, length, slice_get}
 use Rattle.atomic_table.specs.Seated.{TableId}
 use Rattle.lift_desk.specs.Seats.{TerminalSeat}
 use Rattle.lift_register.specs.Register.{RegisterState, last_of}
@@ -11,20 +11,12 @@ pub record LobbyState : Type 0 where
   pub desk : List TableId
   pub places : List (Option HeldState)
 
--- the terminal whose seat was asked for, and the desk of the lobby that was asked
-pub record AskedState : Type 0 where
+-- the terminal whose seat was asked for, the desk of the lobby that was asked, and whether the seat was
+-- out there; else the desk has no such terminal
+pub record NoSeatState : Type 0 where
   pub desk : List TableId
   pub terminal : ℕ
-
--- The terminal has its place in the lobby that was asked, and its seat is out.
-abbrev pub IsTakenOut : LobbyState → ℕ → AskedState → Type 0
-IsTakenOut lobby terminal asked = (asked ≡ record { desk = lobby.desk; terminal = terminal })
-    × (slice_get lobby.places terminal ≡ Some None)
-
--- The desk of the lobby that was asked has no such terminal.
-abbrev pub IsUnknown : LobbyState → ℕ → AskedState → Type 0
-IsUnknown lobby terminal asked = (asked ≡ record { desk = lobby.desk; terminal = terminal })
-    × (length asked.desk ≤ asked.terminal)
+  pub is_out : Bool
 
 -- There is a place for each terminal of the desk, and each seat that waits is that of its place's
 -- terminal.

@@ -1,5 +1,5 @@
 -- Which connections are open, and how many have ended.
-use Rattle.std.specs.Prelude.{ℕ, ◌≡◌, ◌≤◌, ◌⊎◌, suc, List, Option, Some, None, IsSome, IfOk, Result}
+use Rattle.std.specs.Prelude.{ℕ, ◌≡◌, ◌≤◌, ◌⊎◌, suc, Bool, true, false, List, Option, Some, None, IfOk, Result}
 use Rattle.std.specs.Prelude.{Ok, Err, if◌then◌else◌, nat_lt}
 use Rattle.std.specs.declared.net.tcp.TcpListener.{TcpListener as Listener}
 use Rattle.lift_serve.specs.declared.serving.ServeFault.{ServeFault}
@@ -11,7 +11,7 @@ pub record OpenState : Type 0 where
   pub numbers : List ℕ
   pub next : ℕ
   pub ended : ℕ
-  pub given_up : Option (Unit {0})
+  pub given_up : Bool
   pub shortage : Option ServeFault
 
 -- at this socket, so many connections: as are to end, or have
@@ -30,11 +30,16 @@ one_more most count = if nat_lt count most then suc count else count
 
 -- so many have ended, or all were given up
 abbrev pub AreOver : ℕ → OpenState → Type 0
-AreOver sessions state = (sessions ≤ state.ended) ⊎ IsSome state.given_up
+AreOver sessions state = (sessions ≤ state.ended) ⊎ (state.given_up ≡ true)
 
 -- they are so many, at this socket
 abbrev pub AreEndedAt : Listener → ℕ → EndedState → Type 0
 AreEndedAt listener sessions ended = ended ≡ record { listener = listener; sessions = sessions }
+
+-- how the accepting of a serving that is bound so is over: all have ended, or all were given up
+abbrev pub over_of : (have_ended : Bool) → EndedState → Result EndedState (Unit {0})
+over_of true bound = Ok bound
+over_of false bound = Err tt
 
 -- The accepting is over: so many connections at this socket have ended, unless all were given up.
 abbrev pub IsEndAt : EndedState → Result EndedState (Unit {0}) → Type 0
@@ -44,6 +49,11 @@ IsEndAt bound over = IfOk over (λ ended. ended ≡ bound)
 abbrev pub ended_in : Result EndedState (Unit {0}) → Option EndedState
 ended_in (Ok ended) = Some ended
 ended_in (Err given_up) = None
+
+-- that they have ended, where the accepting began
+abbrev pub ended_at_last : Option (Result EndedState (Unit {0})) → Option EndedState
+ended_at_last None = None
+ended_at_last (Some over) = ended_in over
 
 -- the first of two, if there is one
 abbrev pub first_told : {T : Type 0} → (before behind : Option T) → Option T

@@ -1,19 +1,14 @@
 -- How many asks were stored at a terminal's port, and for how many of them the bell was rung.
-use Rattle.std.specs.Prelude.{ℕ, Option, Some, None, length}
+use Rattle.std.specs.Prelude.{ℕ, length}
 use Rattle.lift_kiosk.specs.Desk.{DeskPortState, port_view}
 use Rattle.lift_kiosk.specs.Port.{PortView}
 
--- how many asks there were at the port when the ringing began and when the bell was rung last, and
--- how often it was rung
+-- how many asks there were at the port when its pager was told of them last and when the bell was rung
+-- last, and how often it was rung
 pub record RungState : Type 0 where
-  pub begun : ℕ
+  pub told : ℕ
   pub asks : ℕ
   pub times : ℕ
-
--- for how many the bell was rung last; those that there were at the beginning where it never was
-abbrev pub rung_last : (begun : ℕ) → (last : Option ℕ) → ℕ
-rung_last begun None = begun
-rung_last begun (Some asks) = asks
 
 -- a terminal's port that rested so often
 abbrev pub port_view_after : DeskPortState → (rests : ℕ) → PortView

@@ -1,18 +1,18 @@
 //! One connection, from its first line to its end.
 
-ghost use Rattle.std.specs.Prelude.{◌≡◌, ◌≤◌, ℕ, List, Err, IfOk, IfErr, IfSome, IfNone, length};
+ghost use Rattle.std.specs.Prelude.{◌≡◌, ◌≤◌, ℕ, List, IfOk, IfErr, IfSome, IfNone, length, false};
 ghost use Rattle.std.specs.Str.Lines.{strip_carriage_return};
 ghost use Rattle.lift_base.specs.Output.{sink_of};
 ghost use Rattle.lift_kiosk.specs.Lines.{GivesLine, Keeps65, Source, source_of};
 ghost use Rattle.lift_serve.specs.Connections.{Attends, CallsUpTo, EndsWithoutLine, IsSaid};
 ghost use Rattle.lift_serve.specs.Connections.{Names, first_reads};
 ghost use Rattle.lift_serve.specs.FirstLine.{SpeaksFor};
-ghost use Rattle.lift_serve.specs.Lobby.{AskedState, IsSamePlace};
+ghost use Rattle.lift_serve.specs.Lobby.{IsSamePlace};
 
 use crate::connections::Ticket;
 use crate::first_line::terminal_of;
 use crate::held::HeldSeat;
-use crate::lobby::{Lobby, NoSeat, SeatReturn, TakenSeat, UnknownSeat, Vacancy};
+use crate::lobby::{Lobby, NoSeat, SeatReturn, Vacancy};
 use crate::pace::AskBell;
 use lift_base::Terminal;
 use lift_base::text::{Counted, Watched};
@@ -34,9 +34,9 @@ pub enum Outcome<'d> {
     /// Its first line names no terminal of the building.
     Bad,
     /// Another session has the seat of the terminal that it names: it was taken out of the lobby.
-    Busy(TakenSeat<'d>),
+    Busy(NoSeat<'d>),
     /// The lobby's desk hasn't the terminal that it names.
-    Unseated(UnknownSeat<'d>),
+    Unseated(NoSeat<'d>),
     /// There was a session of the terminal that it names, which ended so, and whose seat is back in
     /// the lobby.
     Visited(SeatReturn<'d>, End),
@@ -90,12 +90,9 @@ fn take<'d>(
 ) -> Result<(HeldSeat<'d>, Vacancy<'d>), NoSeat<'d>>
     ensures own { IfOk result (λ taken. taken.0.seat.terminal ≡ terminal) }
     ensures vacant { IfOk result (λ taken. taken.1 ≡ taken.0) }
-    ensures out { (absent : AskedState) → result ≡ Err (NoSeat.Taken absent)
-        → absent.terminal ≡ terminal }
-    ensures unknown { (missing : AskedState) → result ≡ Err (NoSeat.Unknown missing)
-        → missing.terminal ≡ terminal }
-    ensures lacks { (missing : AskedState) → result ≡ Err (NoSeat.Unknown missing)
-        → length missing.desk ≤ missing.terminal }
+    ensures asked { IfErr result (λ no_seat. no_seat.terminal ≡ terminal) }
+    ensures unknown { IfErr result (λ no_seat. no_seat.is_out ≡ false
+        → length no_seat.desk ≤ no_seat.terminal) }
 {
     lobby.lock(rt).take(ticket, terminal)
 }
@@ -151,13 +148,13 @@ fn outcome_of<'d, R: Wait + Clock, I: Read + Drop, O: Write + Drop>(
 {
     let (held, vacancy) = match take(rt, lobby, ticket, terminal) {
         Ok(taken) => taken,
-        Err(NoSeat::Taken(absent)) => {
-            say(writer, b"BUSY\n");
-            return Outcome::Busy(absent);
-        }
-        Err(NoSeat::Unknown(missing)) => {
+        Err(no_seat) => {
+            if no_seat.is_out() {
+                say(writer, b"BUSY\n");
+                return Outcome::Busy(no_seat);
+            }
             say(writer, b"BAD\n");
-            return Outcome::Unseated(missing);
+            return Outcome::Unseated(no_seat);
         }
     };
     let (held, end) = held.visit(rt, bell, reader, writer);

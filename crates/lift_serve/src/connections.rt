@@ -3,19 +3,19 @@
 
 ghost use Rattle.std.specs.Prelude.{◌≡◌, ◌≤◌, ℕ, ◌+◌, ◌%◌, ◌^◌, ◌∷◌, ◌++◌, [], None, Some};
 ghost use Rattle.std.specs.Prelude.{IfOk, IfErr, IfSome, IfNone, IsErr, IsSome, IsTrue, OnErr, ◌↔◌};
-ghost use Rattle.std.specs.Prelude.{not, ◌==◌, filter};
-ghost use Rattle.lift_serve.specs.Open.{AreOver, IsEndAt, first_told, one_more};
+ghost use Rattle.std.specs.Prelude.{not, ◌==◌, ◌≢◌, filter, true, false};
+ghost use Rattle.lift_serve.specs.Open.{AreOver, IsEndAt, ended_in, first_told, one_more, told_behind};
 
 use crate::attending::Attendance;
-use crate::prepared::{DueReport, ServingTerms};
+use crate::over::Over;
+use crate::prepared::ServingTerms;
+use crate::prepared::shortages::{ServingEnd, Shortage, Shortages, push};
 use crate::serving::ServeFault;
 use crate::shared::Shared;
-use crate::shortages::{Abandonment, Shortage, Shortages, push};
 use crate::socket::{Arrival, Closer, ListeningCloser, Socket};
 use std::alloc::Global;
 use std::marker::Model;
 use std::net::Shutdown;
-use std::snapshot::Snapshot;
 use std::sync::Wait;
 use std::sync::atomic::{AtomicBool, Ordering};
 use std::thread::JoinHandle;
@@ -139,26 +139,6 @@ impl Model for CountedEnd {
     ghost view = { λ l. l.number };
 }
 
-/// That all connections have ended that were to end in a serving that is bound so. Only `Connections`
-/// makes one, which has counted them.
-#[derive(Drop)]
-pub struct LastEnd {
-    connections: Snapshot<Connections>,
-    bound: Snapshot<ServingTerms>,
-    ghost counted: { bound.value.sessions ≤ connections.value.ended },
-}
-
-impl Model for LastEnd {
-    ghost use Rattle.lift_serve.specs.Open.{EndedState};
-
-    ghost Value = { EndedState };
-
-    ghost view = { λ e. e.bound.value };
-}
-
-/// That no more connections are accepted: all have ended that were to end, or all were given up.
-pub(crate) type Over = Result<LastEnd, Abandonment>;
-
 /// Whether connections are still read. Only `Connections` ends that, after the last end that counts.
 #[derive(Drop)]
 pub(crate) struct Reading {
@@ -186,7 +166,7 @@ pub struct Connections {
     open: Vec<Open>,
     next: u64,
     ended: u32,
-    given_up: Option<Abandonment>,
+    given_up: bool,
     shortages: Shortages,
     listening: ListeningCloser,
 }
@@ -208,21 +188,21 @@ impl Model for Connections {
 
 impl Connections {
     /// None is open, and none has ended: those of one serving.
-    pub(crate) fn new(alloc: Global, listening: ListeningCloser, untold: DueReport) -> Self
+    pub(crate) fn new(alloc: Global, listening: ListeningCloser, shortages: Shortages) -> Self
         ensures { result ≡ record {
           numbers = [];
           next = 0;
           ended = 0;
-          given_up = None;
-          shortage = None;
+          given_up = false;
+          shortage = shortages;
         } }
     {
         Connections {
             open: Vec::new(alloc),
             next: 0,
             ended: 0,
-            given_up: None,
-            shortages: Shortages::new(untold),
+            given_up: false,
+            shortages,
             listening,
         }
     }
@@ -233,23 +213,12 @@ impl Connections {
         ensures ended { IfSome result (IsEndAt bound.now) }
     {
         if self.ended >= bound.sessions() {
-            return Some(Ok(self.all_ended(bound)));
+            return Some(Over::last(self, bound));
         }
-        match self.given_up {
-            Some(given_up) => Some(Err(given_up)),
-            None => None,
+        if self.given_up {
+            return Some(Over::given_up(self, bound));
         }
-    }
-
-    /// All have ended that were to end.
-    fn all_ended(&self, bound: &ServingTerms) -> LastEnd
-        requires { bound.now.sessions ≤ self.now.ended }
-        ensures { result ≡ bound.now }
-    {
-        LastEnd {
-            connections: Snapshot::of(self),
-            bound: Snapshot::of(bound),
-        }
+        None
     }
 
     /// Whether none is open.
@@ -375,17 +344,17 @@ impl Connections {
         }
         self.ended += 1;
         if self.ended == bound.sessions() {
-            let over = Ok(self.all_ended(bound));
-            self.turn_away(bound, &over);
+            self.turn_away(bound, &Over::last(self, bound));
         }
     }
 
     /// No more are to end: as after the last one that was to.
-    pub(crate) fn give_up(&mut self, bound: &ServingTerms, given_up: Abandonment)
-        ensures { self.new ≡ record self.old { given_up = Some given_up } }
+    pub(crate) fn give_up(&mut self, bound: &ServingTerms, over: &Over)
+        requires { IsErr over.now }
+        ensures { self.new ≡ record self.old { given_up = true } }
     {
-        self.given_up = Some(given_up);
-        self.turn_away(bound, &Err(given_up));
+        self.given_up = true;
+        self.turn_away(bound, over);
     }
 
     /// No more are accepted, and nothing more is read from those that are open: who waits for a line
@@ -408,9 +377,12 @@ impl Connections {
         self.shut(Shutdown::Both);
     }
 
-    /// The first shortage, if there was one.
-    pub(crate) fn into_shortages(self) -> Shortages
-        ensures { result ≡ self.shortage }
+    /// How the serving ended whose accepting was over so. Told is that all were given up, and else the
+    /// first shortage.
+    pub(crate) fn into_end(self, over: Over) -> ServingEnd
+        ensures fault { result.fault ≡ told_behind over self.shortage }
+        ensures begun { result.fault ≢ Some ServeFault.Network }
+        ensures ended { result.ended ≡ ended_in over }
     {
         let Connections {
             open: _,
@@ -420,6 +392,6 @@ impl Connections {
             shortages,
             listening: _,
         } = self;
-        shortages
+        shortages.behind(over)
     }
 }

@@ -7,8 +7,7 @@ ghost use Rattle.lift_kiosk.specs.Lines.{source_of};
 ghost use Rattle.lift_kiosk.specs.Session.{standing};
 ghost use Rattle.lift_serve.specs.Visits.{IsNewSeat, IsVisit, Visits};
 
-use crate::pace::AskBell;
-use crate::pager::Pager;
+use crate::pace::{AskBell, Pager};
 use crate::port::RestingPort;
 use lift_base::Terminal;
 use lift_base::text::{Counted, Watched};

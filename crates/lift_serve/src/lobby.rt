@@ -1,8 +1,8 @@
 //! Where the terminals' seats wait for their next sessions.
 
-ghost use Rattle.std.specs.Prelude.{◌≡◌, IfOk, IfErr, IfSome, IfNone, None, Some, Err, slice_get};
-ghost use Rattle.std.specs.Prelude.{slice_set};
-ghost use Rattle.lift_serve.specs.Lobby.{AskedState, IsLobbyOf, IsSamePlace, IsTakenOut, IsUnknown};
+ghost use Rattle.std.specs.Prelude.{◌≡◌, ◌≤◌, IfOk, IfErr, IfSome, IfNone, None, Some, true, false};
+ghost use Rattle.std.specs.Prelude.{length, slice_get, slice_set};
+ghost use Rattle.lift_serve.specs.Lobby.{IsLobbyOf, IsSamePlace};
 
 use crate::connections::Ticket;
 use crate::held::HeldSeat;
@@ -44,43 +44,44 @@ impl<'d> Model for Vacancy<'d> {
     ghost view = { λ v. v.held.value };
 }
 
-/// That a lobby was asked for a terminal's seat, which was taken out. Only `take` makes one.
+/// That a lobby was asked for a terminal's seat, which was taken out, or which its desk hasn't. Only
+/// `take` makes one.
 #[derive(Drop)]
-pub struct TakenSeat<'d> {
+pub struct NoSeat<'d> {
     desk: &'d Desk,
     terminal: Terminal,
+    is_out: bool,
 }
 
-impl<'d> Model for TakenSeat<'d> {
-    ghost use Rattle.lift_serve.specs.Lobby.{AskedState};
+impl<'d> Model for NoSeat<'d> {
+    ghost use Rattle.lift_serve.specs.Lobby.{NoSeatState};
 
-    ghost Value = { AskedState };
+    ghost Value = { NoSeatState };
 
-    ghost view = { λ a. record { desk = a.desk.now; terminal = a.terminal } };
+    ghost view = { λ n. record { desk = n.desk.now; terminal = n.terminal; is_out = n.is_out } };
 }
 
-/// That a lobby was asked for the seat of a terminal that its desk hasn't. Only `take` makes one.
-#[derive(Drop)]
-pub struct UnknownSeat<'d> {
-    desk: &'d Desk,
-    terminal: Terminal,
-}
+impl<'d> NoSeat<'d> {
+    fn of(desk: &'d Desk, terminal: Terminal, is_out: bool) -> Self
+        ensures { result ≡ record {
+          desk = desk.now;
+          terminal = terminal;
+          is_out = is_out;
+        } }
+    {
+        NoSeat {
+            desk,
+            terminal,
+            is_out,
+        }
+    }
 
-impl<'d> Model for UnknownSeat<'d> {
-    ghost use Rattle.lift_serve.specs.Lobby.{AskedState};
-
-    ghost Value = { AskedState };
-
-    ghost view = { λ m. record { desk = m.desk.now; terminal = m.terminal } };
-}
-
-/// Why a lobby gives no seat of a terminal.
-#[derive(Drop)]
-pub enum NoSeat<'d> {
-    /// A session has it.
-    Taken(TakenSeat<'d>),
-    /// The desk hasn't the terminal.
-    Unknown(UnknownSeat<'d>),
+    /// Whether a session has the seat; else the desk hasn't the terminal.
+    pub fn is_out(&self) -> bool
+        ensures { result ≡ self.now.is_out }
+    {
+        self.is_out
+    }
 }
 
 /// That this place of a terminal, with its seat and what is known of it, was put back into a lobby.
@@ -137,10 +138,12 @@ impl<'d> Lobby<'d> {
         ensures vacant { IfOk result (λ taken. taken.1 ≡ taken.0) }
         ensures taken { IfOk result (λ taken.
             self.new ≡ record self.old { places = slice_set self.old.places terminal None }) }
-        ensures out { (absent : AskedState) → result ≡ Err (NoSeat.Taken absent)
-            → IsTakenOut self.old terminal absent }
-        ensures unknown { (missing : AskedState) → result ≡ Err (NoSeat.Unknown missing)
-            → IsUnknown self.old terminal missing }
+        ensures asked { IfErr result (λ no_seat. (no_seat.desk ≡ self.old.desk)
+            × (no_seat.terminal ≡ terminal)) }
+        ensures out { IfErr result (λ no_seat. no_seat.is_out ≡ true
+            → slice_get self.old.places terminal ≡ Some None) }
+        ensures unknown { IfErr result (λ no_seat. no_seat.is_out ≡ false
+            → length no_seat.desk ≤ no_seat.terminal) }
         ensures unchanged { IfErr result (λ _. self.new ≡ self.old) }
     {
         let _used = ticket;
@@ -152,8 +155,8 @@ impl<'d> Lobby<'d> {
                 };
                 Ok((held, vacancy))
             }
-            Some(None) => Err(NoSeat::Taken(TakenSeat { desk, terminal })),
-            None => Err(NoSeat::Unknown(UnknownSeat { desk, terminal })),
+            Some(None) => Err(NoSeat::of(desk, terminal, true)),
+            None => Err(NoSeat::of(desk, terminal, false)),
         }
     }
 

@@ -1,11 +1,17 @@
 //! How the allocator's thread and the flusher's wait: for terminals, and for one another.
 
-ghost use Rattle.std.specs.Prelude.{◌≡◌};
+ghost use Rattle.std.specs.Prelude.{◌≡◌, ◌+◌};
+ghost use Rattle.lift_serve.specs.RingCount.{asks_at};
 
-use crate::connections::Over;
-use crate::pager::{AskNotice, Pager};
+mod pager;
+
+use crate::over::Over;
+use lift_base::ProofCount;
+use lift_kiosk::DeskPort;
 use lift_relay::Gate;
+pub use pager::Pager;
 use std::marker::Model;
+use std::snapshot::Snapshot;
 use std::sync::Wait;
 use std::sync::atomic::{AtomicBool, AtomicU64, Ordering};
 use std::thread::Parker;
@@ -30,18 +36,44 @@ pub struct AskBell {
     enough: AtomicU64,
 }
 
-/// That the bell was rung for the asks of which a pager was told. Only `ring` makes one.
+/// Of how many asks at a terminal's port its pager was told, for how many the bell was rung, and how
+/// often. Only proofs read it: each of the two takes it, and counts what it did.
 #[derive(Drop)]
-pub struct Ring<'d> {
-    told: AskNotice<'d>,
+pub struct RingCount<'d> {
+    told: Snapshot<DeskPort<'d>>,
+    rung: Snapshot<Snapshot<DeskPort<'d>>>,
+    times: ProofCount,
 }
 
-impl<'d> Model for Ring<'d> {
-    ghost use Rattle.std.specs.Prelude.{ℕ};
+impl<'d> Model for RingCount<'d> {
+    ghost use Rattle.lift_serve.specs.RingCount.{RungState, asks_at};
 
-    ghost Value = { ℕ };
+    ghost Value = { RungState };
 
-    ghost view = { λ r. r.told };
+    ghost view = { λ r. record {
+      told = asks_at r.told.value;
+      asks = asks_at r.rung.value.value;
+      times = r.times.count;
+    } };
+}
+
+impl<'d> RingCount<'d> {
+    /// All that was asked at this port was rung for, by the sessions before.
+    pub fn of(port: &DeskPort<'d>) -> Self
+        ensures { result ≡ record {
+          told = asks_at port.now;
+          asks = asks_at port.now;
+          times = 0;
+        } }
+    {
+        let told = Snapshot::of(port);
+        let rung = Snapshot::of(&told);
+        RingCount {
+            told,
+            rung,
+            times: ProofCount::new(),
+        }
+    }
 }
 
 impl AskBell {
@@ -54,15 +86,19 @@ impl AskBell {
         }
     }
 
-    /// A terminal's ask is stored, of which its pager was told before.
-    pub fn ring<'d>(&self, told: AskNotice<'d>) -> Ring<'d>
-        ensures { result ≡ told.entry }
+    /// A terminal's asks are stored, of which its pager was told before.
+    pub fn ring(&self, count: &mut RingCount<'_>)
+        ensures { count.new ≡ record count.old {
+          asks = count.old.told;
+          times = count.old.times + 1;
+        } }
     {
         let asked = self.asked.fetch_add(1, Ordering::SeqCst).saturating_add(1);
         if asked >= self.enough.load(Ordering::SeqCst) {
             self.parker.unpark();
         }
-        Ring { told }
+        count.rung = Snapshot::of(&count.told);
+        count.times = ProofCount::next(&count.times);
     }
 
     /// What was asked before is found by a scan.

@@ -5,9 +5,7 @@ ghost use Rattle.lift_kiosk.specs.Desk.{place_of};
 ghost use Rattle.lift_kiosk.specs.Port.{AsksOne};
 ghost use Rattle.lift_serve.specs.RingCount.{asks_at, port_view_after};
 
-use crate::pace::AskBell;
-use crate::pager::Pager;
-use crate::rung::RingCount;
+use crate::pace::{AskBell, Pager, RingCount};
 use lift_base::{Body, Number, Reply};
 use lift_desk::AskRefusal;
 use lift_kiosk::{DeskPort, Port, Rest, Rests};
@@ -98,7 +96,8 @@ impl<'d, 'r, R: Wait + Clock> Port for RestingPort<'d, 'r, R> {
     {
         let outcome = self.port.ask(number, body);
         if outcome.is_ok() {
-            self.rung.ring(self.bell, self.pager, &self.port);
+            self.pager.asked(&self.port, &mut self.rung);
+            self.bell.ring(&mut self.rung);
         }
         outcome
     }

@@ -1,11 +1,14 @@
 //! What a serving is bound to, which is settled before it begins.
 
-ghost use Rattle.std.specs.Prelude.{◌≡◌, []};
+ghost use Rattle.std.specs.Prelude.{◌≡◌, [], None};
+
+pub(crate) mod shortages;
 
 use crate::connections::Reading;
 use crate::socket::Listening;
 use lift_disk::Disk;
 use lift_relay::HeldKeeper;
+use shortages::Shortages;
 use std::marker::Model;
 
 /// A group that is to be served. It can't be let go or taken apart: `serve` alone takes it. So whoever
@@ -47,6 +50,7 @@ impl<'b, D: Disk + Drop, P, K: Drop> PreparedGroup<'b, D, P, K> {
           listener = self.entry.listening;
           sessions = self.entry.sessions;
         } }
+        ensures shortages { result.shortages ≡ None }
         ensures keeper { result.keeper ≡ self.entry.keeper }
         ensures settled { result.keeper.state.batch ≡ [] }
         ensures policy { result.policy ≡ self.entry.policy }
@@ -63,7 +67,7 @@ impl<'b, D: Disk + Drop, P, K: Drop> PreparedGroup<'b, D, P, K> {
                 sessions,
                 reading: Reading::new(),
             },
-            untold: DueReport { made: () },
+            shortages: Shortages::new(),
             keeper,
             policy,
         }
@@ -73,7 +77,7 @@ impl<'b, D: Disk + Drop, P, K: Drop> PreparedGroup<'b, D, P, K> {
 /// What a serving begins with.
 pub(crate) struct ServingStart<'b, D: Disk + Drop, P, K: Drop> {
     pub(crate) bound: ServingTerms,
-    pub(crate) untold: DueReport,
+    pub(crate) shortages: Shortages,
     pub(crate) keeper: HeldKeeper<'b, D, K>,
     pub(crate) policy: P,
 }
@@ -113,11 +117,4 @@ impl ServingTerms {
     pub(crate) fn reading(&self) -> &Reading {
         &self.reading
     }
-}
-
-/// That nothing is told yet of a serving's shortages. Each serving has one: who uses it up keeps
-/// the shortages, or tells why nobody is served.
-#[derive(Drop)]
-pub struct DueReport {
-    made: (),
 }

@@ -12,8 +12,8 @@ ghost use Rattle.lift_parts.specs.Parts.{AreOfOne, AreParts};
 ghost use Rattle.lift_relay.specs.Heard.{FailureHeard};
 ghost use Rattle.lift_serve.specs.Relaying.{ComeOf, HaveRunOrNot, IsLastTurn};
 
+use crate::prepared::shortages::{Shortage, part};
 use crate::serving::ServeFault;
-use crate::shortages::{Shortage, part};
 use lift_disk::Disk;
 use lift_policy::Policy;
 use lift_relay::{

@@ -8,9 +8,9 @@ ghost use Rattle.lift_serve.specs.Visits.{AreAsFound, IsNewSeat, known_of, lette
 
 use crate::held::HeldSeat;
 use crate::lobby::Lobby;
-use crate::pager::Pager;
+use crate::pace::Pager;
+use crate::prepared::shortages::{Shortage, push, room_for_pagers};
 use crate::serving::ServeFault;
-use crate::shortages::{Shortage, push, room_for_pagers};
 use arrayvec::ArrayVec;
 use lift_base::{Content, Letter, MOST_TERMINALS, Number, Terminal};
 use lift_desk::{Desk, Seat};

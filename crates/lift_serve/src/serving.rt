@@ -13,20 +13,19 @@ ghost use Rattle.lift_parts.specs.Parts.{AreParts};
 ghost use Rattle.lift_serve.specs.Lobby.{AreInOrder, found_seats};
 ghost use Rattle.lift_relay.specs.Heard.{FailureHeard};
 ghost use Rattle.lift_relay.specs.declared.pair.RunFault.{RunFault as Fault};
-ghost use Rattle.lift_serve.specs.Open.{AreEndedAt, EndedState, IsEndAt};
+ghost use Rattle.lift_serve.specs.Open.{AreEndedAt, IsEndAt};
 ghost use Rattle.lift_serve.specs.Relaying.{IsServingOutcome, HaveRunOrNot, RanInParts};
 
-use crate::connections::{Connection, Connections, CountedEnd, Over};
+use crate::connections::{Connection, Connections, CountedEnd};
 use crate::lobby::Lobby;
 use crate::opened::{OpenedDesk, open};
+use crate::over::{Over, start_accepting};
 use crate::pace::{Bells, Closing, Pace};
+use crate::prepared::shortages::{ServingEnd, start_session};
 use crate::prepared::{PreparedGroup, ServingStart};
 use crate::relaying::{Parts, run_parts, turn_rejoined, unrun};
 use crate::seating::lobby_of;
 use crate::shared::Shared;
-use crate::shortages::{
-    Abandonment, PromisedEnd, ServingEnd, start_accepting, start_session, unserved,
-};
 use crate::socket::Arrival;
 use lift_base::MOST_CARS;
 use lift_disk::Disk;
@@ -135,17 +134,6 @@ fn welcome<R: Threads + Wait + Clock + Sync>(rt: &R, alloc: Global, shared: Shar
     shared.over(rt)
 }
 
-/// How a serving is over whose accepting was over so: given up, where it was.
-fn over_behind(given_up: Option<Abandonment>, over: Over) -> Over
-    ensures given_up { IsSome given_up → IsErr result }
-    ensures ended { (bound : EndedState) → IsEndAt bound over → IsEndAt bound result }
-{
-    match given_up {
-        Some(given_up) => Err(given_up),
-        None => over,
-    }
-}
-
 /// Both parts run, the flusher on this thread, while connections are accepted on another. Where no
 /// thread could be had for the accepting, the parts are as they were; where none could be had for
 /// the allocator, all connections are given up.
@@ -184,20 +172,18 @@ where
                 result.0.flusher.writer.is_broken parts.entry.witness result.0.witness }
             ensures over { IsEndAt shared.entry.bound.now result.1 }
         {
-            let promise = PromisedEnd::new(shared.bound);
             let work = move || -> Over
                 ensures { IsEndAt shared.entry.bound.now result }
             { welcome(rt, alloc, shared) };
-            let accepting = match start_accepting(scope, &parts, promise, work) {
+            let accepting = match start_accepting(scope, &parts, shared, work) {
                 Ok(accepting) => accepting,
-                Err(given_up) => return (unrun(parts), Err(given_up)),
+                Err(over) => return (unrun(parts), over),
             };
             let ran = run_parts(rt, gate, parts);
-            let given_up = Abandonment::by(ran.fault);
-            if let Some(given_up) = given_up {
-                shared.give_up(rt, given_up);
+            if let Some(given_up) = Over::by(shared.bound, ran.fault) {
+                shared.give_up(rt, &given_up);
             }
-            let over = over_behind(given_up, accepting.join(rt));
+            let over = accepting.join(rt).behind(ran.fault);
             (ran, over)
         },
     )
@@ -241,6 +227,25 @@ where
     (clerk, over, witness)
 }
 
+/// Nobody was served, for this: the keeper and the witness are as they are.
+#[tactic(auto, using(lift_relay::specs::lemmas::Heard::heard_none))]
+fn unserved<'b, D: Disk + Drop, K: Drop, V: Witness + Drop>(
+    end: ServingEnd,
+    keeper: HeldKeeper<'b, D, K>,
+    witness: V,
+) -> ServingOutcome<'b, D, K, V>
+    ensures keeper { result.keeper ≡ keeper.entry }
+    ensures heard { FailureHeard V.hears keeper.entry.writer.is_broken
+        result.keeper.writer.is_broken witness result.witness }
+    ensures end { result.end ≡ end }
+{
+    ServingOutcome {
+        keeper,
+        end,
+        witness,
+    }
+}
+
 /// Serves the keeper's building on a listening socket until so many connections have ended, those
 /// that were refused included: each has a thread of its own, beside the allocator's and the
 /// flusher's. A fault of the device ends nothing: what is asked from then on is answered Unknown.
@@ -278,7 +283,7 @@ where
 {
     let ServingStart {
         bound,
-        untold,
+        shortages,
         keeper,
         policy,
     } = prepared.begun();
@@ -289,9 +294,10 @@ where
         clerk,
         pagers,
         closer,
-    } = match open(alloc, &bound, terminals) {
+        shortages,
+    } = match open(alloc, &bound, shortages, terminals) {
         Ok(opened) => opened,
-        Err(hindrance) => return unserved(untold, hindrance, keeper, witness),
+        Err(end) => return unserved(end, keeper, witness),
     };
     let clerk = keeper.at(&desk, clerk, policy);
     let building = clerk.keeper().building();
@@ -299,10 +305,10 @@ where
     let parts = match Parts::of(alloc, clerk, witness) {
         Ok(parts) => parts,
         Err((clerk, shortage, witness)) => {
-            return unserved(untold, shortage.hinders(), clerk.leave(), witness);
+            return unserved(shortages.unserved(shortage), clerk.leave(), witness);
         }
     };
-    let connections = Mutex::new(Connections::new(alloc, closer, untold));
+    let connections = Mutex::new(Connections::new(alloc, closer, shortages));
     let bells = Bells::new(&pagers);
     let closing = Closing::new();
     let shared = Shared {
@@ -314,6 +320,10 @@ where
         connections: &connections,
     };
     let (clerk, over, witness) = run(rt, alloc, shared, parts);
-    let shortages = connections.into_inner().into_shortages();
-    shortages.behind(over, clerk.leave(), witness)
+    let end = connections.into_inner().into_end(over);
+    ServingOutcome {
+        keeper: clerk.leave(),
+        end,
+        witness,
+    }
 }

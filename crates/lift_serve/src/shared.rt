@@ -1,14 +1,15 @@
 //! What the threads of a serving share.
 
-ghost use Rattle.std.specs.Prelude.{◌≡◌, IfOk, IfErr, IfSome};
+ghost use Rattle.std.specs.Prelude.{◌≡◌, IfOk, IfErr, IfSome, IsErr};
 ghost use Rattle.lift_serve.specs.Open.{IsEndAt};
 
 use crate::attending::Attendance;
-use crate::connections::{Connection, Connections, CountedEnd, DueEnd, Over};
+use crate::connections::{Connection, Connections, CountedEnd, DueEnd};
 use crate::lobby::Lobby;
+use crate::over::Over;
 use crate::pace::{Bells, Closing};
 use crate::prepared::ServingTerms;
-use crate::shortages::{Abandonment, Shortage};
+use crate::prepared::shortages::Shortage;
 use crate::socket::Arrival;
 use lift_building::Building;
 use std::alloc::Global;
@@ -65,8 +66,10 @@ impl<'a, 'd> Shared<'a, 'd> {
     }
 
     /// No connection is served any more.
-    pub(crate) fn give_up<R: Wait>(self, rt: &R, given_up: Abandonment) {
-        self.connections.lock(rt).give_up(self.bound, given_up);
+    pub(crate) fn give_up<R: Wait>(self, rt: &R, over: &Over)
+        requires { IsErr over.now }
+    {
+        self.connections.lock(rt).give_up(self.bound, over);
     }
 
     /// The connection of this number has ended, which was attended to.

@@ -5,11 +5,12 @@ ghost use Rattle.std.specs.Prelude.{◌≡◌, IfErr};
 ghost use Rattle.std.specs.declared.net.tcp.TcpListener.{TcpListener as Listener};
 
 use crate::attending::Attendance;
-use crate::connections::{Over, Ticket};
+use crate::connections::Ticket;
+use crate::over::Over;
 use crate::prepared::ServingTerms;
+use crate::prepared::shortages::{Shortage, read_ahead, share};
 use crate::serving::ServeFault;
 use crate::shared::Shared;
-use crate::shortages::{Shortage, read_ahead, share};
 use crate::speaking::speak;
 use lift_system::watch;
 use std::alloc::Global;

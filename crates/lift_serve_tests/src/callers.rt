@@ -1,9 +1,9 @@
 //! Connections that follow a script.
 
-use std::alloc::Global;
+use crate::words::{Words, is_set};
 use std::io::{ErrorKind, Read, Write};
 use std::net::{Ipv4Addr, Net, Shutdown, SocketAddr, SocketAddrV4, TcpListener, TcpStream};
-use std::sync::atomic::{AtomicU64, Ordering};
+use std::sync::atomic::Ordering;
 use std::thread;
 use std::time::{Clock, Duration, Instant};
 
@@ -21,19 +21,30 @@ const RETURN_MS: u64 = 1_000;
 
 const RETRY_MS: u64 = 20;
 
+/// How long a sync is held before the last connection ends, ms.
+const HELD_MS: u64 = 1_000;
+
+/// How long the end of a connection may take to be counted behind its closing, ms.
+const COUNTED_MS: u64 = 100;
+
 /// A port of this machine; 0 is one that nobody has.
 pub(crate) fn address(port: u16) -> SocketAddr {
     SocketAddr::V4(SocketAddrV4::new(Ipv4Addr::new(127, 0, 0, 1), port))
 }
 
-pub(crate) fn connected<R: Net<Listener = TcpListener, Stream = TcpStream>>(
+fn connected<R: Net<Listener = TcpListener, Stream = TcpStream>>(
     rt: &R,
     port: u16,
 ) -> Option<TcpStream> {
     let stream = TcpStream::connect(rt, address(port)).ok()?;
-    let patience = Some(Duration::from_secs(PATIENCE));
-    stream.set_read_timeout(patience).ok()?;
+    stream
+        .set_read_timeout(Some(Duration::from_secs(PATIENCE)))
+        .ok()?;
     Some(stream)
+}
+
+fn says(stream: &TcpStream, text: &str) -> bool {
+    (&mut &*stream).write_all(text.as_bytes()).is_ok()
 }
 
 /// Whether these bytes come next.
@@ -47,30 +58,22 @@ fn hears(stream: &TcpStream, wanted: &[u8]) -> bool {
     true
 }
 
-/// Whether the other end is closed, and nothing comes before.
-fn is_over(stream: &TcpStream) -> bool {
-    let mut heard = [0u8];
-    matches!((&mut &*stream).read(&mut heard), Ok(0))
-}
-
-/// Whether the other end is closed, or is reset for what it left unread, and nothing comes before.
-fn is_gone(stream: &TcpStream) -> bool {
-    let mut heard = [0u8];
-    match (&mut &*stream).read(&mut heard) {
+/// Whether the other end is closed, or is reset where it may be for what it left unread, and nothing
+/// comes before.
+fn is_gone(stream: &TcpStream, may_be_reset: bool) -> bool {
+    match (&mut &*stream).read(&mut [0u8]) {
         Ok(count) => count == 0,
-        Err(error) => error.kind() == ErrorKind::ConnectionReset,
+        Err(error) => may_be_reset && error.kind() == ErrorKind::ConnectionReset,
     }
 }
 
-fn says(stream: &TcpStream, text: &str) -> bool {
-    (&mut &*stream).write_all(text.as_bytes()).is_ok()
-}
-
-/// Waits for something to be sent to it. A connection that is let go then, with this unread, is
-/// reset.
-fn has_unread(stream: &TcpStream) -> bool {
+/// The next byte, which stays unread; 0 where none comes. A connection that is let go then is reset.
+fn next_unread(stream: &TcpStream) -> u8 {
     let mut heard = [0u8];
-    matches!(stream.peek(&mut heard), Ok(1))
+    match stream.peek(&mut heard) {
+        Ok(1) => heard[0],
+        _ => 0,
+    }
 }
 
 /// Connects and says a line, again and again for a second while it is answered `BUSY`. The
@@ -83,14 +86,13 @@ fn comes_back<R: Clock + Net<Listener = TcpListener, Stream = TcpStream>>(
     let begun = Instant::now(rt).ok()?;
     for _ in 0..RETURN_MS / RETRY_MS {
         let stream = connected(rt, port)?;
-        let mut heard = [0u8];
-        let is_answered = says(&stream, text)
-            && says(&stream, "\n")
-            && matches!(stream.peek(&mut heard), Ok(1));
-        if !is_answered || begun.elapsed(rt).ok()? > Duration::from_millis(RETURN_MS) {
+        says(&stream, text);
+        says(&stream, "\n");
+        let first = next_unread(&stream);
+        if first == 0 || begun.elapsed(rt).ok()? > Duration::from_millis(RETURN_MS) {
             return None;
         }
-        if heard[0] != b'B' {
+        if first != b'B' {
             return Some(stream);
         }
         thread::sleep(rt, Duration::from_millis(RETRY_MS));
@@ -98,106 +100,102 @@ fn comes_back<R: Clock + Net<Listener = TcpListener, Stream = TcpStream>>(
     None
 }
 
-/// Carries out one step of a connection.
-pub(crate) fn follows_step(stream: &TcpStream, step: &str) -> bool {
-    if let Some(text) = step.strip_prefix(">") {
-        says(stream, text) && says(stream, "\n")
-    } else if let Some(text) = step.strip_prefix("~") {
-        says(stream, text)
-    } else if let Some(text) = step.strip_prefix("<") {
-        hears(stream, text.as_bytes()) && hears(stream, b"\n")
-    } else if step == "." {
-        is_over(stream)
-    } else if step == "x" {
-        is_gone(stream)
-    } else {
-        step == "-" && stream.shutdown(Shutdown::Write).is_ok() && is_over(stream)
+/// What a connection does that is there.
+fn does(stream: &TcpStream, kind: u8, text: &str) -> bool {
+    match kind {
+        b'>' => says(stream, text) && says(stream, "\n"),
+        b'~' => says(stream, text),
+        b'<' => hears(stream, text.as_bytes()) && hears(stream, b"\n"),
+        b'.' => is_gone(stream, false),
+        b'x' => is_gone(stream, true),
+        b'-' => stream.shutdown(Shutdown::Write).is_ok() && is_gone(stream, false),
+        b'!' => next_unread(stream) != 0,
+        _ => false,
     }
 }
 
-/// Carries out one line of a script: a connection's digit, and its step. Whether it is as the
-/// script has it.
+/// What is done beside the connections.
+fn waits<R: Clock + Net<Listener = TcpListener, Stream = TcpStream>>(
+    rt: &R,
+    port: u16,
+    words: &Words,
+    kind: u8,
+) -> bool {
+    match kind {
+        b'=' => end_server(rt, port, words),
+        b's' => return is_set(&words.held),
+        b'r' => words.released.store(1, Ordering::SeqCst),
+        b'h' => thread::sleep(rt, Duration::from_millis(HELD_MS)),
+        _ => thread::sleep(rt, Duration::from_millis(COUNTED_MS)),
+    }
+    true
+}
+
+/// Carries out one line of a script: a connection's digit, what it does, and the rest. Whether it is
+/// as the script has it.
 fn follows_line<R: Clock + Net<Listener = TcpListener, Stream = TcpStream>>(
     rt: &R,
     port: u16,
-    ended: &AtomicU64,
-    callers: &mut Vec<Option<TcpStream>>,
-    digit: u8,
-    step: &str,
+    words: &Words,
+    callers: &mut [Option<TcpStream>; CALLERS],
+    line: &str,
 ) -> bool {
-    if step == "=" {
-        end_server(rt, port, ended);
-        return true;
-    }
-    let Some(caller) = callers.get_mut(usize::from(digit.wrapping_sub(b'0'))) else {
+    let bytes = line.as_bytes();
+    let (Some(digit), Some(kind), Some(text)) = (bytes.first(), bytes.get(1), line.get(2..)) else {
         return false;
     };
-    if step == "+" {
-        *caller = connected(rt, port);
-        return caller.is_some();
-    }
-    if let Some(text) = step.strip_prefix("*") {
-        *caller = comes_back(rt, port, text);
-        return caller.is_some();
-    }
-    if step == "!" {
-        return match caller.take() {
-            Some(stream) => has_unread(&stream),
-            None => false,
-        };
+    let caller = &mut callers[usize::from(digit.wrapping_sub(b'0')) % CALLERS];
+    match *kind {
+        b'+' => *caller = connected(rt, port),
+        b'*' => *caller = comes_back(rt, port, text),
+        b'=' | b's' | b'r' | b'h' | b'c' => return waits(rt, port, words, *kind),
+        _ => {}
     }
     match caller {
-        Some(stream) => follows_step(stream, step),
+        Some(stream) => {
+            let is_so = *kind == b'+' || *kind == b'*' || does(stream, *kind, text);
+            if *kind == b'!' {
+                *caller = None;
+            }
+            is_so
+        }
         None => false,
     }
 }
 
-fn follows_lines<R: Clock + Net<Listener = TcpListener, Stream = TcpStream>>(
-    rt: &R,
-    alloc: Global,
-    port: u16,
-    ended: &AtomicU64,
-    script: &str,
-) -> Option<()> {
-    let mut callers = Vec::with_capacity(alloc, CALLERS).ok()?;
-    for _ in 0..CALLERS {
-        callers.push(None).ok()?;
-    }
-    for line in script.lines() {
-        let digit = line.bytes().next()?;
-        let step = line.get(1..)?;
-        if !follows_line(rt, port, ended, &mut callers, digit, step) {
-            return None;
-        }
-    }
-    Some(())
-}
-
 /// Makes connections and closes them until a server has ended.
-pub(crate) fn end_server<R: Net<Listener = TcpListener, Stream = TcpStream>>(
+fn end_server<R: Net<Listener = TcpListener, Stream = TcpStream>>(
     rt: &R,
     port: u16,
-    ended: &AtomicU64,
+    words: &Words,
 ) {
     for _ in 0..LAST_ONES {
-        if ended.load(Ordering::SeqCst) == 1 {
+        if words.ended.load(Ordering::SeqCst) == 1 {
             return;
         }
         let _closed = connected(rt, port);
     }
 }
 
-/// Whether all goes as the script has it. Its lines: `1+` connection 1 is made; `1>TEXT` it says
-/// this line, `1~TEXT` these bytes; `1<TEXT` it hears just this line; `1.` it hears that the other
-/// end is closed; `1-` the same, after closing its own; `1!` it is reset; `1*TEXT` it is made and
-/// says this line, again for a second while it is `BUSY`; `1=` other connections are made and
-/// closed until the server has ended.
-pub(crate) fn follows<R: Clock + Net<Listener = TcpListener, Stream = TcpStream>>(
+/// Says that all went as the script has it; where it didn't, ends the server. Its lines: `1+`
+/// connection 1 is made; `1>TEXT` it says this line, `1~TEXT` these bytes; `1<TEXT` it hears just this
+/// line; `1.` it hears that the other end is closed, `1x` that, or that it is reset; `1-` it hears that
+/// after closing its own; `1!` it is reset; `1*TEXT` it is made and says this line, again for a second
+/// while it is `BUSY`; `1=` other connections are made and closed until the server has ended; `1s` a
+/// sync is held, `1h` a second goes by, `1c` an end is counted meanwhile, `1r` the sync is released.
+pub(crate) fn follow<R: Clock + Net<Listener = TcpListener, Stream = TcpStream>>(
     rt: &R,
-    alloc: Global,
     port: u16,
-    ended: &AtomicU64,
+    words: &Words,
     script: &str,
-) -> bool {
-    follows_lines(rt, alloc, port, ended, script).is_some()
+) {
+    let mut callers = [None, None, None, None, None, None, None, None, None, None];
+    for line in script.lines() {
+        if !follows_line(rt, port, words, &mut callers, line) {
+            words.released.store(1, Ordering::SeqCst);
+            end_server(rt, port, words);
+            return;
+        }
+    }
+    words.followed.store(1, Ordering::SeqCst);
 }

@@ -1,12 +1,12 @@
 //! The demo building, and its keeper on a device in memory.
-ghost use Rattle.std.specs.Prelude.{◌≡◌, [], IfOk};
+ghost use Rattle.std.specs.Prelude.{◌≡◌, []};
 
 use lift_building::Building;
 use lift_disk::{Disk, FuseDisk, MemDisk};
 use lift_journal::format;
 use lift_keeper::Keeper;
 use std::alloc::Global;
-use std::test::Fail;
+use std::process::Abort;
 
 /// Ten floors, kiosks on floors 0 and 5; a flight takes 2,000 ms and 1,000 ms for each floor; cars
 /// A and B, for 8 persons.
@@ -31,23 +31,33 @@ places = 8
 places = 8
 ";
 
-pub(crate) fn demo(alloc: Global) -> Result<Building, Fail> {
-    Ok(Building::read(alloc, DEMO).ok().ok_or("refused")?)
+// (a function that has a long text and calls others is dear to prove)
+fn demo_text() -> &'static str {
+    DEMO
+}
+
+pub(crate) fn demo(rt: &impl Abort, alloc: Global) -> Building {
+    Building::read(alloc, demo_text())
+        .ok()
+        .expect(rt, "refused")
 }
 
 /// A device with an empty journal for a building.
-pub(crate) fn formatted(alloc: Global, building: &Building) -> Result<FuseDisk, Fail> {
-    let mut disk = MemDisk::new(alloc, 130).ok().ok_or("memory")?;
-    format(&mut disk, building.shape(64)).ok().ok_or("a fault")?;
-    Ok(FuseDisk::new(disk))
+pub(crate) fn formatted(rt: &impl Abort, alloc: Global, building: &Building) -> FuseDisk {
+    let mut disk = MemDisk::new(alloc, 130).ok().expect(rt, "memory");
+    format(&mut disk, building.shape(64))
+        .ok()
+        .expect(rt, "a fault");
+    FuseDisk::new(disk)
 }
 
 /// The keeper that a device's journal begins with.
 pub(crate) fn opened<'b, D: Disk + Drop>(
+    rt: &impl Abort,
     disk: D,
     building: &'b Building,
-) -> Result<Keeper<'b, D>, Fail>
-    ensures { IfOk result (λ keeper. keeper.state.batch ≡ []) }
+) -> Keeper<'b, D>
+    ensures { result.state.batch ≡ [] }
 {
-    Ok(Keeper::open(disk, building).ok().ok_or("refused")?)
+    Keeper::open(disk, building).ok().expect(rt, "refused")
 }

@@ -14,3 +14,5 @@ mod loopback;
 mod rests;
 #[cfg(test)]
 mod serving;
+#[cfg(test)]
+mod words;

@@ -1,19 +1,17 @@
 //! Tests: `serve`, called over sockets.
 ghost use Rattle.std.specs.Prelude.{◌≡◌, []};
 
-use crate::callers::{address, end_server, follows};
 use crate::group::{demo, formatted, opened};
-use crate::serving::serve_beside;
+use crate::serving::served;
+use crate::words::Words;
 use lift_disk::{FuseDisk, Outcome};
 use lift_keeper::Keeper;
 use lift_policy::{Etd, FewestOpen, Shipped, ShortestWait};
-use lift_serve::Listening;
 use std::alloc::Global;
 use std::net::{Net, TcpListener, TcpStream};
 use std::process::Abort;
 use std::sync::Wait;
-use std::sync::atomic::{AtomicU64, Ordering};
-use std::test::Fail;
+use std::sync::atomic::Ordering;
 use std::thread::Threads;
 use std::time::Clock;
 
@@ -209,24 +207,8 @@ const RESET: &str = "\
 /// The connections that may end while that kiosk comes back.
 const ENOUGH: u32 = 80;
 
-/// Follows a script, and counts one where it went as it has it; else it ends the server.
-fn follow<R: Clock + Net<Listener = TcpListener, Stream = TcpStream>>(
-    rt: &R,
-    alloc: Global,
-    port: u16,
-    script: &str,
-    count: &AtomicU64,
-    ended: &AtomicU64,
-) {
-    if follows(rt, alloc, port, ended, script) {
-        count.fetch_add(1, Ordering::SeqCst);
-    } else {
-        end_server(rt, port, ended);
-    }
-}
-
-/// The keeper after the serving, where the script was followed and nothing but the device failed.
-fn served<
+/// The keeper after a serving beside a script, where nothing but the device failed.
+fn served_alone<
     'b,
     R: Threads + Wait + Clock + Abort + Net<Listener = TcpListener, Stream = TcpStream> + Sync,
 >(
@@ -236,72 +218,63 @@ fn served<
     policy: Shipped,
     sessions: u32,
     script: &str,
-) -> Result<Keeper<'b, FuseDisk>, Fail>
+) -> Keeper<'b, FuseDisk>
     requires { keeper.state.batch ≡ [] }
 {
-    let listener = TcpListener::bind(rt, address(0))?;
-    let port = listener.local_addr()?.port();
-    let (followed, end) = (AtomicU64::new(0), AtomicU64::new(0));
-    let (count, ended) = (&followed, &end);
-    let calls = move || follow(rt, alloc, port, script, count, ended);
-    let listening = Listening::at(listener);
-    match serve_beside(rt, alloc, listening, sessions, keeper, policy, ended, calls) {
-        Some(keeper) => {
-            if count.load(Ordering::SeqCst) == 1 {
-                Ok(keeper)
-            } else {
-                Err("not as the script has it".into())
-            }
-        }
-        _ => Err("a fault of serving".into()),
-    }
+    let words = Words::new();
+    let keeper = served(rt, alloc, keeper, policy, sessions, script, &words).expect(
+        rt,
+        "a fault of serving",
+    );
+    assert!(rt; words.followed.load(Ordering::SeqCst) == 1);
+    keeper
 }
 
 #[test]
-fn a_day_and_the_next(rt: HostRuntime) -> Result<(), Fail> {
-    let building = demo(rt.alloc())?;
-    let keeper = opened(formatted(rt.alloc(), &building)?, &building)?;
-    let keeper = served(&rt, rt.alloc(), keeper, Shipped::Etd(Etd), 8, A_DAY)?;
-    let keeper = opened(keeper.into_disk(), &building)?;
-    let keeper = served(&rt, rt.alloc(), keeper, Shipped::Etd(Etd), 1, THE_NEXT_DAY)?;
+fn a_day_and_the_next(rt: HostRuntime) {
+    let alloc = rt.alloc();
+    let building = demo(&rt, alloc);
+    let keeper = opened(&rt, formatted(&rt, alloc, &building), &building);
+    let keeper = served_alone(&rt, alloc, keeper, Shipped::Etd(Etd), 8, A_DAY);
+    let keeper = opened(&rt, keeper.into_disk(), &building);
+    let keeper = served_alone(&rt, alloc, keeper, Shipped::Etd(Etd), 1, THE_NEXT_DAY);
     assert!(rt; !keeper.is_broken());
-    Ok(())
 }
 
 #[test]
-fn a_kiosk_is_reset(rt: HostRuntime) -> Result<(), Fail> {
-    let building = demo(rt.alloc())?;
-    let keeper = opened(formatted(rt.alloc(), &building)?, &building)?;
-    let policy = Shipped::Etd(Etd);
-    let keeper = served(&rt, rt.alloc(), keeper, policy, ENOUGH, RESET)?;
+fn a_kiosk_is_reset(rt: HostRuntime) {
+    let alloc = rt.alloc();
+    let building = demo(&rt, alloc);
+    let keeper = opened(&rt, formatted(&rt, alloc, &building), &building);
+    let keeper = served_alone(&rt, alloc, keeper, Shipped::Etd(Etd), ENOUGH, RESET);
     assert!(rt; keeper.register().open_count() == 1);
-    Ok(())
 }
 
 #[test]
-fn other_policies(rt: HostRuntime) -> Result<(), Fail> {
-    let building = demo(rt.alloc())?;
+fn other_policies(rt: HostRuntime) {
+    let alloc = rt.alloc();
+    let building = demo(&rt, alloc);
     for (policy, script) in [
         (Shipped::FewestOpen(FewestOpen), FEWEST),
         (Shipped::ShortestWait(ShortestWait), SHORTEST),
     ] {
-        let keeper = opened(formatted(rt.alloc(), &building)?, &building)?;
-        let keeper = served(&rt, rt.alloc(), keeper, policy, 1, script)?;
+        let keeper = opened(&rt, formatted(&rt, alloc, &building), &building);
+        let keeper = served_alone(&rt, alloc, keeper, policy, 1, script);
         assert!(rt; !keeper.is_broken());
     }
-    Ok(())
 }
 
 #[test]
-fn a_device_fails(rt: HostRuntime) -> Result<(), Fail> {
-    let building = demo(rt.alloc())?;
-    let mut keeper = opened(formatted(rt.alloc(), &building)?, &building)?;
+fn a_device_fails(rt: HostRuntime) {
+    let alloc = rt.alloc();
+    let building = demo(&rt, alloc);
+    let mut keeper = opened(&rt, formatted(&rt, alloc, &building), &building);
     keeper.arm(1);
-    let keeper = served(&rt, rt.alloc(), keeper, Shipped::Etd(Etd), 2, FAILING)?;
+    let keeper = served_alone(&rt, alloc, keeper, Shipped::Etd(Etd), 2, FAILING);
     assert!(rt; keeper.is_broken());
     let disk = keeper.into_disk().into_inner().cut(Outcome::Lose);
-    let keeper = opened(FuseDisk::new(disk), &building)?;
-    let keeper = served(&rt, rt.alloc(), keeper, Shipped::Etd(Etd), 2, BEHIND)?;
-    assert!(rt; !keeper.is_broken() && keeper.register().open_count() == 1);
-    Ok(())
+    let keeper = opened(&rt, FuseDisk::new(disk), &building);
+    let keeper = served_alone(&rt, alloc, keeper, Shipped::Etd(Etd), 2, BEHIND);
+    assert!(rt; !keeper.is_broken());
+    assert!(rt; keeper.register().open_count() == 1);
 }

@@ -5,87 +5,80 @@ ghost use Rattle.lift_desk.specs.Seats.{AreSeatsOf, IsSeatOf};
 use lift_base::Terminal;
 use lift_desk::{Desk, DeskParts, Seat};
 use lift_kiosk::DeskPort;
-use lift_serve::Pager;
+use lift_serve::{Pager, RingCount};
+use std::alloc::Global;
 use std::io;
+use std::process::Abort;
 use std::sync::Wait;
-use std::test::Fail;
 use std::time::{Clock, Duration, Instant};
 
 /// How many rests are measured.
 const RESTS: u32 = 20;
 
 /// How long one rest takes.
-fn rest<R: Wait + Clock>(rt: &R, pager: &Pager) -> Result<Duration, Fail> {
-    let begun = Instant::now(rt)?;
+fn rest<R: Wait + Clock + Abort>(rt: &R, pager: &Pager) -> Duration {
+    let begun = Instant::now(rt).ok().expect(rt, "no clock");
     pager.rest(rt);
-    Ok(begun.elapsed(rt)?)
+    begun.elapsed(rt).ok().expect(rt, "no clock")
 }
 
-fn only_seat(_desk: &Desk, seats: &mut Vec<Seat>) -> Seat
-    requires at { AreSeatsOf _desk.now seats.old.items }
-    requires some { 0 < vec_len seats.old }
-    ensures seat { IsSeatOf _desk.now result }
+/// A desk of one terminal, and its seat.
+fn only_seat(rt: &impl Abort, alloc: Global) -> (Desk, Seat)
+    ensures { IsSeatOf result.0 result.1 }
 {
-    seats.pop().unwrap()
+    let DeskParts {
+        desk,
+        mut seats,
+        clerk: _,
+    } = Desk::open(alloc, 1).ok().expect(rt, "memory");
+    let seat = seats.pop().expect(rt, "no seat");
+    (desk, seat)
 }
 
 /// Has the terminal ask, and its answer stored in a batch.
 fn is_answered(pager: &Pager, port: &DeskPort<'_>) -> bool {
-    let _told = pager.asked(port);
+    pager.asked(port, &mut RingCount::of(port));
     pager.scan_begins(1) && pager.is_flushed(1)
 }
 
 /// A rest that no answer ends takes a millisecond.
 #[test]
-fn each_rest_takes_a_millisecond(rt: HostRuntime) -> Result<(), Fail> {
+fn each_rest_takes_a_millisecond(rt: HostRuntime) {
     let pager = Pager::new(Terminal::default());
     for _ in 0..RESTS {
-        assert!(rt; rest(&rt, &pager)? >= Duration::from_millis(1));
+        assert!(rt; rest(&rt, &pager) >= Duration::from_millis(1));
     }
-    Ok(())
 }
 
 /// An answer ends one rest and no more: what it woke is left behind it, and shortens none.
 #[test]
-fn an_answer_ends_one_rest(rt: HostRuntime) -> Result<(), Fail> {
-    let DeskParts {
-        desk,
-        mut seats,
-        clerk: _,
-    } = Desk::open(rt.alloc(), 1).ok().ok_or("memory")?;
-    let seat = only_seat(&desk, &mut seats);
+fn an_answer_ends_one_rest(rt: HostRuntime) {
+    let (desk, seat) = only_seat(&rt, rt.alloc());
     let port = DeskPort::new(&desk, seat);
     let pager = Pager::new(Terminal::default());
     let mut shortest = Duration::from_millis(1);
     for _ in 0..RESTS {
         assert!(rt; is_answered(&pager, &port));
-        shortest = shortest.min(rest(&rt, &pager)?);
-        assert!(rt; rest(&rt, &pager)? >= Duration::from_millis(1));
+        shortest = shortest.min(rest(&rt, &pager));
+        assert!(rt; rest(&rt, &pager) >= Duration::from_millis(1));
     }
     assert!(rt; shortest < Duration::from_millis(1));
-    Ok(())
 }
 
 /// A rest whose answer doesn't come ends by itself, and takes no longer than it should. Each may
 /// take longer where other threads run, but not all of them ten times as long.
 #[test]
-fn a_rest_waits_for_no_answer(rt: HostRuntime) -> Result<(), Fail> {
-    let DeskParts {
-        desk,
-        mut seats,
-        clerk: _,
-    } = Desk::open(rt.alloc(), 1).ok().ok_or("memory")?;
-    let seat = only_seat(&desk, &mut seats);
+fn a_rest_waits_for_no_answer(rt: HostRuntime) {
+    let (desk, seat) = only_seat(&rt, rt.alloc());
     let port = DeskPort::new(&desk, seat);
     let pager = Pager::new(Terminal::default());
-    let _told = pager.asked(&port);
+    pager.asked(&port, &mut RingCount::of(&port));
     assert!(rt; pager.scan_begins(1));
-    let mut shortest = rest(&rt, &pager)?;
+    let mut shortest = rest(&rt, &pager);
     for _ in 1..RESTS {
-        shortest = shortest.min(rest(&rt, &pager)?);
+        shortest = shortest.min(rest(&rt, &pager));
     }
     assert!(rt; shortest < Duration::from_millis(10));
-    Ok(())
 }
 
 /// A system whose clock can't be read.
@@ -112,12 +105,12 @@ impl<R: Clock> Clock for Clockless<'_, R> {
 
 /// A rest takes a millisecond where the clock can't be read, too.
 #[test]
-fn a_rest_without_a_clock(rt: HostRuntime) -> Result<(), Fail> {
+fn a_rest_without_a_clock(rt: HostRuntime) {
     let pager = Pager::new(Terminal::default());
-    let begun = Instant::now(&rt)?;
+    let begun = Instant::now(&rt).ok().expect(&rt, "no clock");
     for _ in 0..RESTS {
         pager.rest(&Clockless { rt: &rt });
     }
-    assert!(rt; begun.elapsed(&rt)? >= Duration::from_millis(u64::from(RESTS)));
-    Ok(())
+    let whole = begun.elapsed(&rt).ok().expect(&rt, "no clock");
+    assert!(rt; whole >= Duration::from_millis(u64::from(RESTS)));
 }

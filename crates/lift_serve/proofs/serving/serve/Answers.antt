@@ -32,23 +32,23 @@ returns-clause-comes g c =
         unused = subst (λ (s : ClerkState g.row.D.Denot g.row.P.Denot). s.seat ≡ clerk_of s.desk) (sym at) c.in-Ok.ensures.clerk;
         policy_is = ap (λ (s : ClerkState g.row.D.Denot g.row.P.Denot). s.policy) at ∙ c.begun-bound.ensures.policy;
         relayed = c.run-clerk.ensures.ran.1;
-        ends = sym (c.behind.ensures.keeper ∙ c.leave-2.ensures.keeper);
+        ends = sym c.leave-2.ensures.keeper;
       };
       seats = subst (λ (s : ClerkState g.row.D.Denot g.row.P.Denot). length s.desk ≡ 16 + length c.args.prepared.keeper.writer.plan.kiosks) (sym at) count;
-      tells = λ spawn. tells_spawn c.run-clerk.result.1 _ _ c.behind.ensures.fault (c.run-clerk.ensures.ran.2 spawn);
-      begun = c.behind.ensures.begun;
+      tells = λ spawn. tells_spawn c.run-clerk.result.1 _ _ c.into_end-end.ensures.fault (c.run-clerk.ensures.ran.2 spawn);
+      begun = c.into_end-end.ensures.begun;
     })
 
 pub returns-clause-ended : goal.returns-clause-ended
-returns-clause-ended g c = ended_so c.run-clerk.result.1 _ _ c.args.prepared.listening c.args.prepared.sessions c.begun-bound.ensures.bound c.run-clerk.ensures.over c.behind.ensures.ended
+returns-clause-ended g c = ended_so c.run-clerk.result.1 _ _ c.args.prepared.listening c.args.prepared.sessions c.begun-bound.ensures.bound c.run-clerk.ensures.over c.into_end-end.ensures.ended
 
 pub returns-clause-counted : goal.returns-clause-counted
-returns-clause-counted g c = all_ended c.run-clerk.result.1 _ _ _ c.behind.ensures.fault c.behind.ensures.ended
+returns-clause-counted g c = all_ended c.run-clerk.result.1 _ _ _ c.into_end-end.ensures.fault c.into_end-end.ensures.ended
 
 pub returns-clause-heard : goal.returns-clause-heard
 returns-clause-heard g c =
     let begins = ap (λ (s : ClerkState g.row.D.Denot g.row.P.Denot). s.keeper) (c.in-Ok-of.ensures.clerk ∙ c.at-clerk.ensures) ∙ c.begun-bound.ensures.keeper in
     let heard = subst (λ (p : KeeperView g.row.D.Denot × g.row.V.Denot). FailureHeard g.V.Witness.hears p.0.writer.is_broken c.run-clerk.result.0.keeper.writer.is_broken p.1 c.run-clerk.result.2)
     (λ i. (begins i, c.in-Ok-of.ensures.witness i)) c.run-clerk.ensures.heard in
-    subst (λ (p : KeeperView g.row.D.Denot × g.row.V.Denot). FailureHeard g.V.Witness.hears c.args.prepared.keeper.writer.is_broken p.0.writer.is_broken c.args.witness p.1)
-    (λ i. (sym (c.behind.ensures.keeper ∙ c.leave-2.ensures.keeper) i, sym c.behind.ensures.witness i)) heard
+    subst (λ (k : KeeperView g.row.D.Denot). FailureHeard g.V.Witness.hears c.args.prepared.keeper.writer.is_broken k.writer.is_broken c.args.witness c.run-clerk.result.2)
+    (sym c.leave-2.ensures.keeper) heard

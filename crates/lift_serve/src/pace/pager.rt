@@ -3,6 +3,7 @@
 ghost use Rattle.std.specs.Prelude.{◌≡◌};
 ghost use Rattle.lift_serve.specs.RingCount.{asks_at};
 
+use super::RingCount;
 use lift_base::Terminal;
 use lift_kiosk::DeskPort;
 use std::marker::Model;
@@ -47,22 +48,6 @@ impl Model for Pager {
     ghost view = { λ p. p.terminal };
 }
 
-/// That a pager was told of the asks that are stored at a terminal's port, which only proofs read.
-/// Only `asked` makes one.
-#[derive(Drop)]
-pub struct AskNotice<'d> {
-    port: Snapshot<DeskPort<'d>>,
-}
-
-impl<'d> Model for AskNotice<'d> {
-    ghost use Rattle.std.specs.Prelude.{ℕ};
-    ghost use Rattle.lift_serve.specs.RingCount.{asks_at};
-
-    ghost Value = { ℕ };
-
-    ghost view = { λ t. asks_at t.port.value };
-}
-
 impl Pager {
     /// Of this terminal, which awaits nothing.
     pub fn new(terminal: Terminal) -> Pager
@@ -76,13 +61,11 @@ impl Pager {
     }
 
     /// The terminal's last ask is stored at this port.
-    pub fn asked<'d>(&self, port: &DeskPort<'d>) -> AskNotice<'d>
-        ensures { result ≡ asks_at port.now }
+    pub fn asked<'d>(&self, port: &DeskPort<'d>, count: &mut RingCount<'d>)
+        ensures { count.new ≡ record count.old { told = asks_at port.now } }
     {
         self.stage.store(ASKED, Ordering::SeqCst);
-        AskNotice {
-            port: Snapshot::of(port),
-        }
+        count.told = Snapshot::of(port);
     }
 
     /// The answer was heard.
