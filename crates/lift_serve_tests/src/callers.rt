@@ -86,10 +86,9 @@ fn comes_back<R: Clock + Net<Listener = TcpListener, Stream = TcpStream>>(
     let begun = Instant::now(rt).ok()?;
     for _ in 0..RETURN_MS / RETRY_MS {
         let stream = connected(rt, port)?;
-        says(&stream, text);
-        says(&stream, "\n");
+        let is_said = says(&stream, text) && says(&stream, "\n");
         let first = next_unread(&stream);
-        if first == 0 || begun.elapsed(rt).ok()? > Duration::from_millis(RETURN_MS) {
+        if !is_said || first == 0 || begun.elapsed(rt).ok()? > Duration::from_millis(RETURN_MS) {
             return None;
         }
         if first != b'B' {
