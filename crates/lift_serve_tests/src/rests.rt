@@ -6,7 +6,6 @@ use lift_base::Terminal;
 use lift_desk::{Desk, DeskParts, Seat};
 use lift_kiosk::DeskPort;
 use lift_serve::{Pager, RingCount};
-use std::alloc::Global;
 use std::io;
 use std::process::Abort;
 use std::sync::Wait;
@@ -22,17 +21,12 @@ fn rest<R: Wait + Clock + Abort>(rt: &R, pager: &Pager) -> Duration {
     begun.elapsed(rt).ok().expect(rt, "no clock")
 }
 
-/// A desk of one terminal, and its seat.
-fn only_seat(rt: &impl Abort, alloc: Global) -> (Desk, Seat)
-    ensures { IsSeatOf result.0 result.1 }
+fn only_seat(_desk: &Desk, seats: &mut Vec<Seat>) -> Seat
+    requires at { AreSeatsOf _desk.now seats.old.items }
+    requires some { 0 < vec_len seats.old }
+    ensures seat { IsSeatOf _desk.now result }
 {
-    let DeskParts {
-        desk,
-        mut seats,
-        clerk: _,
-    } = Desk::open(alloc, 1).ok().expect(rt, "memory");
-    let seat = seats.pop().expect(rt, "no seat");
-    (desk, seat)
+    seats.pop().unwrap()
 }
 
 /// Has the terminal ask, and its answer stored in a batch.
@@ -53,7 +47,12 @@ fn each_rest_takes_a_millisecond(rt: HostRuntime) {
 /// An answer ends one rest and no more: what it woke is left behind it, and shortens none.
 #[test]
 fn an_answer_ends_one_rest(rt: HostRuntime) {
-    let (desk, seat) = only_seat(&rt, rt.alloc());
+    let DeskParts {
+        desk,
+        mut seats,
+        clerk: _,
+    } = Desk::open(rt.alloc(), 1).ok().expect(&rt, "memory");
+    let seat = only_seat(&desk, &mut seats);
     let port = DeskPort::new(&desk, seat);
     let pager = Pager::new(Terminal::default());
     let mut shortest = Duration::from_millis(1);
@@ -69,7 +68,12 @@ fn an_answer_ends_one_rest(rt: HostRuntime) {
 /// take longer where other threads run, but not all of them ten times as long.
 #[test]
 fn a_rest_waits_for_no_answer(rt: HostRuntime) {
-    let (desk, seat) = only_seat(&rt, rt.alloc());
+    let DeskParts {
+        desk,
+        mut seats,
+        clerk: _,
+    } = Desk::open(rt.alloc(), 1).ok().expect(&rt, "memory");
+    let seat = only_seat(&desk, &mut seats);
     let port = DeskPort::new(&desk, seat);
     let pager = Pager::new(Terminal::default());
     pager.asked(&port, &mut RingCount::of(&port));
