@@ -5,12 +5,10 @@
 ghost use Rattle.std.specs.Prelude.{◌≡◌, [], IfOk};
 
 mod group;
-mod shows;
 mod station;
 mod trouble;
 
 use crate::group::Relay;
-use crate::shows::show;
 use crate::station::Station;
 use crate::trouble::Trouble;
 use lift_base::text::Counted;
@@ -22,13 +20,24 @@ use lift_keeper::Keeper;
 use lift_policy::Etd;
 use lift_replay::report::{push_bad, push_building_fault, push_cut};
 use lift_replay::{
-    Lines, MOST_BYTES, MOST_CALLS, ScriptLine, Terminals, first_keeper, read_all, split_script,
+    Lines, MOST_BYTES, MOST_CALLS, Query, ScriptLine, Terminals, first_keeper, read_all,
+    split_script,
 };
 use std::alloc::Global;
 use std::process::ExitCode;
 use std::sync::Wait;
 
-/// Carries out a line that shows or arms: it works on the whole clerk.
+/// What a line shows of the clerk's keeper.
+fn show(report: &mut String, keeper: &Keeper<'_, FuseDisk>, query: &Query) -> Result<(), Trouble> {
+    let building = keeper.building();
+    if !query.is_known(building) {
+        return Err(Trouble::Lacking);
+    }
+    query.push_shown(report, building, keeper)?;
+    Ok(())
+}
+
+/// Carries out a line that shows or arms: it works on the whole clerk. Of the others none comes here.
 fn on_clerk<'d, 'b>(
     alloc: Global,
     report: &mut String,
@@ -38,7 +47,8 @@ fn on_clerk<'d, 'b>(
     let mut clerk = relay.rejoined()?;
     match *line {
         ScriptLine::Fuse { calls } => clerk.arm(calls),
-        _ => show(report, clerk.keeper(), line)?,
+        ScriptLine::Show(query) => show(report, clerk.keeper(), &query)?,
+        _ => {}
     }
     Relay::of(alloc, clerk)
 }

@@ -11,7 +11,8 @@ use Rattle.lift_base.specs.declared.travel.Dir.{Dir}
 use Rattle.lift_base.specs.declared.travel.Dir.TheVariants.{Up, Down}
 use Rattle.lift_base.specs.declared.travel.Stop.{Stop as StopAt}
 use Rattle.lift_replay.specs.Grammar.{Spells}
-use Rattle.lift_replay.specs.declared.line.ScriptLine.TheVariants.{Call, Stop, Cost}
+use Rattle.lift_replay.specs.declared.line.ScriptLine.TheVariants.{Call, Stop, Show}
+use Rattle.lift_replay.specs.declared.query.Query.TheVariants.{Cost}
 
 -- a digit more is printed after the others
 pub longer : (n d : ℕ) → 0 < n → n ≤ 100000000 → d < 10 → decimal (10 * n + d) ≡ decimal n ++ (48 + d) ∷ []
@@ -108,7 +109,7 @@ call_line line r s t kiosk number first floor party of_line of_r of_s of_t is_nu
 
 pub cost_line : (line r s : List ℕ) (kiosk floor party : ℕ)
     → line ≡ codes "cost " ++ r → r ≡ decimal kiosk ++ (32 ∷ s) → s ≡ decimal floor → party ≡ 1
-    → kiosk < 47 → floor < 64 → Spells line (Cost kiosk floor party)
+    → kiosk < 47 → floor < 64 → Spells line (Show (Cost kiosk floor party))
 cost_line line r s kiosk floor party of_line of_r of_s one few within = (
   codes "cost" ∷ decimal kiosk ∷ decimal floor ∷ [],
   record {

@@ -1,12 +1,12 @@
 -- What a line makes of a script's group.
 use Rattle.std.proofs.Common.{◌≡◌, ◌≢◌, ◌↔◌, ℕ, suc, ◌+◌, ◌<◌, ◌==◌, true, false, cond, List, [], ◌∷◌, ◌++◌, length, Option, Some, None, refl, sym, ap, ◌∙◌, subst, inl, inr, arith, get_or-set_other, slice_set, length-append}
-use Rattle.std.specs.Prelude.{codes}
+use Rattle.std.specs.Option.{is_some}
 use Rattle.std.proofs.lemmas.List.{length-set, append_assoc, append-nil}
 use Rattle.std.proofs.lemmas.Grind.{get_or-set_at}
 use Rattle.std.proofs.lemmas.Bool.{cases_eq, eq-eqb, ne_eqb}
 use Rattle.lift_base.specs.declared.command.Body.{Body}
 use Rattle.lift_base.specs.declared.command.Body.TheVariants.{Call as Calls, Stop as Stopping, Place as Placing}
-use Rattle.lift_building.specs.Plan.{Plan, kiosk_floor_of}
+use Rattle.lift_building.specs.Plan.{Plan}
 use Rattle.lift_desk.specs.declared.words.Ask.{Ask}
 use Rattle.lift_desk.specs.Words.{ask_word}
 use Rattle.lift_desk.specs.Steps.{with_told_asks}
@@ -15,22 +15,22 @@ use Rattle.lift_disk.specs.Faults.{FusedDisk}
 use Rattle.lift_policy.specs.Choices.{IsEtdChoice}
 use Rattle.lift_policy.specs.Decision.{etd_pick}
 use Rattle.lift_policy.specs.Laws.{StepsAreDecisions}
-use Rattle.lift_policy.specs.Step.{State, view_of}
+use Rattle.lift_policy.specs.Step.{view_of}
 use Rattle.lift_keeper.specs.Keeper.{KeeperView}
 use Rattle.lift_replay.specs.declared.line.ScriptLine.{ScriptLine}
-use Rattle.lift_replay.specs.declared.line.ScriptLine.TheVariants.{Place, Call, Stop, Turn, Stops, Cost, Rows, Fuse, Cut}
+use Rattle.lift_replay.specs.declared.line.ScriptLine.TheVariants.{Place, Call, Stop, Turn, Show, Fuse, Cut}
 use Rattle.lift_register.specs.Balanced.{open_count}
 use Rattle.lift_replay.specs.declared.lines.End.{End}
 use Rattle.lift_replay.specs.declared.lines.End.TheVariants.{Run as Over, Cut as Power}
 use Rattle.lift_replay.specs.declared.lines.Verdict.{Verdict}
 use Rattle.lift_replay.specs.declared.lines.Verdict.TheVariants.{Bad}
 use Rattle.lift_replay.specs.Running.{TellsLines, Continues, LinesEnd}
-use Rattle.lift_replay.specs.Grammar.{IsLineInRange, IsSkipped, Spells}
-use Rattle.lift_replay.specs.Known.{IsKnown}
-use Rattle.lift_replay.specs.Group.{Asking, ScriptGroup, Stopped, asking_at, asking_more, after_ask, after_asking, asked_text, ask_text, unasked, unless_stopped, line_text, left_by, state_to_decide_on}
+use Rattle.lift_replay.specs.Grammar.{IsKnown, IsLineInRange, IsSkipped, Spells}
+use Rattle.lift_replay.specs.Group.{Asking, ScriptGroup, Stopped, asking_at, asking_more, after_ask, after_asking, asked_text, ask_text, unasked, policy_view, line_text, left_by}
 use Rattle.lift_replay.specs.Group.{after as after_line}
-use Rattle.lift_replay.specs.Report.{spent_text, register_text, bad_text, cut_text}
-use Rattle.lift_replay.specs.Shown.{stops_text, costs_text, unless_broken}
+use Rattle.lift_replay.specs.Report.{spent_text, bad_text, cut_text}
+use Rattle.lift_replay.specs.Query.{shown_text}
+use Rattle.lift_replay.specs.declared.query.Query.{Query}
 use Rattle.lift_replay.specs.Terminals.{no_seat, seat_at, told_seat, having_asked}
 use Rattle.lift_replay.specs.Told.{ScriptClerk, Asks, HasAsked, IsArmed, KeepsKeeper, ScriptRests, Tells, LineTells, device_of, end_of}
 use Rattle.lift_replay.specs.Shows.{WaitsFor, IsInStep, AreInStep, IsFound, Stands, IsKeeperOf, Shows}
@@ -133,10 +133,10 @@ module _ (terminals : List Asking) (seats after : List TerminalSeat) (places kno
   asks_shows text told = asks text a.waiting refl told
 
 -- what is shown while nothing is stopped
-shown_is : (plan : Plan) (g : ScriptGroup) (keeper : KeeperView FusedDisk) (line : List ℕ) (f : State → List ℕ) (s : Option Stopped) → Stands s plan g keeper
-    → unless_broken keeper.writer.is_broken line (f keeper.state) ≡ unless_stopped s line (f (state_to_decide_on g))
-shown_is plan g keeper line f None stands = ap (λ b. unless_broken b line (f keeper.state)) stands.0 ∙ ap f stands.1
-shown_is plan g keeper line f (Some s) stands = ap (λ b. unless_broken b line (f keeper.state)) stands.0
+shown_is : (plan : Plan) (g : ScriptGroup) (keeper : KeeperView FusedDisk) (query : Query) (s : Option Stopped) → Stands s plan g keeper
+    → shown_text keeper.writer.is_broken plan (view_of keeper.state) query ≡ shown_text (is_some s) plan (policy_view g) query
+shown_is plan g keeper query None stands = ap (λ b. shown_text b plan (view_of keeper.state) query) stands.0 ∙ ap (λ t. shown_text false plan (view_of t) query) stands.1
+shown_is plan g keeper query (Some s) stands = ap (λ b. shown_text b plan (view_of keeper.state) query) stands.0
 
 -- a fuse
 arms : (plan : Plan) (g : ScriptGroup) (calls : ℕ) (old new : ScriptClerk) (s : Option Stopped) → IsArmed calls old new → Stands s plan g old.keeper → g.stopped ≡ s → Stands s plan (record g { passing = Some calls }) new.keeper
@@ -164,9 +164,7 @@ module _ (computed : StepsAreDecisions IsEtdChoice etd_pick) (plan : Plan) (g : 
   Carried (Call kiosk number floor party) told = (told ≡ line_text plan g (Call kiosk number floor party)) × Shows plan (after_line plan g (Call kiosk number floor party)) new after
   Carried (Stop car number stop) told = (told ≡ line_text plan g (Stop car number stop)) × Shows plan (after_line plan g (Stop car number stop)) new after
   Carried Turn told = (told ≡ line_text plan g Turn) × Shows plan (after_line plan g Turn) new after
-  Carried (Stops car) told = (told ≡ line_text plan g (Stops car)) × Shows plan g new after
-  Carried (Cost kiosk floor party) told = (told ≡ line_text plan g (Cost kiosk floor party)) × Shows plan g new after
-  Carried Rows told = (told ≡ line_text plan g Rows) × Shows plan g new after
+  Carried (Show query) told = (told ≡ line_text plan g (Show query)) × Shows plan g new after
   Carried (Fuse calls) told = (told ≡ []) × Shows plan (after_line plan g (Fuse calls)) new after
   Carried (Cut outcome) told = (told ≡ []) × Shows plan g new after
 
@@ -193,11 +191,7 @@ module _ (computed : StepsAreDecisions IsEtdChoice etd_pick) (plan : Plan) (g : 
   tells_shows (Call kiosk number floor party) told range known tells = asks_so (16 + kiosk) number (Calls floor party) told (omega (arith, known)) tells.0 tells.1
   tells_shows (Stop car number stop) told range known tells = asks_so car number (Stopping stop.floor stop.dir) told (let below = range.0 in omega (arith, below)) tells.0 tells.1
   tells_shows Turn told range known tells = turn_shows computed plan g old new seats after told shows tells long
-  tells_shows (Stops car) told range known tells =
-      (tells.0 ∙ shown_is plan g old.keeper (codes "stops") (λ s. stops_text (view_of s) car) g.stopped shows.keeper.stands, rests tells.1)
-  tells_shows (Cost kiosk floor party) told range known tells =
-      (tells.0 ∙ shown_is plan g old.keeper (codes "cost") (λ s. costs_text plan (view_of s) (record { from = kiosk_floor_of plan kiosk; to = floor; party = party })) g.stopped shows.keeper.stands, rests tells.1)
-  tells_shows Rows told range known tells = (tells.0 ∙ shown_is plan g old.keeper (codes "rows") (λ s. register_text s.register) g.stopped shows.keeper.stands, rests tells.1)
+  tells_shows (Show query) told range known tells = (tells.0 ∙ shown_is plan g old.keeper query g.stopped shows.keeper.stands, rests tells.1)
   tells_shows (Fuse calls) told range known tells =
       let armed = tells.1 in
       let kept : IsKeeperOf plan (record g { passing = Some calls }) new.keeper = record {
@@ -250,9 +244,7 @@ module _ (computed : StepsAreDecisions IsEtdChoice etd_pick) (plan : Plan) (g : 
       by_line (Call kiosk n floor party) sp kn te en = let c = tells_shows computed plan g old new seats after shows count long (Call kiosk n floor party) told sp.3 kn te in (after_line plan g (Call kiosk n floor party), c.1, carries (Call kiosk n floor party) told sp kn other c.0)
       by_line (Stop car n stop) sp kn te en = let c = tells_shows computed plan g old new seats after shows count long (Stop car n stop) told sp.3 kn te in (after_line plan g (Stop car n stop), c.1, carries (Stop car n stop) told sp kn other c.0)
       by_line Turn sp kn te en = let c = tells_shows computed plan g old new seats after shows count long Turn told sp.3 kn te in (after_line plan g Turn, c.1, carries Turn told sp kn other c.0)
-      by_line (Stops car) sp kn te en = let c = tells_shows computed plan g old new seats after shows count long (Stops car) told sp.3 kn te in (g, c.1, carries (Stops car) told sp kn other c.0)
-      by_line (Cost kiosk floor party) sp kn te en = let c = tells_shows computed plan g old new seats after shows count long (Cost kiosk floor party) told sp.3 kn te in (g, c.1, carries (Cost kiosk floor party) told sp kn other c.0)
-      by_line Rows sp kn te en = let c = tells_shows computed plan g old new seats after shows count long Rows told sp.3 kn te in (g, c.1, carries Rows told sp kn other c.0)
+      by_line (Show query) sp kn te en = let c = tells_shows computed plan g old new seats after shows count long (Show query) told sp.3 kn te in (g, c.1, carries (Show query) told sp kn other c.0)
       by_line (Fuse calls) sp kn te en = let c = tells_shows computed plan g old new seats after shows count long (Fuse calls) told sp.3 kn te in (after_line plan g (Fuse calls), c.1, carries (Fuse calls) told sp kn other c.0)
 
   -- a line that ends the lines at this desk
@@ -278,7 +270,5 @@ module _ (computed : StepsAreDecisions IsEtdChoice etd_pick) (plan : Plan) (g : 
       by_line (Call kiosk n floor party) sp kn te en = absurd (cc)
       by_line (Stop car n stop) sp kn te en = absurd (cc)
       by_line Turn sp kn te en = absurd (cc)
-      by_line (Stops car) sp kn te en = absurd (cc)
-      by_line (Cost kiosk floor party) sp kn te en = absurd (cc)
-      by_line Rows sp kn te en = absurd (cc)
+      by_line (Show query) sp kn te en = absurd (cc)
       by_line (Fuse calls) sp kn te en = absurd (cc)

@@ -10,11 +10,11 @@ use Rattle.lift_building.specs.Plan.{Plan}
 use Rattle.lift_disk.specs.declared.outcome.Outcome.{Outcome}
 use Rattle.lift_disk.specs.declared.outcome.Outcome.TheVariants.{Keep, Lose, Fill}
 use Rattle.lift_replay.specs.declared.line.ScriptLine.{ScriptLine}
-use Rattle.lift_replay.specs.declared.line.ScriptLine.TheVariants.{Place, Call, Stop, Turn, Stops, Cost, Rows, Fuse, Cut}
+use Rattle.lift_replay.specs.declared.line.ScriptLine.TheVariants.{Place, Call, Stop, Turn, Show, Fuse, Cut}
+use Rattle.lift_replay.specs.declared.query.Query.TheVariants.{Stops, Cost, Rows}
 use Rattle.lift_replay.specs.declared.lines.Verdict.{Verdict}
-use Rattle.lift_replay.specs.Grammar.{AskFor, IsLineInRange, IsOutcomeInRange, outcome_words, Spells}
+use Rattle.lift_replay.specs.Grammar.{AskFor, IsKnown, IsLineInRange, IsOutcomeInRange, outcome_words, Spells}
 use Rattle.lift_replay.specs.Group.{ScriptGroup, line_text, after}
-use Rattle.lift_replay.specs.Known.{IsKnown}
 use Rattle.lift_replay.specs.Running.{TellsLines}
 use Rattle.lift_replay.specs.Script.{IsBadLine}
 
@@ -63,9 +63,9 @@ asks_one words (Place car position) (Place car2 position2) r s p q =
 asks_one words (Place car position) (Call kiosk2 number2 floor2 party2) r s p q = absurd (let e : ◌≡◌ {A = ℕ} 112 99 = ap (byte_at 0) (sym p ∙ q.2) in omega (arith, e))
 asks_one words (Place car position) (Stop car2 number2 stop2) r s p q = absurd (let e : ◌≡◌ {A = ℕ} 112 115 = ap (byte_at 0) (sym p ∙ q) in omega (arith, e))
 asks_one words (Place car position) Turn r s p q = absurd (let e : ◌≡◌ {A = ℕ} 112 116 = ap (byte_at 0) (sym p ∙ q) in omega (arith, e))
-asks_one words (Place car position) (Stops car2) r s p q = absurd (let e : ◌≡◌ {A = ℕ} 112 115 = ap (byte_at 0) (sym p ∙ q) in omega (arith, e))
-asks_one words (Place car position) (Cost kiosk2 floor2 party2) r s p q = absurd (let e : ◌≡◌ {A = ℕ} 112 99 = ap (byte_at 0) (sym p ∙ q.2) in omega (arith, e))
-asks_one words (Place car position) Rows r s p q = absurd (let e : ◌≡◌ {A = ℕ} 112 114 = ap (byte_at 0) (sym p ∙ q) in omega (arith, e))
+asks_one words (Place car position) (Show (Stops car2)) r s p q = absurd (let e : ◌≡◌ {A = ℕ} 112 115 = ap (byte_at 0) (sym p ∙ q) in omega (arith, e))
+asks_one words (Place car position) (Show (Cost kiosk2 floor2 party2)) r s p q = absurd (let e : ◌≡◌ {A = ℕ} 112 99 = ap (byte_at 0) (sym p ∙ q.2) in omega (arith, e))
+asks_one words (Place car position) (Show Rows) r s p q = absurd (let e : ◌≡◌ {A = ℕ} 112 114 = ap (byte_at 0) (sym p ∙ q) in omega (arith, e))
 asks_one words (Place car position) (Fuse calls2) r s p q = absurd (let e : ◌≡◌ {A = ℕ} 112 102 = ap (byte_at 0) (sym p ∙ q) in omega (arith, e))
 asks_one words (Place car position) (Cut outcome2) r s p q = absurd (let e : ◌≡◌ {A = ℕ} 112 99 = ap (byte_at 0) (sym p ∙ q) in omega (arith, e))
 asks_one words (Call kiosk number floor party) (Place car2 position2) r s p q = absurd (let e : ◌≡◌ {A = ℕ} 99 112 = ap (byte_at 0) (sym p.2 ∙ q) in omega (arith, e))
@@ -77,9 +77,9 @@ asks_one words (Call kiosk number floor party) (Call kiosk2 number2 floor2 party
     ∙ ap (λ x. Call kiosk2 number2 floor2 x) (party_one p.0 q.0 party party2 (ap (drop 4) e) r.4 s.4 p.1 q.1)
 asks_one words (Call kiosk number floor party) (Stop car2 number2 stop2) r s p q = absurd (let e : ◌≡◌ {A = ℕ} 99 115 = ap (byte_at 0) (sym p.2 ∙ q) in omega (arith, e))
 asks_one words (Call kiosk number floor party) Turn r s p q = absurd (let e : ◌≡◌ {A = ℕ} 99 116 = ap (byte_at 0) (sym p.2 ∙ q) in omega (arith, e))
-asks_one words (Call kiosk number floor party) (Stops car2) r s p q = absurd (let e : ◌≡◌ {A = ℕ} 99 115 = ap (byte_at 0) (sym p.2 ∙ q) in omega (arith, e))
-asks_one words (Call kiosk number floor party) (Cost kiosk2 floor2 party2) r s p q = absurd (let e : ◌≡◌ {A = ℕ} 97 111 = ap (byte_at 1) (sym p.2 ∙ q.2) in omega (arith, e))
-asks_one words (Call kiosk number floor party) Rows r s p q = absurd (let e : ◌≡◌ {A = ℕ} 99 114 = ap (byte_at 0) (sym p.2 ∙ q) in omega (arith, e))
+asks_one words (Call kiosk number floor party) (Show (Stops car2)) r s p q = absurd (let e : ◌≡◌ {A = ℕ} 99 115 = ap (byte_at 0) (sym p.2 ∙ q) in omega (arith, e))
+asks_one words (Call kiosk number floor party) (Show (Cost kiosk2 floor2 party2)) r s p q = absurd (let e : ◌≡◌ {A = ℕ} 97 111 = ap (byte_at 1) (sym p.2 ∙ q.2) in omega (arith, e))
+asks_one words (Call kiosk number floor party) (Show Rows) r s p q = absurd (let e : ◌≡◌ {A = ℕ} 99 114 = ap (byte_at 0) (sym p.2 ∙ q) in omega (arith, e))
 asks_one words (Call kiosk number floor party) (Fuse calls2) r s p q = absurd (let e : ◌≡◌ {A = ℕ} 99 102 = ap (byte_at 0) (sym p.2 ∙ q) in omega (arith, e))
 asks_one words (Call kiosk number floor party) (Cut outcome2) r s p q = absurd (let e : ◌≡◌ {A = ℕ} 97 117 = ap (byte_at 1) (sym p.2 ∙ q) in omega (arith, e))
 asks_one words (Stop car number stop) (Place car2 position2) r s p q = absurd (let e : ◌≡◌ {A = ℕ} 115 112 = ap (byte_at 0) (sym p ∙ q) in omega (arith, e))
@@ -91,60 +91,60 @@ asks_one words (Stop car number stop) (Stop car2 number2 stop2) r s p q =
     ∙ ap (λ x. Stop car2 number2 (record { floor = x; dir = stop.dir })) (decimal_one stop.floor stop2.floor (let b = r.2 in omega (arith, b)) (let b = s.2 in omega (arith, b)) (ap (word_at 3) e))
     ∙ ap (λ x. Stop car2 number2 (record { floor = stop2.floor; dir = x })) (dir_one stop.dir stop2.dir (ap (word_at 4) e))
 asks_one words (Stop car number stop) Turn r s p q = absurd (let e : ◌≡◌ {A = ℕ} 115 116 = ap (byte_at 0) (sym p ∙ q) in omega (arith, e))
-asks_one words (Stop car number stop) (Stops car2) r s p q = absurd (let e : ◌≡◌ {A = ℕ} 0 115 = ap (byte_at 4) (sym p ∙ q) in omega (arith, e))
-asks_one words (Stop car number stop) (Cost kiosk2 floor2 party2) r s p q = absurd (let e : ◌≡◌ {A = ℕ} 115 99 = ap (byte_at 0) (sym p ∙ q.2) in omega (arith, e))
-asks_one words (Stop car number stop) Rows r s p q = absurd (let e : ◌≡◌ {A = ℕ} 115 114 = ap (byte_at 0) (sym p ∙ q) in omega (arith, e))
+asks_one words (Stop car number stop) (Show (Stops car2)) r s p q = absurd (let e : ◌≡◌ {A = ℕ} 0 115 = ap (byte_at 4) (sym p ∙ q) in omega (arith, e))
+asks_one words (Stop car number stop) (Show (Cost kiosk2 floor2 party2)) r s p q = absurd (let e : ◌≡◌ {A = ℕ} 115 99 = ap (byte_at 0) (sym p ∙ q.2) in omega (arith, e))
+asks_one words (Stop car number stop) (Show Rows) r s p q = absurd (let e : ◌≡◌ {A = ℕ} 115 114 = ap (byte_at 0) (sym p ∙ q) in omega (arith, e))
 asks_one words (Stop car number stop) (Fuse calls2) r s p q = absurd (let e : ◌≡◌ {A = ℕ} 115 102 = ap (byte_at 0) (sym p ∙ q) in omega (arith, e))
 asks_one words (Stop car number stop) (Cut outcome2) r s p q = absurd (let e : ◌≡◌ {A = ℕ} 115 99 = ap (byte_at 0) (sym p ∙ q) in omega (arith, e))
 asks_one words Turn (Place car2 position2) r s p q = absurd (let e : ◌≡◌ {A = ℕ} 116 112 = ap (byte_at 0) (sym p ∙ q) in omega (arith, e))
 asks_one words Turn (Call kiosk2 number2 floor2 party2) r s p q = absurd (let e : ◌≡◌ {A = ℕ} 116 99 = ap (byte_at 0) (sym p ∙ q.2) in omega (arith, e))
 asks_one words Turn (Stop car2 number2 stop2) r s p q = absurd (let e : ◌≡◌ {A = ℕ} 116 115 = ap (byte_at 0) (sym p ∙ q) in omega (arith, e))
 asks_one words Turn Turn r s p q = refl
-asks_one words Turn (Stops car2) r s p q = absurd (let e : ◌≡◌ {A = ℕ} 116 115 = ap (byte_at 0) (sym p ∙ q) in omega (arith, e))
-asks_one words Turn (Cost kiosk2 floor2 party2) r s p q = absurd (let e : ◌≡◌ {A = ℕ} 116 99 = ap (byte_at 0) (sym p ∙ q.2) in omega (arith, e))
-asks_one words Turn Rows r s p q = absurd (let e : ◌≡◌ {A = ℕ} 116 114 = ap (byte_at 0) (sym p ∙ q) in omega (arith, e))
+asks_one words Turn (Show (Stops car2)) r s p q = absurd (let e : ◌≡◌ {A = ℕ} 116 115 = ap (byte_at 0) (sym p ∙ q) in omega (arith, e))
+asks_one words Turn (Show (Cost kiosk2 floor2 party2)) r s p q = absurd (let e : ◌≡◌ {A = ℕ} 116 99 = ap (byte_at 0) (sym p ∙ q.2) in omega (arith, e))
+asks_one words Turn (Show Rows) r s p q = absurd (let e : ◌≡◌ {A = ℕ} 116 114 = ap (byte_at 0) (sym p ∙ q) in omega (arith, e))
 asks_one words Turn (Fuse calls2) r s p q = absurd (let e : ◌≡◌ {A = ℕ} 116 102 = ap (byte_at 0) (sym p ∙ q) in omega (arith, e))
 asks_one words Turn (Cut outcome2) r s p q = absurd (let e : ◌≡◌ {A = ℕ} 116 99 = ap (byte_at 0) (sym p ∙ q) in omega (arith, e))
-asks_one words (Stops car) (Place car2 position2) r s p q = absurd (let e : ◌≡◌ {A = ℕ} 115 112 = ap (byte_at 0) (sym p ∙ q) in omega (arith, e))
-asks_one words (Stops car) (Call kiosk2 number2 floor2 party2) r s p q = absurd (let e : ◌≡◌ {A = ℕ} 115 99 = ap (byte_at 0) (sym p ∙ q.2) in omega (arith, e))
-asks_one words (Stops car) (Stop car2 number2 stop2) r s p q = absurd (let e : ◌≡◌ {A = ℕ} 115 0 = ap (byte_at 4) (sym p ∙ q) in omega (arith, e))
-asks_one words (Stops car) Turn r s p q = absurd (let e : ◌≡◌ {A = ℕ} 115 116 = ap (byte_at 0) (sym p ∙ q) in omega (arith, e))
-asks_one words (Stops car) (Stops car2) r s p q =
+asks_one words (Show (Stops car)) (Place car2 position2) r s p q = absurd (let e : ◌≡◌ {A = ℕ} 115 112 = ap (byte_at 0) (sym p ∙ q) in omega (arith, e))
+asks_one words (Show (Stops car)) (Call kiosk2 number2 floor2 party2) r s p q = absurd (let e : ◌≡◌ {A = ℕ} 115 99 = ap (byte_at 0) (sym p ∙ q.2) in omega (arith, e))
+asks_one words (Show (Stops car)) (Stop car2 number2 stop2) r s p q = absurd (let e : ◌≡◌ {A = ℕ} 115 0 = ap (byte_at 4) (sym p ∙ q) in omega (arith, e))
+asks_one words (Show (Stops car)) Turn r s p q = absurd (let e : ◌≡◌ {A = ℕ} 115 116 = ap (byte_at 0) (sym p ∙ q) in omega (arith, e))
+asks_one words (Show (Stops car)) (Show (Stops car2)) r s p q =
     let e = sym p ∙ q in
-    ap (λ x. Stops x) (letter_one car car2 (ap (word_at 1) e))
-asks_one words (Stops car) (Cost kiosk2 floor2 party2) r s p q = absurd (let e : ◌≡◌ {A = ℕ} 115 99 = ap (byte_at 0) (sym p ∙ q.2) in omega (arith, e))
-asks_one words (Stops car) Rows r s p q = absurd (let e : ◌≡◌ {A = ℕ} 115 114 = ap (byte_at 0) (sym p ∙ q) in omega (arith, e))
-asks_one words (Stops car) (Fuse calls2) r s p q = absurd (let e : ◌≡◌ {A = ℕ} 115 102 = ap (byte_at 0) (sym p ∙ q) in omega (arith, e))
-asks_one words (Stops car) (Cut outcome2) r s p q = absurd (let e : ◌≡◌ {A = ℕ} 115 99 = ap (byte_at 0) (sym p ∙ q) in omega (arith, e))
-asks_one words (Cost kiosk floor party) (Place car2 position2) r s p q = absurd (let e : ◌≡◌ {A = ℕ} 99 112 = ap (byte_at 0) (sym p.2 ∙ q) in omega (arith, e))
-asks_one words (Cost kiosk floor party) (Call kiosk2 number2 floor2 party2) r s p q = absurd (let e : ◌≡◌ {A = ℕ} 111 97 = ap (byte_at 1) (sym p.2 ∙ q.2) in omega (arith, e))
-asks_one words (Cost kiosk floor party) (Stop car2 number2 stop2) r s p q = absurd (let e : ◌≡◌ {A = ℕ} 99 115 = ap (byte_at 0) (sym p.2 ∙ q) in omega (arith, e))
-asks_one words (Cost kiosk floor party) Turn r s p q = absurd (let e : ◌≡◌ {A = ℕ} 99 116 = ap (byte_at 0) (sym p.2 ∙ q) in omega (arith, e))
-asks_one words (Cost kiosk floor party) (Stops car2) r s p q = absurd (let e : ◌≡◌ {A = ℕ} 99 115 = ap (byte_at 0) (sym p.2 ∙ q) in omega (arith, e))
-asks_one words (Cost kiosk floor party) (Cost kiosk2 floor2 party2) r s p q =
+    ap (λ x. Show (Stops x)) (letter_one car car2 (ap (word_at 1) e))
+asks_one words (Show (Stops car)) (Show (Cost kiosk2 floor2 party2)) r s p q = absurd (let e : ◌≡◌ {A = ℕ} 115 99 = ap (byte_at 0) (sym p ∙ q.2) in omega (arith, e))
+asks_one words (Show (Stops car)) (Show Rows) r s p q = absurd (let e : ◌≡◌ {A = ℕ} 115 114 = ap (byte_at 0) (sym p ∙ q) in omega (arith, e))
+asks_one words (Show (Stops car)) (Fuse calls2) r s p q = absurd (let e : ◌≡◌ {A = ℕ} 115 102 = ap (byte_at 0) (sym p ∙ q) in omega (arith, e))
+asks_one words (Show (Stops car)) (Cut outcome2) r s p q = absurd (let e : ◌≡◌ {A = ℕ} 115 99 = ap (byte_at 0) (sym p ∙ q) in omega (arith, e))
+asks_one words (Show (Cost kiosk floor party)) (Place car2 position2) r s p q = absurd (let e : ◌≡◌ {A = ℕ} 99 112 = ap (byte_at 0) (sym p.2 ∙ q) in omega (arith, e))
+asks_one words (Show (Cost kiosk floor party)) (Call kiosk2 number2 floor2 party2) r s p q = absurd (let e : ◌≡◌ {A = ℕ} 111 97 = ap (byte_at 1) (sym p.2 ∙ q.2) in omega (arith, e))
+asks_one words (Show (Cost kiosk floor party)) (Stop car2 number2 stop2) r s p q = absurd (let e : ◌≡◌ {A = ℕ} 99 115 = ap (byte_at 0) (sym p.2 ∙ q) in omega (arith, e))
+asks_one words (Show (Cost kiosk floor party)) Turn r s p q = absurd (let e : ◌≡◌ {A = ℕ} 99 116 = ap (byte_at 0) (sym p.2 ∙ q) in omega (arith, e))
+asks_one words (Show (Cost kiosk floor party)) (Show (Stops car2)) r s p q = absurd (let e : ◌≡◌ {A = ℕ} 99 115 = ap (byte_at 0) (sym p.2 ∙ q) in omega (arith, e))
+asks_one words (Show (Cost kiosk floor party)) (Show (Cost kiosk2 floor2 party2)) r s p q =
     let e = sym p.2 ∙ q.2 in
-    ap (λ x. Cost x floor party) (decimal_one kiosk kiosk2 (let b = r.0 in omega (arith, b)) (let b = s.0 in omega (arith, b)) (ap (word_at 1) e))
-    ∙ ap (λ x. Cost kiosk2 x party) (decimal_one floor floor2 (let b = r.1 in omega (arith, b)) (let b = s.1 in omega (arith, b)) (ap (word_at 2) e))
-    ∙ ap (λ x. Cost kiosk2 floor2 x) (party_one p.0 q.0 party party2 (ap (drop 3) e) r.3 s.3 p.1 q.1)
-asks_one words (Cost kiosk floor party) Rows r s p q = absurd (let e : ◌≡◌ {A = ℕ} 99 114 = ap (byte_at 0) (sym p.2 ∙ q) in omega (arith, e))
-asks_one words (Cost kiosk floor party) (Fuse calls2) r s p q = absurd (let e : ◌≡◌ {A = ℕ} 99 102 = ap (byte_at 0) (sym p.2 ∙ q) in omega (arith, e))
-asks_one words (Cost kiosk floor party) (Cut outcome2) r s p q = absurd (let e : ◌≡◌ {A = ℕ} 111 117 = ap (byte_at 1) (sym p.2 ∙ q) in omega (arith, e))
-asks_one words Rows (Place car2 position2) r s p q = absurd (let e : ◌≡◌ {A = ℕ} 114 112 = ap (byte_at 0) (sym p ∙ q) in omega (arith, e))
-asks_one words Rows (Call kiosk2 number2 floor2 party2) r s p q = absurd (let e : ◌≡◌ {A = ℕ} 114 99 = ap (byte_at 0) (sym p ∙ q.2) in omega (arith, e))
-asks_one words Rows (Stop car2 number2 stop2) r s p q = absurd (let e : ◌≡◌ {A = ℕ} 114 115 = ap (byte_at 0) (sym p ∙ q) in omega (arith, e))
-asks_one words Rows Turn r s p q = absurd (let e : ◌≡◌ {A = ℕ} 114 116 = ap (byte_at 0) (sym p ∙ q) in omega (arith, e))
-asks_one words Rows (Stops car2) r s p q = absurd (let e : ◌≡◌ {A = ℕ} 114 115 = ap (byte_at 0) (sym p ∙ q) in omega (arith, e))
-asks_one words Rows (Cost kiosk2 floor2 party2) r s p q = absurd (let e : ◌≡◌ {A = ℕ} 114 99 = ap (byte_at 0) (sym p ∙ q.2) in omega (arith, e))
-asks_one words Rows Rows r s p q = refl
-asks_one words Rows (Fuse calls2) r s p q = absurd (let e : ◌≡◌ {A = ℕ} 114 102 = ap (byte_at 0) (sym p ∙ q) in omega (arith, e))
-asks_one words Rows (Cut outcome2) r s p q = absurd (let e : ◌≡◌ {A = ℕ} 114 99 = ap (byte_at 0) (sym p ∙ q) in omega (arith, e))
+    ap (λ x. Show (Cost x floor party)) (decimal_one kiosk kiosk2 (let b = r.0 in omega (arith, b)) (let b = s.0 in omega (arith, b)) (ap (word_at 1) e))
+    ∙ ap (λ x. Show (Cost kiosk2 x party)) (decimal_one floor floor2 (let b = r.1 in omega (arith, b)) (let b = s.1 in omega (arith, b)) (ap (word_at 2) e))
+    ∙ ap (λ x. Show (Cost kiosk2 floor2 x)) (party_one p.0 q.0 party party2 (ap (drop 3) e) r.3 s.3 p.1 q.1)
+asks_one words (Show (Cost kiosk floor party)) (Show Rows) r s p q = absurd (let e : ◌≡◌ {A = ℕ} 99 114 = ap (byte_at 0) (sym p.2 ∙ q) in omega (arith, e))
+asks_one words (Show (Cost kiosk floor party)) (Fuse calls2) r s p q = absurd (let e : ◌≡◌ {A = ℕ} 99 102 = ap (byte_at 0) (sym p.2 ∙ q) in omega (arith, e))
+asks_one words (Show (Cost kiosk floor party)) (Cut outcome2) r s p q = absurd (let e : ◌≡◌ {A = ℕ} 111 117 = ap (byte_at 1) (sym p.2 ∙ q) in omega (arith, e))
+asks_one words (Show Rows) (Place car2 position2) r s p q = absurd (let e : ◌≡◌ {A = ℕ} 114 112 = ap (byte_at 0) (sym p ∙ q) in omega (arith, e))
+asks_one words (Show Rows) (Call kiosk2 number2 floor2 party2) r s p q = absurd (let e : ◌≡◌ {A = ℕ} 114 99 = ap (byte_at 0) (sym p ∙ q.2) in omega (arith, e))
+asks_one words (Show Rows) (Stop car2 number2 stop2) r s p q = absurd (let e : ◌≡◌ {A = ℕ} 114 115 = ap (byte_at 0) (sym p ∙ q) in omega (arith, e))
+asks_one words (Show Rows) Turn r s p q = absurd (let e : ◌≡◌ {A = ℕ} 114 116 = ap (byte_at 0) (sym p ∙ q) in omega (arith, e))
+asks_one words (Show Rows) (Show (Stops car2)) r s p q = absurd (let e : ◌≡◌ {A = ℕ} 114 115 = ap (byte_at 0) (sym p ∙ q) in omega (arith, e))
+asks_one words (Show Rows) (Show (Cost kiosk2 floor2 party2)) r s p q = absurd (let e : ◌≡◌ {A = ℕ} 114 99 = ap (byte_at 0) (sym p ∙ q.2) in omega (arith, e))
+asks_one words (Show Rows) (Show Rows) r s p q = refl
+asks_one words (Show Rows) (Fuse calls2) r s p q = absurd (let e : ◌≡◌ {A = ℕ} 114 102 = ap (byte_at 0) (sym p ∙ q) in omega (arith, e))
+asks_one words (Show Rows) (Cut outcome2) r s p q = absurd (let e : ◌≡◌ {A = ℕ} 114 99 = ap (byte_at 0) (sym p ∙ q) in omega (arith, e))
 asks_one words (Fuse calls) (Place car2 position2) r s p q = absurd (let e : ◌≡◌ {A = ℕ} 102 112 = ap (byte_at 0) (sym p ∙ q) in omega (arith, e))
 asks_one words (Fuse calls) (Call kiosk2 number2 floor2 party2) r s p q = absurd (let e : ◌≡◌ {A = ℕ} 102 99 = ap (byte_at 0) (sym p ∙ q.2) in omega (arith, e))
 asks_one words (Fuse calls) (Stop car2 number2 stop2) r s p q = absurd (let e : ◌≡◌ {A = ℕ} 102 115 = ap (byte_at 0) (sym p ∙ q) in omega (arith, e))
 asks_one words (Fuse calls) Turn r s p q = absurd (let e : ◌≡◌ {A = ℕ} 102 116 = ap (byte_at 0) (sym p ∙ q) in omega (arith, e))
-asks_one words (Fuse calls) (Stops car2) r s p q = absurd (let e : ◌≡◌ {A = ℕ} 102 115 = ap (byte_at 0) (sym p ∙ q) in omega (arith, e))
-asks_one words (Fuse calls) (Cost kiosk2 floor2 party2) r s p q = absurd (let e : ◌≡◌ {A = ℕ} 102 99 = ap (byte_at 0) (sym p ∙ q.2) in omega (arith, e))
-asks_one words (Fuse calls) Rows r s p q = absurd (let e : ◌≡◌ {A = ℕ} 102 114 = ap (byte_at 0) (sym p ∙ q) in omega (arith, e))
+asks_one words (Fuse calls) (Show (Stops car2)) r s p q = absurd (let e : ◌≡◌ {A = ℕ} 102 115 = ap (byte_at 0) (sym p ∙ q) in omega (arith, e))
+asks_one words (Fuse calls) (Show (Cost kiosk2 floor2 party2)) r s p q = absurd (let e : ◌≡◌ {A = ℕ} 102 99 = ap (byte_at 0) (sym p ∙ q.2) in omega (arith, e))
+asks_one words (Fuse calls) (Show Rows) r s p q = absurd (let e : ◌≡◌ {A = ℕ} 102 114 = ap (byte_at 0) (sym p ∙ q) in omega (arith, e))
 asks_one words (Fuse calls) (Fuse calls2) r s p q =
     let e = sym p ∙ q in
     ap (λ x. Fuse x) (decimal_one calls calls2 (let b = r in omega (arith, b)) (let b = s in omega (arith, b)) (ap (word_at 1) e))
@@ -153,9 +153,9 @@ asks_one words (Cut outcome) (Place car2 position2) r s p q = absurd (let e : �
 asks_one words (Cut outcome) (Call kiosk2 number2 floor2 party2) r s p q = absurd (let e : ◌≡◌ {A = ℕ} 117 97 = ap (byte_at 1) (sym p ∙ q.2) in omega (arith, e))
 asks_one words (Cut outcome) (Stop car2 number2 stop2) r s p q = absurd (let e : ◌≡◌ {A = ℕ} 99 115 = ap (byte_at 0) (sym p ∙ q) in omega (arith, e))
 asks_one words (Cut outcome) Turn r s p q = absurd (let e : ◌≡◌ {A = ℕ} 99 116 = ap (byte_at 0) (sym p ∙ q) in omega (arith, e))
-asks_one words (Cut outcome) (Stops car2) r s p q = absurd (let e : ◌≡◌ {A = ℕ} 99 115 = ap (byte_at 0) (sym p ∙ q) in omega (arith, e))
-asks_one words (Cut outcome) (Cost kiosk2 floor2 party2) r s p q = absurd (let e : ◌≡◌ {A = ℕ} 117 111 = ap (byte_at 1) (sym p ∙ q.2) in omega (arith, e))
-asks_one words (Cut outcome) Rows r s p q = absurd (let e : ◌≡◌ {A = ℕ} 99 114 = ap (byte_at 0) (sym p ∙ q) in omega (arith, e))
+asks_one words (Cut outcome) (Show (Stops car2)) r s p q = absurd (let e : ◌≡◌ {A = ℕ} 99 115 = ap (byte_at 0) (sym p ∙ q) in omega (arith, e))
+asks_one words (Cut outcome) (Show (Cost kiosk2 floor2 party2)) r s p q = absurd (let e : ◌≡◌ {A = ℕ} 117 111 = ap (byte_at 1) (sym p ∙ q.2) in omega (arith, e))
+asks_one words (Cut outcome) (Show Rows) r s p q = absurd (let e : ◌≡◌ {A = ℕ} 99 114 = ap (byte_at 0) (sym p ∙ q) in omega (arith, e))
 asks_one words (Cut outcome) (Fuse calls2) r s p q = absurd (let e : ◌≡◌ {A = ℕ} 99 102 = ap (byte_at 0) (sym p ∙ q) in omega (arith, e))
 asks_one words (Cut outcome) (Cut outcome2) r s p q =
     let e = sym p ∙ q in

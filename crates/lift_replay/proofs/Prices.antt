@@ -8,7 +8,7 @@ use Rattle.lift_cost.specs.declared.call.NewCall.{NewCall}
 use Rattle.lift_policy.specs.View.{ViewState}
 use Rattle.lift_policy.specs.Eligible.{is_eligible, eligible_cars}
 use Rattle.lift_replay.specs.Report.{cost_text}
-use Rattle.lift_replay.specs.Shown.{prices_text}
+use Rattle.lift_replay.specs.Query.{prices_text}
 
 one_more : (p : ℕ → Bool) (x : ℕ) (passed : List ℕ) (b : Bool) → p x ≡ b → All (λ y. p y ≡ true) passed → All (λ y. p y ≡ true) (cond b (x ∷ passed) passed)
 one_more p x passed true e all = All-cons (λ y. p y ≡ true) x passed e all

@@ -18,11 +18,10 @@ use Rattle.lift_desk.specs.Seats.{TerminalSeat, ClerkPlace, Waits, TakesOf, view
 use Rattle.lift_desk.specs.lemmas.WordLists.{prefix_refl}
 use Rattle.lift_clerk.specs.Visits.{Visit, FindsAt, Finds, LooksAndAnswers, with_reply, replies_behind, served}
 use Rattle.lift_replay.specs.declared.line.ScriptLine.{ScriptLine}
-use Rattle.lift_replay.specs.declared.line.ScriptLine.TheVariants.{Place, Call, Stop, Turn, Stops, Cost, Rows, Fuse, Cut}
+use Rattle.lift_replay.specs.declared.line.ScriptLine.TheVariants.{Place, Call, Stop, Turn, Show, Fuse, Cut}
 use Rattle.lift_replay.specs.declared.lines.End.{End}
-use Rattle.lift_replay.specs.Grammar.{IsLineInRange}
+use Rattle.lift_replay.specs.Grammar.{IsKnown, IsLineInRange}
 use Rattle.lift_replay.specs.Group.{Asking, asking_at, after_ask, having_heard}
-use Rattle.lift_replay.specs.Known.{IsKnown}
 use Rattle.lift_replay.specs.Shows.{WaitsFor, IsInStep, AreReady}
 use Rattle.lift_replay.specs.Terminals.{AllHear, Hears, AreSettled, BothTold, no_seat, seat_at, told_seat, having_asked, count_waiting}
 use Rattle.lift_replay.specs.Told.{ScriptClerk, Asks, HasAsked, HasTaken, OutcomeTells, TurnTells, ScriptRests, Tells, LineTells}
@@ -206,9 +205,7 @@ line_ready plan old new seats after line number end text count ready tells = by_
     by_wanted (Call kiosk n floor party) range known te = asks_ready seats after old.seat new.seat (16 + kiosk) n (Calls floor party) text (omega (arith, known, count)) ready te.0
     by_wanted (Stop car n stop) range known te = asks_ready seats after old.seat new.seat car n (Stopping stop.floor stop.dir) text (let below = range.0 in omega (arith, below, count)) ready te.0
     by_wanted Turn range known te = turn_ready old new seats after text ready te
-    by_wanted (Stops car) range known te = rest te.1
-    by_wanted (Cost kiosk floor party) range known te = rest te.1
-    by_wanted Rows range known te = rest te.1
+    by_wanted (Show query) range known te = rest te.1
     by_wanted (Fuse calls) range known te =
         let armed = te.1 in
         subst (λ l. AreReady after l) (sym (ap (λ (c : ScriptClerk). c.seat) armed.rest)) (subst (λ l. AreReady l old.seat) (sym te.2) ready)

@@ -8,9 +8,11 @@ use Rattle.lift_base.specs.declared.travel.Dir.{Dir}
 use Rattle.lift_building.specs.Plan.{Plan}
 use Rattle.lift_disk.specs.declared.outcome.Outcome.TheVariants.{Keep, Lose, Fill}
 use Rattle.lift_replay.specs.declared.line.ScriptLine.{ScriptLine}
-use Rattle.lift_replay.specs.declared.line.ScriptLine.TheVariants.{Place, Call, Stop, Turn, Stops, Cost, Rows, Fuse, Cut}
-use Rattle.lift_replay.specs.Grammar.{Spells, IsLineInRange, IsSkipped}
-use Rattle.lift_replay.specs.Known.{IsKnown}
+use Rattle.lift_replay.specs.declared.line.ScriptLine.TheVariants.{Place, Call, Stop, Turn, Show, Fuse, Cut}
+use Rattle.lift_replay.specs.declared.query.Query.{Query}
+use Rattle.lift_replay.specs.declared.query.Query.TheVariants.{Stops, Cost, Rows}
+use Rattle.lift_replay.specs.Grammar.{Spells, IsKnown, IsLineInRange, IsSkipped}
+use Rattle.lift_replay.specs.Query.{IsKnownQuery}
 use Rattle.lift_replay.proofs.Found.{IsDecided, Within, within, both, either, below, worded, directed}
 
 -- the ways in which a line may ask for something
@@ -102,12 +104,12 @@ module _ (line : List ℕ) where
       (Call kiosk number floor party, (_, are, (decimal party ∷ [], inl refl, refl), (k, n, f, omega (arith, some), omega (arith, p))))
   asks_of (inr (inr (inr (inl (car, c, (number, n, (floor, f, (dir, are)))))))) = (Stop car number (record { floor = floor; dir = dir }), (_, are, refl, (c, n, f)))
   asks_of (inr (inr (inr (inr (inl are))))) = (Turn, (_, are, refl, tt))
-  asks_of (inr (inr (inr (inr (inr (inl (car, c, are))))))) = (Stops car, (_, are, refl, c))
+  asks_of (inr (inr (inr (inr (inr (inl (car, c, are))))))) = (Show (Stops car), (_, are, refl, c))
   asks_of (inr (inr (inr (inr (inr (inr (inl (kiosk, k, (floor, f, are))))))))) =
-      (Cost kiosk floor 1, (_, are, ([], inr (refl, refl), refl), (k, f, omega arith, omega arith)))
+      (Show (Cost kiosk floor 1), (_, are, ([], inr (refl, refl), refl), (k, f, omega arith, omega arith)))
   asks_of (inr (inr (inr (inr (inr (inr (inr (inl (kiosk, k, (floor, f, (party, p, (some, are)))))))))))) =
-      (Cost kiosk floor party, (_, are, (decimal party ∷ [], inl refl, refl), (k, f, omega (arith, some), omega (arith, p))))
-  asks_of (inr (inr (inr (inr (inr (inr (inr (inr (inl are))))))))) = (Rows, (_, are, refl, tt))
+      (Show (Cost kiosk floor party), (_, are, (decimal party ∷ [], inl refl, refl), (k, f, omega (arith, some), omega (arith, p))))
+  asks_of (inr (inr (inr (inr (inr (inr (inr (inr (inl are))))))))) = (Show Rows, (_, are, refl, tt))
   asks_of (inr (inr (inr (inr (inr (inr (inr (inr (inr (inl (calls, c, are))))))))))) = (Fuse calls, (_, are, refl, omega (arith, c)))
   asks_of (inr (inr (inr (inr (inr (inr (inr (inr (inr (inr (inl are))))))))))) = (Cut Keep, (_, are, refl, tt))
   asks_of (inr (inr (inr (inr (inr (inr (inr (inr (inr (inr (inr (inl are)))))))))))) = (Cut Lose, (_, are, refl, tt))
@@ -126,7 +128,7 @@ module _ (line : List ℕ) where
       inr (inl (kiosk, range.0, (number, range.1, (floor, range.2, as_words words _ (is ∙ ap (λ l. codes "call" ∷ decimal kiosk ∷ decimal number ∷ decimal floor ∷ l) none.0) are))))
 
   cost_way : (kiosk floor party : ℕ) (words last : List (List ℕ)) → AreWords line words → ArePartyWords last party → words ≡ codes "cost" ∷ decimal kiosk ∷ decimal floor ∷ last
-      → IsLineInRange (Cost kiosk floor party) → Ways
+      → IsLineInRange (Show (Cost kiosk floor party)) → Ways
   cost_way kiosk floor party words last are (inl last_is) is range =
       let most = range.3 in
       let some = range.2 in
@@ -139,9 +141,9 @@ module _ (line : List ℕ) where
   way_of (Call kiosk number floor party) s = call_way kiosk number floor party s.0 s.2.0 s.1 s.2.1 s.2.2 s.3
   way_of (Stop car number stop) s = inr (inr (inr (inl (car, s.3.0, (number, s.3.1, (stop.floor, s.3.2, (stop.dir, as_words s.0 _ s.2 s.1)))))))
   way_of Turn s = inr (inr (inr (inr (inl (as_words s.0 _ s.2 s.1)))))
-  way_of (Stops car) s = inr (inr (inr (inr (inr (inl (car, s.3, as_words s.0 _ s.2 s.1))))))
-  way_of (Cost kiosk floor party) s = cost_way kiosk floor party s.0 s.2.0 s.1 s.2.1 s.2.2 s.3
-  way_of Rows s = inr (inr (inr (inr (inr (inr (inr (inr (inl (as_words s.0 _ s.2 s.1)))))))))
+  way_of (Show (Stops car)) s = inr (inr (inr (inr (inr (inl (car, s.3, as_words s.0 _ s.2 s.1))))))
+  way_of (Show (Cost kiosk floor party)) s = cost_way kiosk floor party s.0 s.2.0 s.1 s.2.1 s.2.2 s.3
+  way_of (Show Rows) s = inr (inr (inr (inr (inr (inr (inr (inr (inl (as_words s.0 _ s.2 s.1)))))))))
   way_of (Fuse calls) s = inr (inr (inr (inr (inr (inr (inr (inr (inr (inl (calls, (let most = s.3 in omega (arith, most)), as_words s.0 _ s.2 s.1))))))))))
   way_of (Cut Keep) s = inr (inr (inr (inr (inr (inr (inr (inr (inr (inr (inl (as_words s.0 _ s.2 s.1)))))))))))
   way_of (Cut Lose) s = inr (inr (inr (inr (inr (inr (inr (inr (inr (inr (inr (inl (as_words s.0 _ s.2 s.1))))))))))))
@@ -154,13 +156,16 @@ pub skipped : (line : List ℕ) → IsDecided (IsSkipped line)
 skipped [] = inl tt
 skipped (byte ∷ line) = cases_eq byte 35
 
+known_query : (plan : Plan) (query : Query) → IsDecided (IsKnownQuery plan query)
+known_query plan (Stops car) = below car (length plan.cars)
+known_query plan (Cost kiosk floor party) = below kiosk (length plan.kiosks)
+known_query plan Rows = inl tt
+
 pub known : (plan : Plan) (wanted : ScriptLine) → IsDecided (IsKnown plan wanted)
 known plan (Place car position) = below car (length plan.cars)
 known plan (Call kiosk number floor party) = below kiosk (length plan.kiosks)
 known plan (Stop car number stop) = below car (length plan.cars)
 known plan Turn = inl tt
-known plan (Stops car) = below car (length plan.cars)
-known plan (Cost kiosk floor party) = below kiosk (length plan.kiosks)
-known plan Rows = inl tt
+known plan (Show query) = known_query plan query
 known plan (Fuse calls) = inl tt
 known plan (Cut outcome) = inl tt

@@ -20,7 +20,7 @@ use Rattle.lift_policy.specs.Choices.{IsEtdChoice}
 use Rattle.lift_clerk.specs.Turn.{IsFailedTurn, IsBrokenTurn}
 use Rattle.lift_building.specs.Plan.{Plan}
 use Rattle.lift_replay.specs.declared.line.ScriptLine.{ScriptLine}
-use Rattle.lift_replay.specs.declared.line.ScriptLine.TheVariants.{Place, Call, Stop, Turn, Stops, Cost, Rows, Fuse, Cut}
+use Rattle.lift_replay.specs.declared.line.ScriptLine.TheVariants.{Place, Call, Stop, Turn, Show, Fuse, Cut}
 use Rattle.lift_replay.specs.declared.lines.End.{End}
 use Rattle.lift_replay.specs.declared.lines.End.TheVariants.{Run as Over}
 use Rattle.lift_replay.specs.Told.{ScriptClerk, HasAsked, LineTells, Tells, WasStopped, TurnTells, end_of}
@@ -79,9 +79,7 @@ end_tells_none plan old new seats after line number end text (inr (inl (wanted, 
     by_line (Call kiosk n floor party) te en = absurd (cc)
     by_line (Stop car n stop) te en = absurd (cc)
     by_line Turn te en = absurd (cc)
-    by_line (Stops car) te en = absurd (cc)
-    by_line (Cost kiosk floor party) te en = absurd (cc)
-    by_line Rows te en = absurd (cc)
+    by_line (Show query) te en = absurd (cc)
     by_line (Fuse calls) te en = absurd (cc)
 
 pub if_ok : {T E : Type 0} {P Q : T → Type 0} (result : Result T E) → ((x : T) → P x → Q x) → IfOk result P → IfOk result Q

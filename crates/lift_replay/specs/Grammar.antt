@@ -1,12 +1,15 @@
--- What each line of a script spells.
-use Rattle.std.specs.Prelude.{ℕ, ◌≡◌, ◌<◌, ◌≤◌, List, [], ◌∷◌, codes, Option, Some, None}
+-- What each line of a script spells, and which lines a building knows.
+use Rattle.std.specs.Prelude.{ℕ, ◌≡◌, ◌<◌, ◌≤◌, List, [], ◌∷◌, codes, length}
+use Rattle.std.specs.Prelude.{Option, Some, None}
 use Rattle.std.specs.Fmt.{decimal}
 use Rattle.lift_base.specs.Text.{AreWords, ArePartyWords, letter_text, dir_text}
+use Rattle.lift_building.specs.Plan.{Plan}
 use Rattle.lift_disk.specs.declared.outcome.Outcome.{Outcome}
 use Rattle.lift_disk.specs.declared.outcome.Outcome.TheVariants.{Keep, Lose, Fill}
 use Rattle.lift_replay.specs.declared.line.ScriptLine.{ScriptLine}
-use Rattle.lift_replay.specs.declared.line.ScriptLine.TheVariants.{Place, Call, Stop, Turn, Stops}
-use Rattle.lift_replay.specs.declared.line.ScriptLine.TheVariants.{Cost, Rows, Fuse, Cut}
+use Rattle.lift_replay.specs.declared.line.ScriptLine.TheVariants.{Place, Call, Stop, Turn, Show}
+use Rattle.lift_replay.specs.declared.line.ScriptLine.TheVariants.{Fuse, Cut}
+use Rattle.lift_replay.specs.Query.{AskToShow, IsQueryInRange, IsKnownQuery}
 
 -- how the power cut's outcome is written
 abbrev pub outcome_words : Outcome → List (List ℕ)
@@ -25,11 +28,7 @@ AskFor words (Stop car number stop) =
     words
     ≡ codes "stop" ∷ letter_text car ∷ decimal number ∷ decimal stop.floor ∷ dir_text stop.dir ∷ []
 AskFor words Turn = words ≡ codes "turn" ∷ []
-AskFor words (Stops car) = words ≡ codes "stops" ∷ letter_text car ∷ []
-AskFor words (Cost kiosk floor party) =
-    (last : List (List ℕ)) × ArePartyWords last party
-    × (words ≡ codes "cost" ∷ decimal kiosk ∷ decimal floor ∷ last)
-AskFor words Rows = words ≡ codes "rows" ∷ []
+AskFor words (Show query) = AskToShow words query
 AskFor words (Fuse calls) = words ≡ codes "fuse" ∷ decimal calls ∷ []
 AskFor words (Cut outcome) = words ≡ codes "cut" ∷ outcome_words outcome
 
@@ -45,9 +44,7 @@ IsLineInRange (Call kiosk number floor party) = (kiosk < 47) × (number < 167772
     × (1 ≤ party) × (party ≤ 15)
 IsLineInRange (Stop car number stop) = (car < 16) × (number < 16777216) × (stop.floor < 64)
 IsLineInRange Turn = Unit {0}
-IsLineInRange (Stops car) = car < 16
-IsLineInRange (Cost kiosk floor party) = (kiosk < 47) × (floor < 64) × (1 ≤ party) × (party ≤ 15)
-IsLineInRange Rows = Unit {0}
+IsLineInRange (Show query) = IsQueryInRange query
 IsLineInRange (Fuse calls) = calls ≤ 1000000
 IsLineInRange (Cut outcome) = IsOutcomeInRange outcome
 
@@ -66,3 +63,13 @@ Spells line wanted = (words : List (List ℕ)) × AreWords line words × AskFor 
 abbrev pub IsSkipped : List ℕ → Type 0
 IsSkipped [] = Unit {0}
 IsSkipped (first ∷ others) = first ≡ 35
+
+-- the building has the car or the kiosk that the line names, if it names one
+abbrev pub IsKnown : Plan → ScriptLine → Type 0
+IsKnown plan (Place car position) = car < length plan.cars
+IsKnown plan (Call kiosk number floor party) = kiosk < length plan.kiosks
+IsKnown plan (Stop car number stop) = car < length plan.cars
+IsKnown plan Turn = Unit {0}
+IsKnown plan (Show query) = IsKnownQuery plan query
+IsKnown plan (Fuse calls) = Unit {0}
+IsKnown plan (Cut outcome) = Unit {0}

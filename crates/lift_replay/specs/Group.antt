@@ -3,13 +3,14 @@
 use Rattle.std.specs.Prelude.{ℕ, suc, ◌+◌, ◌-◌, ◌==◌, Bool, true, false, not, if◌then◌else◌, nat_le}
 use Rattle.std.specs.Prelude.{List, [], ◌∷◌, ◌++◌, length, replicate, slice_index_or, slice_set}
 use Rattle.std.specs.Prelude.{codes, Option, Some, None}
+use Rattle.std.specs.Option.{is_some}
 use Rattle.lift_base.specs.declared.command.Body.{Body}
 use Rattle.lift_base.specs.declared.command.Body.TheVariants.{Call as Calls, Stop as Stopping}
 use Rattle.lift_base.specs.declared.command.Body.TheVariants.{Place as Placing}
 use Rattle.lift_base.specs.declared.command.Reply.{Reply}
 use Rattle.lift_base.specs.declared.history.Entry.{Entry}
 use Rattle.lift_base.specs.declared.travel.Position.{Position}
-use Rattle.lift_building.specs.Plan.{Plan, kiosk_floor_of}
+use Rattle.lift_building.specs.Plan.{Plan}
 use Rattle.lift_disk.specs.declared.outcome.Outcome.{Outcome}
 use Rattle.lift_disk.specs.declared.outcome.Outcome.TheVariants.{Keep, Lose, Fill}
 use Rattle.lift_journal.specs.Checkpoint.{sectors_for}
@@ -26,11 +27,11 @@ use Rattle.lift_keeper.specs.Writer.{room_call_count, room_used, room_second, co
 use Rattle.lift_keeper.specs.Writer.{commit_second}
 use Rattle.lift_clerk.specs.Visits.{command_at}
 use Rattle.lift_replay.specs.declared.line.ScriptLine.{ScriptLine}
-use Rattle.lift_replay.specs.declared.line.ScriptLine.TheVariants.{Place, Call, Stop, Turn, Stops}
-use Rattle.lift_replay.specs.declared.line.ScriptLine.TheVariants.{Cost, Rows, Fuse, Cut}
+use Rattle.lift_replay.specs.declared.line.ScriptLine.TheVariants.{Place, Call, Stop, Turn, Show}
+use Rattle.lift_replay.specs.declared.line.ScriptLine.TheVariants.{Fuse, Cut}
 use Rattle.lift_replay.specs.Report.{waiting_text, spent_text, turn_text, fault_text, heard_text}
-use Rattle.lift_replay.specs.Report.{cut_text, register_text}
-use Rattle.lift_replay.specs.Shown.{stops_text, costs_text}
+use Rattle.lift_replay.specs.Report.{cut_text}
+use Rattle.lift_replay.specs.Query.{shown_text}
 
 -- how often a terminal has asked, and its ask that waits for the answer
 pub record Asking : Type 0 where
@@ -302,11 +303,6 @@ recovered plan found = record {
   terminals = new_terminals plan;
 }
 
--- what a line shows while nothing is stopped
-abbrev pub unless_stopped : Option Stopped → (line text : List ℕ) → List ℕ
-unless_stopped None line text = text
-unless_stopped (Some stopped) line text = fault_text line 5
-
 abbrev pub asked_text : ScriptGroup → (terminal number : ℕ) → List ℕ
 asked_text g terminal number =
     ask_text (asking_at g.terminals terminal).waiting
@@ -327,16 +323,7 @@ line_text plan g (Place car position) = asked_text g car 0
 line_text plan g (Call kiosk number floor party) = asked_text g (16 + kiosk) number
 line_text plan g (Stop car number stop) = asked_text g car number
 line_text plan g Turn = turn_told g.stopped plan g
-line_text plan g (Stops car) = unless_stopped g.stopped (codes "stops")
-    (stops_text (policy_view g) car)
-line_text plan g (Cost kiosk floor party) =
-    unless_stopped g.stopped (codes "cost")
-    (costs_text plan (policy_view g) (record {
-      from = kiosk_floor_of plan kiosk;
-      to = floor;
-      party = party;
-    }))
-line_text plan g Rows = unless_stopped g.stopped (codes "rows") (register_text g.register)
+line_text plan g (Show query) = shown_text (is_some g.stopped) plan (policy_view g) query
 line_text plan g (Fuse calls) = []
 line_text plan g (Cut outcome) = cut_text (open_count (left_by outcome g).register)
 
@@ -347,8 +334,6 @@ after plan g (Call kiosk number floor party) = after_asking g (16 + kiosk) numbe
     (Calls floor party)
 after plan g (Stop car number stop) = after_asking g car number (Stopping stop.floor stop.dir)
 after plan g Turn = turned g.stopped plan g
-after plan g (Stops car) = g
-after plan g (Cost kiosk floor party) = g
-after plan g Rows = g
+after plan g (Show query) = g
 after plan g (Fuse calls) = record g { passing = Some calls }
 after plan g (Cut outcome) = recovered plan (left_by outcome g)

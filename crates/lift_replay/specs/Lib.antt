@@ -1,7 +1,7 @@
 pub mod Grammar
 pub mod Group
-pub mod Known
 pub mod Law
+pub mod Query
 pub mod Reading
 pub mod Recovering
 pub mod Replaying
@@ -9,7 +9,6 @@ pub mod Report
 pub mod Running
 pub mod Script
 pub mod Segment
-pub mod Shown
 pub mod Shows
 pub mod Source
 pub mod Terminals

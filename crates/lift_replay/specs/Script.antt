@@ -7,8 +7,7 @@ use Rattle.lift_building.specs.Gives.{IsFirstFault}
 use Rattle.lift_building.specs.declared.fault.BuildingFault.{BuildingFault}
 use Rattle.lift_building.specs.declared.fault.BuildingFault.TheVariants.{Memory}
 use Rattle.lift_replay.specs.declared.line.ScriptLine.{ScriptLine}
-use Rattle.lift_replay.specs.Grammar.{Spells, IsSkipped}
-use Rattle.lift_replay.specs.Known.{IsKnown}
+use Rattle.lift_replay.specs.Grammar.{Spells, IsSkipped, IsKnown}
 use Rattle.lift_replay.specs.Reading.{most_bytes}
 use Rattle.lift_replay.specs.Report.{building_text}
 

@@ -5,7 +5,7 @@ use Rattle.lift_base.specs.declared.command.Body.{Body}
 use Rattle.lift_base.specs.declared.command.Body.TheVariants.{Call as Calls, Stop as Stopping}
 use Rattle.lift_base.specs.declared.command.Body.TheVariants.{Place as Placing}
 use Rattle.lift_base.specs.declared.command.Reply.{Reply}
-use Rattle.lift_building.specs.Plan.{Plan, kiosk_floor_of}
+use Rattle.lift_building.specs.Plan.{Plan}
 use Rattle.lift_disk.specs.Disk.{DiskState, IsUnchanged, IsArmedWith}
 use Rattle.lift_disk.specs.Faults.{AllAfter, FusedDisk, fuse_state_of}
 use Rattle.lift_policy.specs.Choices.{IsEtdChoice}
@@ -21,17 +21,15 @@ use Rattle.lift_clerk.specs.Turn.{IsTurn, IsFailedTurn, IsBrokenTurn}
 use Rattle.lift_clerk.specs.Visits.{Visit, LooksAndAnswers, commands_of}
 use Rattle.lift_clerk.specs.declared.counts.Counts.{Counts}
 use Rattle.lift_replay.specs.declared.line.ScriptLine.{ScriptLine}
-use Rattle.lift_replay.specs.declared.line.ScriptLine.TheVariants.{Place, Call, Stop, Turn, Stops}
-use Rattle.lift_replay.specs.declared.line.ScriptLine.TheVariants.{Cost, Rows, Fuse, Cut}
+use Rattle.lift_replay.specs.declared.line.ScriptLine.TheVariants.{Place, Call, Stop, Turn, Show}
+use Rattle.lift_replay.specs.declared.line.ScriptLine.TheVariants.{Fuse, Cut}
 use Rattle.lift_replay.specs.declared.lines.End.{End}
 use Rattle.lift_replay.specs.declared.lines.End.TheVariants.{Run as Over, Cut as Power}
 use Rattle.lift_replay.specs.declared.lines.Verdict.TheVariants.{Bad}
-use Rattle.lift_replay.specs.Grammar.{Spells, IsSkipped}
-use Rattle.lift_replay.specs.Known.{IsKnown}
-use Rattle.lift_replay.specs.Report.{waiting_text, spent_text, turn_text, fault_text, register_text}
-use Rattle.lift_replay.specs.Report.{bad_text}
+use Rattle.lift_replay.specs.Grammar.{Spells, IsSkipped, IsKnown}
+use Rattle.lift_replay.specs.Report.{waiting_text, spent_text, turn_text, fault_text, bad_text}
 use Rattle.lift_replay.specs.Script.{IsBadLine}
-use Rattle.lift_replay.specs.Shown.{stops_text, costs_text, unless_broken}
+use Rattle.lift_replay.specs.Query.{shown_text}
 use Rattle.lift_replay.specs.Terminals.{seat_at, having_asked, told_seat, AreTold, AllHear}
 
 -- the clerk of a script
@@ -140,10 +138,6 @@ pub record OutcomeTells (old new : ScriptClerk) (seats after : List TerminalSeat
   pub hear : AllHear told after heard
   pub shown : text ≡ head ++ heard
 
--- what a line tells that shows what the keeper has, while its journal is not broken
-abbrev pub shown_text : ScriptClerk → List ℕ → List ℕ → List ℕ
-shown_text clerk line text = unless_broken clerk.keeper.writer.is_broken line text
-
 -- The device of the clerk is told to fail every call after this many, and nothing else changes.
 pub record IsArmed (calls : ℕ) (old new : ScriptClerk) : Type 0 where
   pub told : IsArmedWith (AllAfter calls (fuse_state_of old.keeper.writer.device).calls)
@@ -170,19 +164,8 @@ Tells plan old new seats after (Stop car number stop) text =
     Asks seats after old.seat new.seat car number (Stopping stop.floor stop.dir) text
     × KeepsKeeper old new
 Tells plan old new seats after Turn text = OutcomeTells old new seats after text
-Tells plan old new seats after (Stops car) text =
-    (text ≡ shown_text old (codes "stops") (stops_text (view_of old.keeper.state) car))
-    × ScriptRests old new seats after
-Tells plan old new seats after (Cost kiosk floor party) text =
-    (text ≡ shown_text old (codes "cost")
-    (costs_text plan (view_of old.keeper.state) (record {
-      from = kiosk_floor_of plan kiosk;
-      to = floor;
-      party = party;
-    })))
-    × ScriptRests old new seats after
-Tells plan old new seats after Rows text =
-    (text ≡ shown_text old (codes "rows") (register_text old.keeper.state.register))
+Tells plan old new seats after (Show query) text =
+    (text ≡ shown_text old.keeper.writer.is_broken plan (view_of old.keeper.state) query)
     × ScriptRests old new seats after
 Tells plan old new seats after (Fuse calls) text = (text ≡ []) × IsArmed calls old new
     × (after ≡ seats)

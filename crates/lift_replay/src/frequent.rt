@@ -7,6 +7,7 @@ ghost use Rattle.lift_base.specs.Text.{dir_text, letter_text};
 ghost use Rattle.lift_replay.specs.Grammar.{Spells};
 
 use crate::line::ScriptLine;
+use crate::query::Query;
 use lift_base::{Dir, Floor, Letter, Number, Party, Stop};
 
 /// The number that a text begins with, in the way in which it is printed, and what stands after it.
@@ -151,11 +152,11 @@ fn cost_in(line: &[u8]) -> Option<ScriptLine>
     let (kiosk, rest) = kiosk_before_space(rest)?;
     let floor = last_floor(rest)?;
     let party = Party::default();
-    Some(ScriptLine::Cost {
+    Some(ScriptLine::Show(Query::Cost {
         kiosk,
         floor,
         party,
-    })
+    }))
 }
 
 /// What a frequent line asks for. None says nothing of a line.

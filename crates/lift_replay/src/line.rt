@@ -1,6 +1,7 @@
 ghost use Rattle.std.specs.Prelude.{◌↔◌, IsTrue};
-ghost use Rattle.lift_replay.specs.Known.{IsKnown};
+ghost use Rattle.lift_replay.specs.Grammar.{IsKnown};
 
+use crate::query::Query;
 use lift_base::{Floor, Letter, Number, Party, Position, Stop};
 use lift_building::Building;
 use lift_disk::Outcome;
@@ -28,18 +29,8 @@ pub enum ScriptLine {
     },
     /// One turn of the clerk, then all terminals hear.
     Turn,
-    /// The stop list of a car.
-    Stops {
-        car: Letter,
-    },
-    /// What a call would cost each eligible car.
-    Cost {
-        kiosk: u8,
-        floor: Floor,
-        party: Party,
-    },
-    /// The open calls.
-    Rows,
+    /// What is shown of the group, which nothing changes.
+    Show(Query),
     /// After this many device calls, at most 1,000,000, every call fails.
     Fuse {
         calls: u32,
@@ -58,11 +49,9 @@ impl ScriptLine {
         match *self {
             ScriptLine::Place { car, .. } => car.get() < building.cars(),
             ScriptLine::Stop { car, .. } => car.get() < building.cars(),
-            ScriptLine::Stops { car } => car.get() < building.cars(),
             ScriptLine::Call { kiosk, .. } => kiosk < building.kiosks(),
-            ScriptLine::Cost { kiosk, .. } => kiosk < building.kiosks(),
             ScriptLine::Turn => true,
-            ScriptLine::Rows => true,
+            ScriptLine::Show(query) => query.is_known(building),
             ScriptLine::Fuse { .. } => true,
             ScriptLine::Cut { .. } => true,
         }

@@ -1,29 +1,23 @@
 //! What each line of a script does, and what it reports.
 
 ghost use Rattle.std.specs.Prelude.{◌≡◌, ◌<◌, ◌+◌, ◌++◌, ℕ, List, length, string_bytes};
-ghost use Rattle.std.specs.Prelude.{OnOk, IfOk, IfSome, codes};
-ghost use Rattle.lift_building.specs.Plan.{kiosk_floor_of};
-ghost use Rattle.lift_policy.specs.Step.{view_of};
-ghost use Rattle.lift_replay.specs.Known.{IsKnown};
-ghost use Rattle.lift_replay.specs.Report.{register_text};
-ghost use Rattle.lift_replay.specs.Shown.{stops_text, costs_text};
+ghost use Rattle.std.specs.Prelude.{OnOk, IfOk, IfSome};
+ghost use Rattle.lift_replay.specs.Grammar.{IsKnown};
 ghost use Rattle.lift_desk.specs.Seats.{IsClerkOf};
 ghost use Rattle.lift_replay.specs.Told.{Asks, KeepsKeeper, KeepsPlace, TurnTells, OutcomeTells};
 ghost use Rattle.lift_replay.specs.Shows.{AreReady};
-ghost use Rattle.lift_replay.specs.Told.{HasTaken, Tells, LineTells, IsArmed, shown_text, end_of};
+ghost use Rattle.lift_replay.specs.Told.{HasTaken, Tells, LineTells, IsArmed, end_of};
 ghost use Rattle.lift_replay.specs.declared.line.ScriptLine.TheVariants.{Fuse, Cut as CutLine};
 ghost use Rattle.lift_disk.specs.declared.outcome.Outcome.{Outcome as Cut};
 
 use crate::line::ScriptLine;
 use crate::parsing::parse;
 use crate::refused::NoMemory;
-use crate::report::{push_bad, push_fault, push_rows, push_spent, push_turn, push_waiting};
-use crate::shown::{Offer, push_stops};
+use crate::report::{push_bad, push_fault, push_spent, push_turn, push_waiting};
 use crate::station::Station;
-use lift_base::{Body, Floor, Letter, Number, Party, Terminal};
+use lift_base::{Body, Number, Terminal};
 use lift_building::Building;
 use lift_clerk::Clerk;
-use lift_cost::NewCall;
 use lift_desk::AskRefusal;
 use lift_disk::{FuseDisk, Outcome};
 use lift_policy::Etd;
@@ -43,9 +37,6 @@ pub enum End {
     /// A power cut.
     Cut(Outcome),
 }
-
-/// The fault that a line reports which would show more than what is safe: the journal is broken.
-const BROKEN: u8 = 5;
 
 /// A terminal asks, or is told why it can't.
 fn push_ask(
@@ -114,68 +105,6 @@ fn push_turn_of(report: &mut String, station: &mut Station) -> Result<(), NoMemo
     station.terminals.push_all_heard(report)
 }
 
-/// The stop list of a car, where it is known to be safe.
-fn show_stops(report: &mut String, station: &Station, car: Letter) -> Result<(), NoMemory>
-    ensures { OnOk result (string_bytes report.new
-        ≡ string_bytes report.old
-        ++ shown_text station.now.clerk (codes "stops")
-        (stops_text (view_of station.now.clerk.keeper.state) car)) }
-{
-    let keeper = station.clerk.keeper();
-    if keeper.is_broken() {
-        return push_fault(report, "stops", BROKEN);
-    }
-    push_stops(report, &keeper.view(), car)
-}
-
-/// The costs of a call, where the open calls are known to be safe.
-fn show_costs(
-    report: &mut String,
-    station: &Station,
-    kiosk: u8,
-    to: Floor,
-    party: Party,
-) -> Result<(), NoMemory>
-    requires known { kiosk < length station.now.building.now.kiosks }
-    ensures { OnOk result (string_bytes report.new ≡ string_bytes report.old
-        ++ shown_text station.now.clerk (codes "cost")
-        (costs_text station.now.building.now (view_of station.now.clerk.keeper.state)
-        (record {
-          from = kiosk_floor_of station.now.building.now kiosk;
-          to = to;
-          party = party;
-        }))) }
-{
-    let keeper = station.clerk.keeper();
-    if keeper.is_broken() {
-        return push_fault(report, "cost", BROKEN);
-    }
-    let _possible = keeper.register();
-    let building = station.building;
-    let from = building.kiosk_floor(kiosk);
-    let call = NewCall { from, to, party };
-    let offer = Offer {
-        building,
-        view: &keeper.view(),
-        call: &call,
-    };
-    offer.push_line(report)
-}
-
-/// The open calls, where they are known to be safe.
-fn show_rows(report: &mut String, station: &Station) -> Result<(), NoMemory>
-    ensures { OnOk result (string_bytes report.new
-        ≡ string_bytes report.old
-        ++ shown_text station.now.clerk (codes "rows")
-        (register_text station.now.clerk.keeper.state.register)) }
-{
-    let keeper = station.clerk.keeper();
-    if keeper.is_broken() {
-        return push_fault(report, "rows", BROKEN);
-    }
-    push_rows(report, keeper.register())
-}
-
 /// The terminal of a kiosk of the building.
 fn terminal_of(building: &Building, kiosk: u8) -> Terminal
     requires { kiosk < length building.now.kiosks }
@@ -240,20 +169,8 @@ fn carry_out(
             push_turn_of(report, station)?;
             Ok(None)
         }
-        ScriptLine::Stops { car } => {
-            show_stops(report, station, car)?;
-            Ok(None)
-        }
-        ScriptLine::Cost {
-            kiosk,
-            floor,
-            party,
-        } => {
-            show_costs(report, station, kiosk, floor, party)?;
-            Ok(None)
-        }
-        ScriptLine::Rows => {
-            show_rows(report, station)?;
+        ScriptLine::Show(query) => {
+            query.push_shown(report, station.building, station.clerk.keeper())?;
             Ok(None)
         }
         ScriptLine::Fuse { calls } => {

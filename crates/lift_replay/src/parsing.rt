@@ -12,6 +12,7 @@ ghost use Rattle.lift_replay.specs.declared.line.ScriptLine.{ScriptLine as Wante
 
 use crate::frequent::frequent;
 use crate::line::ScriptLine;
+use crate::query::query_of;
 use lift_base::text::{
     dir_of_word, letter_of_word, number_of_word, number_up_to, party_of_words, words_of,
 };
@@ -19,7 +20,7 @@ use lift_base::{Dir, Floor, Position, Stop};
 use lift_disk::Outcome;
 
 /// The floor, 0 to 63, that a word names.
-fn floor_of(word: &str) -> Option<Floor>
+pub fn floor_of(word: &str) -> Option<Floor>
     ensures some { IfSome result (λ floor. (word.now ≡ decimal floor) × (floor < 64)) }
     ensures none { IfNone result ((floor : ℕ) → floor < 64 → word.now ≢ decimal floor) }
 {
@@ -30,7 +31,7 @@ fn floor_of(word: &str) -> Option<Floor>
 }
 
 /// The kiosk, 0 to 46, that a word names.
-fn kiosk_of(word: &str) -> Option<u8>
+pub fn kiosk_of(word: &str) -> Option<u8>
     ensures some { IfSome result (λ kiosk. (word.now ≡ decimal kiosk) × (kiosk < 47)) }
     ensures none { IfNone result ((kiosk : ℕ) → kiosk < 47 → word.now ≢ decimal kiosk) }
 {
@@ -121,27 +122,6 @@ fn stop_of(words: &[&str]) -> Option<ScriptLine>
     Some(ScriptLine::Stop { car, number, stop })
 }
 
-fn stops_of(words: &[&str]) -> Option<ScriptLine>
-    ensures { AreReadAsLine (codes "stops" ∷ texts words.now) result }
-{
-    let [car] = words else { return None };
-    let car = letter_of_word(car)?;
-    Some(ScriptLine::Stops { car })
-}
-
-fn cost_of(words: &[&str]) -> Option<ScriptLine>
-    ensures { AreReadAsLine (codes "cost" ∷ texts words.now) result }
-{
-    let [kiosk, floor, party @ ..] = words else {
-        return None;
-    };
-    Some(ScriptLine::Cost {
-        kiosk: kiosk_of(kiosk)?,
-        floor: floor_of(floor)?,
-        party: party_of_words(party)?,
-    })
-}
-
 fn fuse_of(words: &[&str]) -> Option<ScriptLine>
     ensures { AreReadAsLine (codes "fuse" ∷ texts words.now) result }
 {
@@ -157,12 +137,15 @@ fn cut_of(words: &[&str]) -> Option<ScriptLine>
     Some(ScriptLine::Cut { outcome })
 }
 
-/// A line that no words may stand after.
-fn alone(words: &[&str], line: ScriptLine) -> Option<ScriptLine>
-    ensures some { IfSome result (λ wanted. (wanted ≡ line) × (words.now ≡ [])) }
-    ensures none { IfNone result (words.now ≢ []) }
+/// The line of a turn, that no words may stand after.
+fn turn_of(words: &[&str]) -> Option<ScriptLine>
+    ensures { AreReadAsLine (codes "turn" ∷ texts words.now) result }
 {
-    if words.is_empty() { Some(line) } else { None }
+    if words.is_empty() {
+        Some(ScriptLine::Turn)
+    } else {
+        None
+    }
 }
 
 /// Whether a text is this word of four letters. It is told without a call.
@@ -190,13 +173,13 @@ fn asked_by(first: &str, others: &[&str]) -> Option<ScriptLine>
         "place" => place_of(others),
         "call" => call_of(others),
         "stop" => stop_of(others),
-        "stops" => stops_of(others),
-        "turn" => alone(others, ScriptLine::Turn),
-        "cost" => cost_of(others),
-        "rows" => alone(others, ScriptLine::Rows),
+        "turn" => turn_of(others),
         "fuse" => fuse_of(others),
         "cut" => cut_of(others),
-        _ => None,
+        _ => {
+            let query = query_of(first, others)?;
+            Some(ScriptLine::Show(query))
+        }
     }
 }
 

@@ -2,7 +2,7 @@ use Rattle.std.proofs.Common.{◌≡◌, ◌++◌, take, string_bytes}
 use Rattle.std.specs.List.{flat_map}
 use Rattle.lift_policy.specs.Choices.{total_cost_at}
 use Rattle.lift_replay.specs.Report.{cost_text}
-use Rattle.lift_replay.proofs.shown.Offer.push_costs.Given as goal
+use Rattle.lift_replay.proofs.query.Offer.push_costs.Given as goal
 
 abbrev pub invariant-loop-car : goal.invariant-loop-car
 invariant-loop-car l =

@@ -1,8 +1,8 @@
 use Rattle.std.proofs.Common.{◌++◌, ◌∙◌, ap, string_bytes, subst, length, ◌<◌, List, ℕ, sym}
 use Rattle.lift_policy.specs.Choices.{total_cost_at}
-use Rattle.lift_replay.specs.Shown.{prices_text}
+use Rattle.lift_replay.specs.Query.{prices_text}
 use Rattle.lift_replay.proofs.Prices.{eligible_at, prices_all}
-use Rattle.lift_replay.proofs.shown.Offer.push_costs.Goals as goal
+use Rattle.lift_replay.proofs.query.Offer.push_costs.Goals as goal
 
 pub push_cost_of-requires-clause-eligible : goal.push_cost_of-requires-clause-eligible
 push_cost_of-requires-clause-eligible c =

@@ -1,7 +1,7 @@
 use Rattle.std.proofs.Common.{◌≡◌, ◌++◌, take, string_bytes}
 use Rattle.std.specs.List.{flat_map}
 use Rattle.lift_replay.specs.Report.{halt_text}
-use Rattle.lift_replay.proofs.shown.push_halts.Given as goal
+use Rattle.lift_replay.proofs.query.push_halts.Given as goal
 
 abbrev pub invariant-loop-halt : goal.invariant-loop-halt
 invariant-loop-halt l =
