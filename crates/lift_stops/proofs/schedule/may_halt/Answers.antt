@@ -1,11 +1,10 @@
-use Rattle.std.proofs.Common.{◌≡◌, ◌<◌, ◌≤◌, List, sym, ap, subst, ◌∙◌, arith}
+use Rattle.std.proofs.Common.{◌≡◌, sym, subst, arith}
 use Rattle.std.proofs.lemmas.Bool.{ltb-false}
 use Rattle.lift_base.specs.declared.travel.Pass.TheVariants.{Second}
 use Rattle.lift_base.specs.declared.travel.Halt.{Halt}
 use Rattle.lift_base.specs.declared.travel.Position.{Position}
 use Rattle.lift_stops.specs.Leaving.{leaving_at}
 use Rattle.lift_stops.specs.StopList.{stop_list}
-use Rattle.lift_stops.specs.Schedule.{position_after}
 use Rattle.lift_stops.proofs.Standing.{IsShort, nobody_here}
 use Rattle.lift_stops.proofs.schedule.may_halt.Goals as goal
 

@@ -1,4 +1,4 @@
-use Rattle.std.proofs.Common.{rules, ◌≡◌, All, List, length, ap, ◌∙◌, arith}
+use Rattle.std.proofs.Common.{◌≡◌, All, List, length, ap, ◌∙◌, arith}
 use Rattle.std.specs.List.{flat_map}
 use Rattle.lift_base.specs.History.{row_after}
 use Rattle.lift_base.specs.declared.history.Row.{Row}
