@@ -31,7 +31,7 @@ IsIn-filter p x (y ∷ ys) (inr later) passes =
       | false ↦ IsIn-filter p x ys later passes
     ]
 
-stops-rise : (rows : List Row) (position : Position) → Rises (rank_of position.dir) 0 (stop_list rows position)
+pub stops-rise : (rows : List Row) (position : Position) → Rises (rank_of position.dir) 0 (stop_list rows position)
 unfolding stop_list
 stops-rise rows position = Rises-filter (rank_of position.dir) 0 (is_needed rows position) (all_halts position.dir) (all_halts-rise position.dir)
 
@@ -51,7 +51,7 @@ own_needed position row = rw (same_pass-self (pass_of position row)) (either row
     either true from to = rw (eq-eqb to to refl) refl
     either false from to = rw (eq-eqb from from refl) refl
 
-own_low : (row : Row) → HasFloors row → first_leg row < 64
+pub own_low : (row : Row) → HasFloors row → first_leg row < 64
 own_low row floors = either row.aboard row.from row.to floors
   where
     either : (aboard : Bool) (from to : ℕ) → All (λ leg. leg < 64) (cond aboard (to ∷ []) (from ∷ to ∷ [])) → cond aboard to from < 64
@@ -66,7 +66,7 @@ own_listed rows position k blank within floors =
     IsIn-filter (is_needed rows position) own (all_halts position.dir) (all_halts-all position.dir (pass_of position row) (first_leg row) (own_low row floors))
     (list_any_at (λ (other : Row). is_halt_of position other own) rows k blank within (own_needed position row))
 
-low_rank : (dir : Dir) (leg : ℕ) → leg < 64 → floor_rank dir leg ≤ 63
+pub low_rank : (dir : Dir) (leg : ℕ) → leg < 64 → floor_rank dir leg ≤ 63
 low_rank Up leg low = omega (arith, low)
 low_rank Down leg low = omega arith
 

@@ -22,7 +22,7 @@ same_halt-self halt = rw (eq-eqb halt.floor halt.floor refl) (either halt.pass)
     either Third = refl
 
 -- a call leaves at its own halt alone
-leaving-here : (position : Position) (halt : Halt) (row : Row) → same_halt (halt_at position row row.to) halt ≡ true → leaving_of position halt row ≡ row.party
+pub leaving-here : (position : Position) (halt : Halt) (row : Row) → same_halt (halt_at position row row.to) halt ≡ true → leaving_of position halt row ≡ row.party
 leaving-here position halt row here = rw here refl
 
 leaving-elsewhere : (position : Position) (halt : Halt) (row : Row) → same_halt (halt_at position row row.to) halt ≡ false → leaving_of position halt row ≡ 0

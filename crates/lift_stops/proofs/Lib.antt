@@ -5,3 +5,4 @@ pub mod Kept
 pub mod Served
 pub mod Dropped
 pub mod Opening
+mod Standing

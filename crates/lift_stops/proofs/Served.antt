@@ -29,7 +29,7 @@ use Rattle.lift_stops.specs.lemmas.Listed.{halts_equal}
 abbrev pass_to : Stop → (from to leg : ℕ) → Pass
 pass_to stop from to leg = cond (same_dir (dir_of from to) stop.dir) (cond (is_ahead stop.dir leg stop.floor) First Third) Second
 
-ahead_here : (dir : Dir) (floor other : ℕ) → floor ≡ other → is_ahead dir floor other ≡ true
+pub ahead_here : (dir : Dir) (floor other : ℕ) → floor ≡ other → is_ahead dir floor other ≡ true
 ahead_here Up floor other same = le-leb other floor (omega (arith, same))
 ahead_here Down floor other same = le-leb floor other (omega (arith, same))
 
@@ -52,7 +52,7 @@ goal_ahead from to floor here = either (nat_lt from to) refl
     either false is = le-leb to floor (omega (arith, here, ltb-false from to is))
 
 -- a call that boards here is made in the first pass
-boards_first : (stop : Stop) (from to leg : ℕ) → stop.floor ≡ from → same_dir stop.dir (dir_of from to) ≡ true → is_ahead (dir_of from to) leg stop.floor ≡ true → pass_to stop from to leg ≡ First
+pub boards_first : (stop : Stop) (from to leg : ℕ) → stop.floor ≡ from → same_dir stop.dir (dir_of from to) ≡ true → is_ahead (dir_of from to) leg stop.floor ≡ true → pass_to stop from to leg ≡ First
 boards_first stop from to leg here way ahead =
     let dirs : dir_of from to ≡ stop.dir = same_dirs stop.dir (dir_of from to) way in
     let on : is_ahead stop.dir leg stop.floor ≡ true = subst (λ (dir : Dir). is_ahead dir leg stop.floor ≡ true) dirs ahead in
@@ -124,7 +124,7 @@ needs_same stop row halt =
     let is : (is_halt_of (position_after stop) row halt || false) ≡ is_halt_of (position_after stop) row halt = or_nothing (is_halt_of (position_after stop) row halt) in
     (λ needs. sym is ∙ needs, λ was none. let clash = sym was ∙ sym is ∙ none in absurd cc)
 
-still_waiting : (row : Row) → row.aboard ≡ false → record row { aboard = false } ≡ row
+pub still_waiting : (row : Row) → row.aboard ≡ false → record row { aboard = false } ≡ row
 still_waiting row waits = ap (λ (a : Bool). record row { aboard = a }) (sym waits)
 
 needs_waiting : (stop : Stop) (row : Row) (halt : Halt) (aboard : Bool) → row.aboard ≡ false → (stop.floor == row.from && same_dir stop.dir (dir_of row.from row.to)) ≡ aboard

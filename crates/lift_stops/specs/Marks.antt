@@ -50,3 +50,9 @@ pub record HasHalts (rows : List Row) (position : Position) (marks : Marks) : Ty
   pub needed : (pass : Pass) (place : ℕ) → place < 64
       → has_bit (set_in marks pass) place
       ≡ is_needed rows position (halt_on pass (dir_in position.dir pass) place)
+
+-- For each pass those floors are in its set at which some call needs a halt.
+pub record HasLegs (rows : List Row) (position : Position) (marks : Marks) : Type 0 where
+  pub needed : (pass : Pass) (floor : ℕ) → floor < 64
+      → has_bit (set_in marks pass) floor
+      ≡ is_needed rows position (record { pass = pass; floor = floor })

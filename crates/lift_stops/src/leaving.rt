@@ -64,7 +64,7 @@ impl Leaving {
     {
         let place = goal_of(pass, row);
         let persons = u16::from(row.party.get());
-        self.persons[place] = self.persons[place].saturating_add(persons);
+        self.persons[place] = self.persons[place].wrapping_add(persons);
     }
 
     /// Counts a call less, one of those of a car at this position.

@@ -9,7 +9,7 @@ ghost use Rattle.lift_base.specs.declared.history.Row.{Row as RowValue};
 ghost use Rattle.lift_stops.specs.Insertion.{floor_rank};
 ghost use Rattle.lift_stops.specs.StopList.{HasFloors, legs_of, pass_of, stop_list};
 ghost use Rattle.lift_stops.specs.Leaving.{AreLeaving};
-ghost use Rattle.lift_stops.specs.Marks.{HasHalts, has_bit, marked, halt_on, halts_marked};
+ghost use Rattle.lift_stops.specs.Marks.{HasHalts, HasLegs, has_bit, marked, halt_on, halts_marked};
 ghost use Rattle.lift_stops.specs.Marks.{all_marked};
 
 use crate::leaving::Leaving;
@@ -17,8 +17,9 @@ use crate::stops::pass_of;
 use arrayvec::ArrayVec;
 use lift_base::{Dir, Floor, Halt, MOST_HALTS, Pass, Position, Row};
 
-/// The halts of a car, a set for each pass. Bit n of a set stands for the floor before which a car
-/// that travels all floors in the pass's direction reaches n others.
+/// The halts of a car, a set for each pass. As they are gathered, bit n of a set stands for floor n;
+/// as they are written, for the floor before which a car that travels all floors in the pass's
+/// direction reaches n others.
 #[derive(Clone, Copy)]
 struct Marks {
     first: u64,
@@ -52,28 +53,38 @@ fn halt_on(pass: Pass, dir: Dir, place: u32) -> Halt
     Halt { pass, floor }
 }
 
-/// A set of a pass in this direction, with a floor.
-fn mark(set: u64, dir: Dir, floor: Floor) -> u64
+/// A set with a floor.
+fn mark(set: u64, floor: Floor) -> u64
     ensures bits { (place : ℕ) → place < 64
-        → has_bit result place ≡ (has_bit set place || floor == floor_rank dir place) }
+        → has_bit result place ≡ (has_bit set place || floor == place) }
     ensures floor { floor < 64 }
 {
-    set | 1 << bit_of(dir, floor)
+    set | 1 << u32::from(floor.get())
 }
 
 /// A set of the pass in which a car makes this call, with the floors that the call needs.
 fn mark_legs(set: u64, row: &Row) -> u64
     ensures bits { (place : ℕ) → place < 64 → has_bit result place ≡ (has_bit set place
-        || list_any (λ leg. leg == floor_rank (dir_of row.now.from row.now.to) place)
-        (legs_of row.now)) }
+        || list_any (λ leg. leg == place) (legs_of row.now)) }
     ensures floors { HasFloors row.now }
 {
-    let dir = row.dir();
-    let left = mark(set, dir, row.to);
+    let left = mark(set, row.to);
     if row.aboard {
         left
     } else {
-        mark(left, dir, row.from)
+        mark(left, row.from)
+    }
+}
+
+/// The floors of a set, by how many floors a car that travels all of them in this direction reaches
+/// before each.
+fn along(dir: Dir, set: u64) -> u64
+    ensures { (place : ℕ) → place < 64
+        → has_bit result place ≡ has_bit set (floor_rank dir place) }
+{
+    match dir {
+        Dir::Up => set,
+        Dir::Down => set.reverse_bits(),
     }
 }
 
@@ -86,14 +97,14 @@ fn push_pass(halts: &mut ArrayVec<Halt, MOST_HALTS>, pass: Pass, dir: Dir, set: 
     while left != 0 {
         let place = left.trailing_zeros();
         halts.push(halt_on(pass, dir, place));
-        left &= !(1 << place);
+        left &= left - 1;
     }
 }
 
 impl Marks {
     /// No halts.
     fn new() -> Self
-        ensures { (position : PositionValue) → HasHalts [] position result }
+        ensures { (position : PositionValue) → HasLegs [] position result }
     {
         Marks {
             first: 0,
@@ -105,8 +116,8 @@ impl Marks {
     /// These and the halts of a call that a car makes in this pass.
     fn with(self, pass: Pass, row: &Row) -> Self
         ensures marks { (rows : List RowValue) (position : PositionValue)
-            → pass ≡ pass_of position row.now → HasHalts rows position self
-            → HasHalts (rows ++ row.now ∷ []) position result }
+            → pass ≡ pass_of position row.now → HasLegs rows position self
+            → HasLegs (rows ++ row.now ∷ []) position result }
         ensures floors { HasFloors row.now }
     {
         match pass {
@@ -122,6 +133,18 @@ impl Marks {
                 third: mark_legs(self.third, row),
                 ..self
             },
+        }
+    }
+
+    /// The same in the order in which a car in this direction makes them.
+    fn along(self, dir: Dir) -> Self
+        ensures { (rows : List RowValue) (position : PositionValue) → position.dir ≡ dir
+            → HasLegs rows position self → HasHalts rows position result }
+    {
+        Marks {
+            first: along(dir, self.first),
+            second: along(dir.reverse(), self.second),
+            third: along(dir, self.third),
         }
     }
 
@@ -153,7 +176,7 @@ fn marks_of(rows: &[Row], position: &Position, leaving: &mut Leaving) -> Marks
         marks = marks.with(pass, row);
         leaving.add(pass, row);
     }
-    marks
+    marks.along(position.dir)
 }
 
 /// Writes the halts that a car at this position still has to make for these calls, in the order in

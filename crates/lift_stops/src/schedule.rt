@@ -1,14 +1,17 @@
 //! The stop list of a car, kept while its position and its calls change.
 
 ghost use Rattle.std.specs.Prelude.{◌≡◌, ◌≢◌, ◌+◌, ◌<◌, ◌≤◌, List, [], ◌∷◌, ◌++◌, length, Contains};
-ghost use Rattle.std.specs.Prelude.{All, IsTrue, false};
+ghost use Rattle.std.specs.Prelude.{All, IsTrue, Some, false, slice_get};
 ghost use Rattle.std.specs.List.{flat_map};
 ghost use Rattle.lift_base.specs.declared.history.Row.{Row as RowValue};
+ghost use Rattle.lift_base.specs.declared.travel.Halt.{Halt as HaltValue};
+ghost use Rattle.lift_base.specs.declared.travel.Pass.{Pass as PassValue};
+ghost use Rattle.lift_base.specs.declared.travel.Stop.{Stop as StopValue};
 ghost use Rattle.lift_base.specs.History.{row_after};
 ghost use Rattle.lift_stops.specs.Parts.{AllDiffer};
-ghost use Rattle.lift_stops.specs.StopList.{HasFloors, StopsInOrder, stop_list, next_stop};
+ghost use Rattle.lift_stops.specs.StopList.{HasFloors, StopsInOrder, is_ahead, stop_list, next_stop};
 ghost use Rattle.lift_stops.specs.Schedule.{KeepsPasses, position_after};
-ghost use Rattle.lift_stops.specs.Leaving.{AreCounted, AreLeaving};
+ghost use Rattle.lift_stops.specs.Leaving.{AreCounted, AreLeaving, HasParty};
 
 use crate::leaving::Leaving;
 use crate::marks::write_halts;
@@ -84,6 +87,36 @@ fn keeps_passes(halts: &[Halt], position: &Position, next: &Position) -> bool
     }
 }
 
+/// Whether the first halt is one of the first pass that a car at this position isn't short of.
+fn is_at_first(halts: &[Halt], position: &Position) -> bool
+    ensures { result ≡ false → (halt : HaltValue) → slice_get halts.now 0 ≡ Some halt
+        → halt.pass ≡ PassValue.First
+        → is_ahead position.now.dir position.now.floor halt.floor ≡ false }
+{
+    match halts.first() {
+        Some(halt) => match halt.pass {
+            Pass::First => is_ahead(position.dir, position.floor, halt.floor),
+            Pass::Second | Pass::Third => false,
+        },
+        None => false,
+    }
+}
+
+/// Whether a car may make a halt where it is, as it goes on or as it turns. If not, a stop there
+/// changes none of its calls.
+fn may_halt(halts: &[Halt], leaving: &Leaving, position: &Position) -> bool
+    ensures { result ≡ false → (rows : List RowValue) (stop : StopValue)
+        → position.now ≡ position_after stop → halts.now ≡ stop_list rows position.now
+        → AreLeaving rows position.now leaving.now → All HasFloors rows → All HasParty rows
+        → flat_map (row_after stop) rows ≡ rows }
+{
+    let turned = Halt {
+        pass: Pass::Second,
+        floor: position.floor,
+    };
+    is_at_first(halts, position) || leaving.at(&turned) > 0
+}
+
 /// Where a car is, its open calls, the halts that it still has to make for them, and how many
 /// persons leave there. After any changes these are the halts of the stop list that is made from
 /// nothing.
@@ -148,6 +181,9 @@ impl Schedule {
           rows = flat_map (row_after stop.now) self.old.rows;
         } }
     {
+        if !may_halt(&self.halts, &self.leaving, &self.position) {
+            return;
+        }
         if !serve_rows(&mut self.rows, &mut self.leaving, stop) {
             return;
         }

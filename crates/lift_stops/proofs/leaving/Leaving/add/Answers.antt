@@ -16,6 +16,6 @@ returns-clause-added c rows position short made leaving =
     let here : get_or table place 0 ≡ leaving_at rows position own =
     ap (λ place. get_or table place 0) at ∙ before.at_each own c.goal_of-place.ensures.floor in
     let few : get_or table place 0 ≤ 15 * length rows = omega (arith, here, before.limit own) in
-    one_leaves rows row position table place c.saturating_add.result c.goal_of-place.ensures.floor
+    one_leaves rows row position table place _ c.goal_of-place.ensures.floor
     (omega (arith, c.get.ensures.value, c.get.ensures.in_range)) at
-    (omega (arith, few, short, c.saturating_add.ensures, c.from-persons.ensures, c.get.ensures.value, c.get.ensures.in_range)) before
+    (omega (arith, few, short, c.from-persons.ensures, c.get.ensures.value, c.get.ensures.in_range)) before

@@ -1,4 +1,4 @@
-use Rattle.std.proofs.Common.{rules, ◌≡◌, All, List, length, ap, ◌∙◌, arith}
+use Rattle.std.proofs.Common.{◌≡◌, All, List, length, ap, ◌∙◌, arith}
 use Rattle.std.specs.List.{flat_map}
 use Rattle.lift_base.specs.History.{row_after}
 use Rattle.lift_base.specs.declared.history.Row.{Row}
@@ -22,7 +22,7 @@ invariant_of-self-2 c =
     let planned = c.self.invariant in
     let at : position ≡ position_after stop = ap (λ (s : ScheduleState). s.position) c.self.view_is ∙ c.requires in
     let after : rows ≡ flat_map (row_after stop) before = c.serve_rows.ensures.rows in
-    let lent : c.deref.result.now ≡ rows = c.deref.ensures.0 in
+    let lent : c.deref-2.result.now ≡ rows = c.deref-2.ensures.0 in
     let listed = c.drop_halts.ensures before stop at (lent ∙ after) planned.listed ∙ ap (λ (rs : List Row). stop_list rs position) lent in
     let floors : All HasFloors rows = rw after (floors_after stop before planned.floors) in
     let parties : All HasParty rows = rw after (parties_after stop before planned.parties) in
@@ -37,24 +37,4 @@ invariant_of-self-2 c =
       floors = floors;
       parties = parties;
       leaving = within_limit rows position c.serve_rows.new.leaving parties counted;
-    }
-
-pub invariant_of-self : goal.invariant_of-self
-invariant_of-self c =
-    let stop = c.args.stop.now in
-    let before : List Row = c.self.inside.rows.items in
-    let rows : List Row = c.serve_rows.new.rows.items in
-    let position : Position = c.self.inside.position in
-    let planned = c.self.invariant in
-    let at : position ≡ position_after stop = ap (λ (s : ScheduleState). s.position) c.self.view_is ∙ c.requires in
-    let after : rows ≡ flat_map (row_after stop) before = c.serve_rows.ensures.rows in
-    let same : rows ≡ before = c.serve_rows.ensures.unchanged (search rules) in
-    let counted : AreCounted rows position c.serve_rows.new.leaving = rw (after, at) (c.serve_rows.ensures.leaving (rw (← at) (leaving_counted before position c.self.inside.leaving planned.leaving))) in
-    record {
-      listed = rw same planned.listed;
-      short = rw same planned.short;
-      few = rw same planned.few;
-      floors = rw same planned.floors;
-      parties = rw same planned.parties;
-      leaving = within_limit rows position c.serve_rows.new.leaving (rw same planned.parties) counted;
     }
