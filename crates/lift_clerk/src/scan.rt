@@ -35,6 +35,8 @@ impl Answer {
 }
 
 /// Decides an ask by the rules. While the keeper is broken it isn't known what becomes of it.
+// (most terminals of a turn ask nothing: apart from their loop it leaves that its registers)
+#[inline(never)]
 fn decide<D: Disk, P: Policy>(
     keeper: &mut Keeper<'_, D>,
     policy: &P,
@@ -85,6 +87,14 @@ fn answer_to<D: Disk, P: Policy>(
     }
 }
 
+/// The terminal with this index.
+fn terminal_at(index: usize) -> Terminal
+    requires { index < 63 }
+    ensures { result ≡ index }
+{
+    Terminal::new(index as u8).unwrap()
+}
+
 /// Looks once at each terminal, and decides what is asked there, in rising order, each on the state
 /// that the earlier ones left.
 pub fn scan<D: Disk, P: Policy>(
@@ -105,7 +115,7 @@ pub fn scan<D: Disk, P: Policy>(
     decisions_keep(policy);
     answers.clear();
     for t in 0..desk.len() {
-        let terminal = Terminal::new(t as u8).unwrap();
+        let terminal = terminal_at(t);
         let ask = desk.look(seat, terminal);
         let answer = answer_to(keeper, policy, terminal, &ask);
         push_some(answers, answer);

@@ -189,6 +189,8 @@ impl Desk {
     }
 
     /// Looks once for an ask of the terminal that is new to the clerk.
+    // (each turn looks at each terminal)
+    #[inline(always)]
     pub fn look(&self, clerk: &mut ClerkSeat, terminal: Terminal) -> Option<Ask>
         requires clerk { IsClerkOf self.now clerk.old }
         requires terminal { terminal < length self.now }

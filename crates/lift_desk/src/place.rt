@@ -88,6 +88,7 @@ impl Place {
     }
 
     // Reads the note of an ask that was taken ahead, if there is one, and then looks once.
+    #[inline(always)]
     pub(crate) fn look(&mut self, table: &DeskTable, note: Option<Note>) -> Option<Ask>
         requires table { (self.old.table ≡ table.now.shared.table_id)
             × (table.now.shared.table_id.words ≡ 2) }

@@ -184,6 +184,7 @@ fn carry_out(
 /// Carries out the line with this number, counted from 1, and adds what it reports. A malformed
 /// line, or one that names what the building lacks, ends the run. Empty lines and those that begin
 /// with `#` are skipped. None where the next line is to be carried out.
+#[inline(always)]
 pub fn push_line(
     report: &mut String,
     station: &mut Station,

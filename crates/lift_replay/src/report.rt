@@ -14,15 +14,24 @@ use lift_base::{Dir, Floor, Halt, Letter, Number, Party, Reason, Reply, Row, Sto
 use lift_building::BuildingFault;
 use lift_register::Register;
 
-/// Adds a number. A turn tells several, so it is done without a formatter, and most of them have
-/// one digit.
+/// Adds a number of any length. It is done without a formatter.
+#[inline(never)]
+fn push_long(report: &mut String, number: u64) -> Result<(), NoMemory>
+    ensures { OnOk result (string_bytes report.new ≡ string_bytes report.old ++ decimal number) }
+{
+    add(report, Buffer::new().format(number))
+}
+
+/// Adds a number. A turn tells several, and most of them have one digit: that is added without a
+/// call.
+#[inline(always)]
 fn push_number(report: &mut String, number: u64) -> Result<(), NoMemory>
     ensures { OnOk result (string_bytes report.new ≡ string_bytes report.old ++ decimal number) }
 {
     if number < 10 {
         return add_char(report, (b'0' + number as u8) as char);
     }
-    add(report, Buffer::new().format(number))
+    push_long(report, number)
 }
 
 /// Adds the name of a terminal.

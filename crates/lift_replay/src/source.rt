@@ -41,6 +41,7 @@ fn without_return(line: &str) -> &str
 
 /// A line without its end (a line feed, with a carriage return before it or none), and what stands
 /// after it; none where the text is at its end. The last line may lack its end.
+#[inline(always)]
 fn next_line(text: &str) -> Option<(&str, &str)>
     ensures first { IfSome result (λ found. lines text.now ≡ found.0.now ∷ lines found.1.now) }
     ensures shorter { IfSome result (λ found. length found.1.now < length text.now) }

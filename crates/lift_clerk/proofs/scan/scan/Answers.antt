@@ -1,5 +1,4 @@
-use Rattle.std.proofs.Common.{◌≡◌, ◌+◌, length, ℕ, suc, Option, sym, ap, ◌∙◌, subst, arith, length-append}
-use Rattle.std.specs.Prelude.{IfSome}
+use Rattle.std.proofs.Common.{◌≡◌, ◌+◌, length, ℕ, suc, sym, ap, ◌∙◌, subst, arith, length-append}
 use Rattle.std.specs.Option.{option_to_list}
 use Rattle.std.proofs.lemmas.List.{length-map}
 use Rattle.lift_desk.specs.Seats.{ClerkPlace}
@@ -18,13 +17,13 @@ loop-t-preserved g c =
     let found = c.look-ask.result in
     let more = option_to_list c.answer_to-answer.result in
     let after = c.answer_to-answer.new.keeper.state in
-    let terminal : c.unwrap-terminal.result ≡ t = subst (λ (o : Option ℕ). IfSome o (λ n. n ≡ t)) c.unwrap-terminal.ensures c.new.ensures.value in
+    let terminal : c.terminal_at-terminal.result ≡ t = c.terminal_at-terminal.ensures in
     let count = c.len-t-end.ensures.count in
     let many : length c.args.seat.now ≡ length c.args.desk.now = sym (length-map c.args.seat.now (λ (p : ClerkPlace). p.table)) ∙ ap length c.requires.seated in
     let still : length c.loop-t.seat ≡ length c.args.desk.now = sym (length-map c.loop-t.seat (λ (p : ClerkPlace). p.table)) ∙ ap length i.seated in
     let look = c.look-ask.ensures in
     let looked = subst (λ n. Looked FindsAt c.loop-t.seat c.look-ask.new.clerk n look.looked.0 found) terminal
-    (looked-at c.loop-t.seat c.look-ask.new.clerk c.unwrap-terminal.result look.looked.0 found (omega arith) look.looked.1 look.looked.2 look.tells) in
+    (looked-at c.loop-t.seat c.look-ask.new.clerk c.terminal_at-terminal.result look.looked.0 found (omega arith) look.looked.1 look.looked.2 look.tells) in
     let same = subst (λ n. terminals_in more ≡ terminals_of (command_at n found)) terminal c.answer_to-answer.ensures.terminal in
     let decides = subst (λ (w : WriterView g.row.D.Denot). Decides w.is_broken w.plan choice c.loop-t.keeper.state (command_at t found) (replies_in more) after) i.writer
     (subst (λ n. Decides c.loop-t.keeper.writer.is_broken c.loop-t.keeper.writer.plan choice c.loop-t.keeper.state (command_at n found) (replies_in more) after) terminal c.answer_to-answer.ensures.decides) in
