@@ -242,7 +242,7 @@ impl Desk {
     }
 
     /// Tells the clerk what the terminal has asked so far, and the terminal what the clerk has
-    /// answered so far: behind a later look that ask is taken, and behind a later `hear` that
+    /// answered so far: after a later look that ask is taken, and after a later `hear` that
     /// answer is heard. It stores nothing, and gives nothing of what it loads.
     pub fn tell(&self, seat: &mut Seat, clerk: &mut ClerkSeat)
         requires seat { IsSeatOf self.now seat.old }
@@ -329,7 +329,7 @@ impl Desk {
         place.take(table)
     }
 
-    /// Tells these seats what the terminal has asked so far: behind a later look the last of it, or
+    /// Tells these seats what the terminal has asked so far: after a later look the last of it, or
     /// a later ask, is taken. What they took until then was asked. It stores nothing, and gives
     /// nothing of what it loads.
     pub fn tell_ahead(&self, seat: &mut Seat, ahead: &mut TakeSeat)

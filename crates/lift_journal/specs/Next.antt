@@ -29,7 +29,7 @@ pub record MovesCursor {D : Type 0} (old : JournalView D) (from : CursorView) (n
       × (to.given ≡ from.given + 1)))
   -- the end is told after all used sectors alone, and without a call
   pub ends : result ≡ Ok None → (old.used ≤ from.skipped) × (new ≡ old) × (to ≡ from)
-  -- and it always is there, so that nothing is read behind the closing gate
+  -- and it always is there, so that nothing is read after the closing gate
   pub behind : old.is_broken ≡ false → old.used ≤ from.skipped → result ≡ Ok None
   pub refused : OnErr result (to ≡ from)
   pub stays : (new.is_second ≡ old.is_second) × (new.used ≡ old.used) × (new.number ≡ old.number)

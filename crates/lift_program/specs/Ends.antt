@@ -124,7 +124,8 @@ line_at_end (Unshown fault left) = told_line fault
 line_at_end (Unserved fault left) = told_line fault
 line_at_end (OtherWords unused) = Some (usage_text ++ 10 ∷ [])
 
--- This line was told, if there is one, or a front of it and then the writer failed; and nothing else.
+-- This line was told, if there is one, or a prefix of it and then the writer failed; and nothing
+-- else.
 abbrev pub TellsLine : {E : Type 0} → (contents : E → Option (List ℕ)) → Option (List ℕ)
     → (old new : OutputState E) → Type 0
 TellsLine contents None old new = new ≡ old
@@ -249,7 +250,7 @@ uncalled reader = record { reader = reader; calls = 0; failed = false; ended = f
 abbrev pub IsUncalled : {R : Type 0} → InputState R → Type 0
 IsUncalled old = (old.calls ≡ 0) × (old.failed ≡ false) × (old.ended ≡ false)
 
--- What was written is the report of the input, with this verdict; or a front of it.
+-- What was written is the report of the input, with this verdict; or a prefix of it.
 abbrev pub ReportsAll : (input before after : Option (List ℕ)) → Result Verdict Fault → Type 0
 ReportsAll input before after (Ok verdict) = ReportsInput input before after verdict
 ReportsAll input before after (Err fault) = ReportsFront input before after
@@ -397,13 +398,13 @@ IsEndFor files gives request before after (OtherWords unused) = ⊥
 abbrev pub serving_text : ℕ → List ℕ
 serving_text port = codes "serving " ++ decimal port ++ 10 ∷ []
 
--- what says that a port is served was written, or a front of it
+-- what says that a port is served was written, or a prefix of it
 abbrev pub SaysFront : ℕ → (before after : Option (List ℕ)) → Type 0
 SaysFront port before after = (count : ℕ) × Appends before after (take count (serving_text port))
 
--- What is written for a request, however it ends: for a script a front of the report of the input;
--- for a journal that is made nothing; for one that is shown a front of its open calls; for a
--- serving a front of what says so.
+-- What is written for a request, however it ends: for a script a prefix of the report of the input;
+-- for a journal that is made nothing; for one that is shown a prefix of its open calls; for a
+-- serving a prefix of what says so.
 abbrev pub WritesFor : CommandFiles → (input : Option (List ℕ)) → Request
     → (before after : Option (List ℕ)) → Type 0
 WritesFor files input Replay before after = ReportsFront input before after

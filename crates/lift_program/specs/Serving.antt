@@ -52,9 +52,9 @@ pub record IsServing (files : CommandFiles) (gives : Option Listener → Type 0)
   pub ready : IsReadyOver files gives image building keeper listener
   pub served : IsServedOver files.image.served_state policy listener sessions keeper fault left ending
   -- Every letter is kept over power cuts, if the file is an honest device: where each image that the
-  -- recovery may have found keeps a front of what was accepted, over whatever register the journal
+  -- recovery may have found keeps a prefix of what was accepted, over whatever register the journal
   -- began with, and these answers, a crash at any moment until the end leaves what keeps such a
-  -- front, and them and all that was answered until then.
+  -- prefix, and them and all that was answered until then.
   pub keeps : (files.image.served_state ready.has.opened).is_honest → (base : RegisterState)
       (accepted : List Entry) (given : List Taken)
       → LeavesNow (files.image.served_state ready.has.opened)

@@ -189,7 +189,7 @@ impl<'d, 'b, D: Disk, K> Flusher<'d, 'b, D, K> {
         ensures flushes { IsFlush D.state self.old self.new result }
         ensures calls { CommitCalls D.state self.old.writer
             (length (entries_received self.old.end self.new.end)) self.new.writer result }
-        // Where the device failed first, the witness heard of that, once.
+        // Where the device failed first, the witness was notified, once.
         ensures heard { FailureHeard V.hears
             self.old.writer.is_broken self.new.writer.is_broken witness.old witness.new }
         // A batch that it was told of, it receives.

@@ -68,7 +68,7 @@ asking_at terminals terminal = slice_index_or terminals terminal unasked
 abbrev pub new_terminals : Plan → List Asking
 new_terminals plan = replicate (16 + length plan.kiosks) unasked
 
--- no car has told where it is
+-- no car has reported where it is
 abbrev pub no_positions : List (Option Position)
 no_positions = replicate 16 None
 

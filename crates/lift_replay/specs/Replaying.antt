@@ -39,7 +39,7 @@ abbrev pub WritesReport : (List ℕ → Verdict → Type 0) → (before after : 
 WritesReport IsSuch before after verdict = (report : List ℕ) × IsSuch report verdict
     × Appends before after report
 
--- what was written is a front of such a report
+-- what was written is a prefix of such a report
 abbrev pub WritesFront : (List ℕ → Verdict → Type 0) → (before after : Option (List ℕ)) → Type 0
 WritesFront IsSuch before after = (report : List ℕ) × (verdict : Verdict) × IsSuch report verdict
     × AppendsFront before after report
@@ -49,7 +49,7 @@ abbrev pub ReportsInput : (input before after : Option (List ℕ)) → Verdict �
 ReportsInput input before after verdict = (bytes : List ℕ) × IsInput input bytes
     × WritesReport (IsReport bytes) before after verdict
 
--- or a front of it
+-- or a prefix of it
 abbrev pub ReportsFront : (input before after : Option (List ℕ)) → Type 0
 ReportsFront input before after = (bytes : List ℕ) × IsInput input bytes
     × WritesFront (IsReport bytes) before after

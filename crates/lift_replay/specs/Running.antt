@@ -40,7 +40,7 @@ Continues plan count g script text later next rest =
     (more : List ℕ) (verdict : Verdict) → TellsLines plan later next rest more verdict
     → TellsLines plan count g script (text ++ more) verdict
 
--- The lines tell some text of the group, and the report grew by a front of it.
+-- The lines tell some text of the group, and the report grew by a prefix of it.
 abbrev pub TellsPart : Plan → (count : ℕ) → ScriptGroup → List (List ℕ)
     → (old new : Option (List ℕ))
     → (before after : List ℕ) → Type 0

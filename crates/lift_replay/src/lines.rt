@@ -47,7 +47,7 @@ pub enum End {
 /// The fault that a line reports which would show more than what is safe: the journal is broken.
 const BROKEN: u8 = 5;
 
-/// A terminal asks, or is told why it can't.
+/// A terminal asks, or the report says why it can't.
 fn push_ask(
     report: &mut String,
     station: &mut Station,

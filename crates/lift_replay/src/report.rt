@@ -14,7 +14,7 @@ use lift_base::{Dir, Floor, Halt, Letter, Number, Party, Reason, Reply, Row, Sto
 use lift_building::BuildingFault;
 use lift_register::Register;
 
-/// Adds a number. A turn tells several, so it is done without a formatter, and most of them have
+/// Adds a number. A turn reports several, so it is done without a formatter, and most of them have
 /// one digit.
 fn push_number(report: &mut String, number: u64) -> Result<(), NoMemory>
     ensures { OnOk result (string_bytes report.new ≡ string_bytes report.old ++ decimal number) }

@@ -11,7 +11,7 @@ use Rattle.lift_serve.specs.declared.attending.Outcome.{Outcome}
 use Rattle.lift_serve.specs.declared.attending.Outcome.TheVariants.{NoLine, Bad, Busy, Unseated}
 use Rattle.lift_serve.specs.declared.attending.Outcome.TheVariants.{Visited}
 
--- all of these bytes were written, or a front of them, before which the writer failed
+-- all of these bytes were written, or a prefix of them, before which the writer failed
 abbrev pub IsSaid : List ℕ → (before after : Sink) → Type 0
 IsSaid bytes before after = Takes bytes before after
     ⊎ ((count : ℕ) × TakesFront count bytes before after)

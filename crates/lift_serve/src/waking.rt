@@ -1,4 +1,4 @@
-//! A connection's writer that wakes another session behind each write.
+//! A connection's writer that wakes another session after each write.
 
 ghost use Rattle.std.specs.Prelude.{◌≡◌};
 

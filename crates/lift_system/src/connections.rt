@@ -11,7 +11,7 @@ const SILENCE_S: i32 = 10;
 /// How long it waits before it asks again, s.
 const AGAIN_S: i32 = 5;
 
-/// How long the other side may leave a question or what was sent to it unacknowledged, ms: behind
+/// How long the other side may leave a question or what was sent to it unacknowledged, ms: after
 /// two questions more the connection ends.
 const UNACKNOWLEDGED_MS: i32 = 25_000;
 
