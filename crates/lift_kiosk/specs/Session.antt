@@ -40,7 +40,7 @@ abbrev pub later : LastLetter → ℕ → Option ℕ → LastLetter
 later last number letter =
     if nat_lt last.number number then record { number = number; letter = letter } else last
 
--- the last command, as the greeting tells it
+-- the last command, as the greeting says it
 abbrev pub letter_part : Option ℕ → List ℕ
 letter_part None = []
 letter_part (Some letter) = 32 ∷ letter_text letter
@@ -241,7 +241,7 @@ abbrev pub IsSession : (wants : List ℕ → Wanted → Type 0)
 IsSession wants keeps limits end before after = EndsAtOnce keeps limits end before after
     ⊎ EndsBehind wants keeps limits end before after
 
--- A session, and what its end tells. It called the reader as often as the limits say at most. One
+-- A session, and what its end says. It called the reader as often as the limits say at most. One
 -- that ends late awaits an answer and has made all looks for it; one that ends spent has no turn
 -- left; one that ends closed found the reader's end; after a fault a call of the reader or of the
 -- writer had failed.

@@ -68,7 +68,7 @@ last_cut (ReaderFailed part) = None
 last_cut (CallsUsed part) = None
 last_cut (LastLine line gave cut) = cut
 
--- where the lines end, and which of them came last, is no longer told
+-- where the lines end, and which of them came last, isn't said
 abbrev pub streams_of : Came → Streams
 streams_of came = record {
   brought = came.brought;

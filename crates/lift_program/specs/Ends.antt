@@ -64,7 +64,7 @@ exit_status_of (OtherWords unused) = 2
 abbrev pub told_line : Fault → Option (List ℕ)
 told_line fault = Some (fault_text fault ++ 10 ∷ [])
 
--- the line that is told, none where there is nothing to tell
+-- the line on standard error, none where there is nothing to report
 abbrev pub line_of : {M S V F O : Type 0} → End M S V F O → Option (List ℕ)
 line_of (Replayed verdict unused) = None
 line_of (Formatted disk) = None
@@ -78,7 +78,7 @@ line_of (Unshown fault left) = told_line fault
 line_of (Unserved fault left) = told_line fault
 line_of (OtherWords unused) = Some (usage_text ++ 10 ∷ [])
 
--- that a device failed is told at once, while the building is served
+-- that a device failed is reported at once, while the building is served
 abbrev pub line_at_once_in : Option Fault → Option (List ℕ)
 line_at_once_in None = None
 line_at_once_in (Some (Building fault)) = None
@@ -98,7 +98,7 @@ line_at_end_in (Some (Memory no_memory)) = told_line (Memory no_memory)
 line_at_end_in (Some Network) = told_line Network
 line_at_end_in (Some Thread) = told_line Thread
 
--- the line that is told before the end, none but of a device that failed while it was served
+-- the line that is written before the end, none but of a device that failed while it was served
 abbrev pub line_at_once : {M S V F O : Type 0} → End M S V F O → Option (List ℕ)
 line_at_once (Replayed verdict unused) = None
 line_at_once (Formatted disk) = None
@@ -111,7 +111,7 @@ line_at_once (Unshown fault left) = None
 line_at_once (Unserved fault left) = None
 line_at_once (OtherWords unused) = None
 
--- the line that is told at the end, none where it was told before
+-- the line that is written at the end, none where it was written before
 abbrev pub line_at_end : {M S V F O : Type 0} → End M S V F O → Option (List ℕ)
 line_at_end (Replayed verdict unused) = None
 line_at_end (Formatted disk) = None
@@ -124,14 +124,14 @@ line_at_end (Unshown fault left) = told_line fault
 line_at_end (Unserved fault left) = told_line fault
 line_at_end (OtherWords unused) = Some (usage_text ++ 10 ∷ [])
 
--- This line was told, if there is one, or a prefix of it and then the writer failed; and nothing
+-- This line was written, if there is one, or a prefix of it and then the writer failed; and nothing
 -- else.
 abbrev pub TellsLine : {E : Type 0} → (contents : E → Option (List ℕ)) → Option (List ℕ)
     → (old new : OutputState E) → Type 0
 TellsLine contents None old new = new ≡ old
 TellsLine contents (Some line) old new = IsWrittenOrFailed contents old new line
 
--- that a device failed was told
+-- that a device failed was reported
 abbrev pub IsFailureTold : {E : Type 0} → (contents : E → Option (List ℕ))
     → (old new : OutputState E) → Type 0
 IsFailureTold contents old new =
@@ -448,7 +448,7 @@ IsReportOfFault Network before after = after ≡ before
 IsReportOfFault Thread before after = Unit {0}
 
 -- what was written, by the end: of a script the report of the input, and of a serving what says so;
--- for other words it is told beside this
+-- for other words it is written beside this
 abbrev pub IsReportOfEnd : {M S V F O : Type 0} → (input : Option (List ℕ)) → End M S V F O
     → (before after : Option (List ℕ)) → Type 0
 IsReportOfEnd input (Replayed verdict unused) before after = ReportsInput input before after verdict

@@ -37,7 +37,7 @@ WriterHasFailed {W} gives flushes old new =
     ⊎ ((last : W) × TakesSomeEachCall gives old last × flushes last false new)
 
 -- How the standard output was called: what is written ends well only with a flush after it that
--- did not fail; the output is told as the fault only where it has failed, and memory only where no
+-- did not fail; the output is the fault only where it has failed, and memory only where no
 -- call failed but a flush.
 pub record IsOutputSettled {W : Type 0} (gives : W → List ℕ → Option ℕ → W → Type 0)
     (flushes : W → Bool → W → Type 0) (old new : W) (result : Result Unit Fault) : Type 0 where

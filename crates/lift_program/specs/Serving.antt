@@ -30,7 +30,7 @@ pub record IsReadyOver (files : CommandFiles) (gives : Option Listener → Type 
   pub here : gives (Some listener)
 
 -- The keeper's building was served at this socket with this policy, and the serving ended so. What is
--- told is that the device failed, exactly where it did, and else what the serving was refused.
+-- reported is that the device failed, exactly where it did, and else what the serving was refused.
 -- Connections have ended only where so many have at this socket, and where nothing was refused they
 -- have. This is the device as it was left.
 pub record IsServedOver {D : Type 0} (state : D → DiskState) (policy : Shipped)

@@ -174,8 +174,8 @@ impl<'d, 'b, D: Disk, K> Flusher<'d, 'b, D, K> {
 
     /// One turn: receives one batch, makes it safe, then looks once more at each of its commands'
     /// terminals, and answers each command, which its look gives, with the batch's reply. After a
-    /// device fault it answers Unknown to that batch and all later ones. The witness hears of that
-    /// fault in the call that never waits, by which the batch is settled.
+    /// device fault it answers Unknown to that batch and all later ones. The witness is notified of
+    /// that fault in the call that never waits, by which the batch is settled.
     ///
     /// `Journal(Disk)` where a call of the device failed, `Journal(Broken)` while it is broken,
     /// also where the line was empty.

@@ -143,7 +143,7 @@ impl<'d, 'b, D: Disk, P: Policy + Drop, K> HeldClerk<'d, 'b, D, P, K> {
 
     /// It after one turn more, and what that answers. Whatever had been answered before, each image
     /// that a crash at any moment of the turn may leave keeps, and what the turn answers is kept
-    /// from then on. Where the device fails first in it, the witness hears of that.
+    /// from then on. Where the device fails first in it, the witness is notified.
     pub fn turn<V: Witness>(self, witness: &mut V) -> (Self, Result<Counts, KeeperFault>)
     where
         K: HeardBy<V>,

@@ -1,4 +1,4 @@
--- A prefix of what the lines tell.
+-- A prefix of what the lines report.
 use Rattle.std.proofs.Common.{◌≡◌, ℕ, List, [], ◌++◌, take, drop, take-append-drop, refl, sym, ap, ◌∙◌, subst}
 use Rattle.std.specs.Prelude.{Option, Some, None, Result, Ok, Err, OnErr, IfOk}
 use Rattle.std.proofs.lemmas.List.{append_assoc, append-nil}
@@ -89,7 +89,7 @@ pub tells_torn : (plan : Plan) (count : ℕ) (g : ScriptGroup) (script : List (L
 tells_torn plan count g script old new n piece after appends none =
     let told = lines_total plan count g script in (told.0, told.1, told.2, torn_part old new n piece after told.0 appends none)
 
--- the later lines told a prefix
+-- the later lines reported a prefix
 pub tells_more : (plan : Plan) (count later : ℕ) (g next : ScriptGroup) (script rest : List (List ℕ)) (old mid new : Option (List ℕ)) (piece kept after text : List ℕ)
     → Continues plan count g script text later next rest → Reports old mid piece kept text → TellsPart plan later next rest mid new kept after → TellsPart plan count g script old new piece after
 tells_more plan count later g next script rest old mid new piece kept after text leads reports (more, verdict, tells, part) =
@@ -128,7 +128,7 @@ pub tells_all : (plan : Plan) (count : ℕ) (g : ScriptGroup) (script : List (Li
     → (all : List ℕ) × TellsLines plan count g script all verdict × Reports old new piece after all → TellsPart plan count g script old new piece after
 tells_all plan count g script old new piece after verdict (all, tells, reports) = (all, verdict, tells, whole_part old new piece after all reports)
 
--- all was told, or a prefix of it
+-- all was reported, or a prefix of it
 pub tells_either : {E : Type 0} (plan : Plan) (count : ℕ) (g : ScriptGroup) (script : List (List ℕ)) (old new : Option (List ℕ)) (piece after : List ℕ) (result : Result Verdict E)
     → IfOk result (λ verdict. (all : List ℕ) × TellsLines plan count g script all verdict × Reports old new piece after all) → OnErr result (TellsPart plan count g script old new piece after)
     → TellsPart plan count g script old new piece after

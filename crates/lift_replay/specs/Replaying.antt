@@ -12,7 +12,7 @@ use Rattle.lift_replay.specs.Running.{TellsLines}
 use Rattle.lift_replay.specs.Script.{RefusesBuilding, SaysBuilding, IsText}
 use Rattle.lift_replay.specs.Source.{IsScript, LacksDivider}
 
--- a building that is refused, or what the lines tell from an empty journal on
+-- a building that is refused, or what the lines report from an empty journal on
 abbrev pub IsPartsReport : (building : List ℕ) → List (List ℕ) → List ℕ → Verdict → Type 0
 IsPartsReport building script report verdict = (RefusesBuilding building report × (verdict ≡ Bad))
     ⊎ ((plan : Plan) × SaysBuilding building plan
@@ -25,7 +25,7 @@ IsTextReport text report verdict =
     × IsPartsReport building script report verdict)
 
 -- The first of these that is so: it is too long, it is no UTF-8, it has no divider, its building is
--- refused, or else what its lines tell.
+-- refused, or else what its lines report.
 abbrev pub IsReport : (bytes report : List ℕ) → Verdict → Type 0
 IsReport bytes report verdict =
     ((most_bytes < length bytes) × (report ≡ codes "TOO LONG\n") × (verdict ≡ Bad))

@@ -96,7 +96,7 @@ refused_text reason = codes " NO " ++ decimal (reason_number reason)
 abbrev pub detour_text : (from by to : ℕ) → List ℕ
 detour_text from by to = 32 ∷ decimal from ++ 32 ∷ decimal by ++ 32 ∷ decimal to
 
--- the floors, of a fault that tells some
+-- the floors, of a fault that names some
 abbrev pub floors_text : BuildingFault → List ℕ
 floors_text NotToml = []
 floors_text (Missing field) = []

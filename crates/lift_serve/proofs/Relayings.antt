@@ -145,7 +145,7 @@ not_run choice state a f of_one = record {
   };
 }
 
--- ---- who hears that the device fails
+-- ---- who is notified that the device fails
 module _ {D P : Type 0} (chooses : P → Choice) (choice : Choice) (state : D → DiskState) (a b : AllocatorState P) (f g : FlusherState D) where
   run_stays : (fault : Option RunFault) → HaveRunOrNot choice state a b f g fault → f.writer.is_broken ≡ true → g.writer.is_broken ≡ true
   run_stays None run = let ran = run.ran no_fault in turns_stay state f g None ran.first ran.flusher
@@ -210,7 +210,7 @@ pub come_on : {D P : Type 0} (chooses : P → Choice) (state : D → DiskState) 
     → (fault ≡ Some (Spawn tt) → (b ≡ a) × (g ≡ f)) → (fault ≢ Some (Spawn tt) → HaveRun (chooses a.policy) state a b f g fault) → ∥ ComeOf chooses state clerk b g ∥₁
 come_on chooses state clerk a b f g fault come refused ran = ∥∥₁_map come (come_by chooses state clerk a b f g fault refused ran)
 
--- what is told after the last end, and where all were given up
+-- what is reported after the last end, and where all were given up
 pub told_at_last : (over : Result EndedState (Unit {0})) (first : Option ServeFault) → is_ok over ≡ true → told_behind over first ≡ first
 told_at_last (Ok ended) first is = refl
 told_at_last (Err given_up) first is = absurd (cc)

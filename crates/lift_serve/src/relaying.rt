@@ -36,7 +36,7 @@ pub struct Parts<'d, 'b, D: Disk + Drop, P: Policy + Drop, K: Drop, V: Witness +
     pub clerk: Snapshot<HeldClerk<'d, 'b, D, P, K>>,
     /// What came of their run.
     pub fault: Option<RunFault>,
-    /// Who hears that the device fails.
+    /// Who is notified that the device fails.
     pub witness: V,
     ghost of_one: { AreOfOne allocator flusher },
     ghost come_of: { ∥ ComeOf P.chooses D.state clerk.value allocator flusher ∥₁ },

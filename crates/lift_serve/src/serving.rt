@@ -58,7 +58,7 @@ pub struct ServingOutcome<'b, D: Disk + Drop, K: Drop, V: Witness + Drop> {
     /// What was refused, and that so many connections have ended at the socket, unless all were given
     /// up.
     pub end: ServingEnd,
-    /// Who has heard where the device failed.
+    /// Who was notified where the device failed.
     pub witness: V,
 }
 
@@ -254,8 +254,8 @@ fn unserved<'b, D: Disk + Drop, K: Drop, V: Witness + Drop>(
 ///
 /// The keeper is held for whoever has a `K`. So nothing that waits here can call its device, or answer
 /// an ask, but by a turn of its group, each of which returns: whatever a serving waits for, and
-/// whether or not it ever ends, it has had such turns alone. A turn in which the device fails tells the
-/// witness, and no other: also in a serving that never ends.
+/// whether or not it ever ends, it has had such turns alone. A turn in which the device fails
+/// notifies the witness, and no other: also in a serving that never ends.
 pub fn serve<'b, R, D, P, K, V>(
     rt: &R,
     alloc: Global,
