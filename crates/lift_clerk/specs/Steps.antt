@@ -70,7 +70,7 @@ pub record LeavesInDoubt {D P : Type 0} (old new : ClerkState D P) : Type 0 wher
   pub same_register : new.keeper.writer.register ≡ old.keeper.writer.register
   pub same_plan : new.keeper.writer.plan ≡ old.keeper.writer.plan
 
--- Behind a fault each is answered Unknown, and what is safe or in doubt stays so.
+-- After a fault each is answered Unknown, and what is safe or in doubt stays so.
 pub record AnswersUnknown {D P : Type 0} (old new : ClerkState D P) : Type 0 where
   pub commands : List Command
   pub desk : new.desk ≡ old.desk

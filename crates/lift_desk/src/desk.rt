@@ -175,8 +175,8 @@ impl Desk {
             × (seat.new ≡ seat_with seat.old (with_hearing seat.old.view word))
             × HearsOf seat.old.view word result }
         ensures rests { IsSome result → ¬ (Waits seat.new.view) }
-        // The word loaded is the last that was answered, 0 for none; so all that was answered is
-        // heard then.
+        // The word loaded is the last that is heard then, 0 for none. By the desk's rule it is the
+        // last that was answered: so all of these are heard then.
         ensures last_word { seat.new.view.last ≡ last_of seat.new.view.heard }
         // All answers that the terminal was told of are heard then.
         ensures known { IsPrefix seat.old.view.told seat.new.view.heard }
@@ -306,7 +306,8 @@ impl Desk {
         requires ahead { IsClerkOf self.now ahead.old }
         requires terminal { terminal < length self.now }
         ensures looked { LooksOnce TakesAheadOf ahead.old terminal ahead.new result }
-        // The word loaded is the last that was asked, 0 for none, and it is taken, now or earlier.
+        // The word loaded is the last that is taken then, 0 for none. By the desk's rule it is the
+        // last that was asked.
         ensures last_word { (view_at ahead.new terminal).last
             ≡ last_of (view_at ahead.new terminal).taken }
         // The last ask that the seats were told of, or a later one, is taken then.

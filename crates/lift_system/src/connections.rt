@@ -5,7 +5,7 @@ use std::net::TcpStream;
 use std::os::fd::AsRawFd;
 use std::time::Duration;
 
-/// Behind so long a silence the system asks the other side whether it is there, s.
+/// After so long a silence the system asks the other side whether it is there, s.
 const SILENCE_S: i32 = 10;
 
 /// How long it waits before it asks again, s.

@@ -39,7 +39,7 @@ keeps_first {D} plan other base safe batch given now left same front (inl keeps)
 keeps_first {D} plan other base safe batch given now left same front (inr keeps) =
     (safe ++ batch, now, front, subst (λ (p : Plan). ImageKeeps D p base (safe ++ batch) now left) same keeps)
 
--- Behind these turns, all that was given at the opening has been kept since.
+-- After these turns all that was given at the opening has been kept since.
 record Always {D : Type 0} (state : D → DiskState) (plan : Plan) (base : RegisterState) (first : DiskState)
     (g : FlusherState D) (given now : List Taken) : Type 0 where
   own : g.writer.plan ≡ plan
