@@ -18,6 +18,7 @@ no_tries = record { odd = false; refused = false }
 abbrev pub tried : Tries → Bool → Tries
 tried tries refused = record { odd = not tries.odd; refused = refused }
 
+-- the end that sends
 pub record SendState : Type 0 where
   pub line : TableId
   pub sent : List BatchState
@@ -31,6 +32,7 @@ pub record SendState : Type 0 where
   -- its pushes
   pub tries : Tries
 
+-- the end that receives
 pub record ReceiveState : Type 0 where
   pub line : TableId
   pub received : List BatchState

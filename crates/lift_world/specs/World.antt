@@ -28,6 +28,7 @@ pub record SealedBatch : Type 0 where
   pub commands : List Taken
   pub upto : ℕ
 
+-- what is known between two events
 pub record World : Type 0 where
   pub building : Plan
   pub base : RegisterState  -- what the journal held before the first of these entries
