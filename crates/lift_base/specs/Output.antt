@@ -43,7 +43,7 @@ pub record TakesFront (count : ℕ) (bytes : List ℕ) (before after : Sink) : T
   pub failed : after.failed ≡ true
   pub written : Appends before.written after.written (take count bytes)
 
--- So many calls of a writer took so many of these bytes, one behind the other, and each took one at
+-- So many calls of a writer took so many of these bytes, one after the other, and each took one at
 -- least.
 abbrev pub Wrote : {W : Type 0} → (gives : W → List ℕ → Option ℕ → W → Type 0) → (calls : ℕ)
     → (bytes : List ℕ) → (written : ℕ) → (before after : W) → Type 0

@@ -1,4 +1,4 @@
-//! Want of memory, and the growths that alone tell it.
+//! Want of memory, and the growths that alone answer it.
 ghost use Rattle.std.specs.Prelude.{◌≡◌, ◌+◌, ◌≤◌, ◌++◌, [], ◌∷◌, if◌then◌else◌, is_ok};
 ghost use Rattle.std.specs.Prelude.{length, vec_len, vec_capacity, IfOk, OnOk};
 ghost use Rattle.std.specs.Arc.{arc_value};

@@ -110,7 +110,7 @@ fn main(rt: HostRuntime) -> ExitCode {
     match run(&rt) {
         Ok(()) => ExitCode::from(0),
         Err(fault) => {
-            // where the line can't be written, the status alone tells
+            // where the line can't be written, only the status says so
             let _ = eprintln!(rt; "lift_bench: {}", fault.name());
             ExitCode::from(1)
         }

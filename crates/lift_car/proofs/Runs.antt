@@ -26,7 +26,7 @@ tells_moved told goes before mid after (Some stop) earlier moved tells = tells
 tells_moved told goes before mid after None None moved tells = tells ∙ moved
 tells_moved told goes before mid after None (Some stop) moved tells = ap told tells ∙ moved.1
 
--- behind a run the car tells the last stop heard
+-- after a run the car says that it is at the last stop heard
 pub tells_last : {C : Type 0} (told : C → Position) (goes : C → StopAt → C → Type 0) (looks : ℕ) (replies : List Reply) (before after : Standing C)
     → DoesErrands told goes looks replies before after → TellsStop told before.car (last_stop replies) after.car
 tells_last told goes looks [] before after run = ap (λ s. s.car) run

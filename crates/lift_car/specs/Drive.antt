@@ -32,13 +32,13 @@ pub record Standing (C : Type 0) : Type 0 where
 abbrev pub standing : {C : Type 0} → ℕ → Bool → PortView → C → Standing C
 standing last arrived port car = record { last = last; arrived = arrived; port = port; car = car }
 
--- What it asks: it reports the stop that it went to with its next number, else it tells its place,
--- with number 0.
+-- What it asks: it reports the stop that it went to with its next number, else it reports its
+-- place, with number 0.
 abbrev pub ask_at : (arrived : Bool) → (last : ℕ) → Position → Ask
 ask_at true last position = record { number = last + 1; body = Stop position.floor position.dir }
 ask_at false last position = record { number = 0; body = Place position.floor position.dir }
 
--- the stop that an answer tells
+-- the stop that an answer names
 abbrev pub stop_in : Reply → Option StopAt
 stop_in (Car car) = None
 stop_in (Stopped next) = next
@@ -134,7 +134,7 @@ last_opened last Free = last
 last_opened last (BroughtIn number reply) = last_after last number reply
 last_opened last StillWaits = last
 
--- the last stop that the answers tell
+-- the last stop that the answers name
 abbrev pub later_stop : (later earlier : Option StopAt) → Option StopAt
 later_stop None earlier = earlier
 later_stop (Some stop) earlier = Some stop
@@ -143,7 +143,7 @@ abbrev pub last_stop : List Reply → Option StopAt
 last_stop [] = None
 last_stop (reply ∷ replies) = later_stop (last_stop replies) (stop_in reply)
 
--- the car tells this stop, or it is where it was
+-- the car says that it is at this stop, or it is where it was
 abbrev pub TellsStop : {C : Type 0} → (told : C → Position) → (before : C) → Option StopAt
     → (after : C)
     → Type 0

@@ -15,7 +15,7 @@ use Rattle.lift_kiosk.specs.declared.terms.LastLetter.{LastLetter}
 use Rattle.lift_kiosk.specs.declared.dialect.Wanted.{Wanted}
 use Rattle.lift_kiosk.specs.declared.dialect.Wanted.TheVariants.{Ask as Asks, NoFloor}
 
--- these words tell where a car is, or report a stop
+-- these words say where a car is, or report a stop
 abbrev pub move_words : Option ℕ → (floor : ℕ) → Dir → List (List ℕ)
 move_words None floor dir = codes "PLACE" ∷ decimal floor ∷ dir_text dir ∷ []
 move_words (Some number) floor dir =

@@ -7,9 +7,9 @@ ghost use Rattle.lift_car.specs.Drive.{position_at};
 
 use lift_base::{Position, Stop};
 
-/// A car that tells where it is, and goes to a stop.
+/// A car that says where it is, and goes to a stop.
 pub trait Car {
-    // where it tells to be
+    // where it says that it is
     ghost told: { Self → PositionValue };
 
     // going to a stop takes it from one state to another
@@ -19,7 +19,7 @@ pub trait Car {
     fn tell(&self) -> Position
         ensures { result ≡ told self.now };
 
-    /// Goes to the stop. It then tells that floor and direction.
+    /// Goes to the stop. It then says that floor and direction.
     fn go(&mut self, stop: Stop)
         ensures arrives { told self.new ≡ position_at stop }
         ensures goes { goes self.old stop self.new };

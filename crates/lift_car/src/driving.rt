@@ -36,7 +36,7 @@ fn ask_at(arrived: bool, last: &Number, position: &Position) -> Option<Ask>
     }
 }
 
-/// The number of the last stop, behind an answer.
+/// The number of the last stop, after an answer.
 fn last_behind(last: &Number, number: &Number, reply: &Reply) -> Number
     ensures { result ≡ last_after last.now number.now reply.now }
 {
@@ -52,7 +52,7 @@ fn last_behind(last: &Number, number: &Number, reply: &Reply) -> Number
     }
 }
 
-/// The number of the last stop, behind the start.
+/// The number of the last stop, after the start.
 fn last_behind_opening(last: &Number, opening: &Opening) -> Number
     ensures { result ≡ last_opened last.now opening.now }
 {
@@ -62,7 +62,7 @@ fn last_behind_opening(last: &Number, opening: &Opening) -> Number
     }
 }
 
-/// The stop that an answer tells; an `Err` where it ends the drive.
+/// The stop that an answer names; an `Err` where it ends the drive.
 fn stop_of(reply: &Reply) -> Result<Option<Stop>, Ending>
     ensures stop { IfOk result (λ stop. (stop ≡ stop_in reply.now) × GoesOn reply.now) }
     ensures end { IfErr result (λ end. EndsWith reply.now end) }

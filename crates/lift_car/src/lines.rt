@@ -25,7 +25,7 @@ struct Move {
     dir: Dir,
 }
 
-/// The place that the words behind PLACE spell.
+/// The place that the words after PLACE spell.
 fn place_of(words: &[&str]) -> Option<Move>
     ensures { ReadsMove (codes "PLACE" ∷ map (λ word. word.now) words.now) result }
 {
@@ -43,7 +43,7 @@ fn place_of(words: &[&str]) -> Option<Move>
     }
 }
 
-/// The stop that the words behind STOP spell.
+/// The stop that the words after STOP spell.
 fn stop_of(words: &[&str]) -> Option<Move>
     ensures { ReadsMove (codes "STOP" ∷ map (λ word. word.now) words.now) result }
 {

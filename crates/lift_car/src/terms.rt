@@ -3,7 +3,7 @@
 use lift_base::{Number, Reason};
 use lift_kiosk::End;
 
-/// The number of the last stop that is known to be in, behind a session, and why the session ended.
+/// The number of the last stop that is known to be in, after a session, and why the session ended.
 #[derive(Clone, Copy)]
 pub struct CarEnd {
     pub last: Number,
@@ -25,7 +25,7 @@ pub enum Ending {
     Unknown,
 }
 
-/// The number of the last stop that is known to be in, behind a drive, and why the drive ended.
+/// The number of the last stop that is known to be in, after a drive, and why the drive ended.
 #[derive(Clone, Copy)]
 pub struct DriveEnd {
     pub last: Number,

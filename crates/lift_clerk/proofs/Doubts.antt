@@ -203,7 +203,7 @@ failed_batches_are_failures laws w before after t m agree =
 pub failures_are_failures : {D P : Type 0} → Laws → (choice : Choice) → RunsAreAny choice → FailuresAreFailures D P choice
 failures_are_failures laws choice any w before after t m agree = failed_batches_are_failures laws w before after (leaves_in_doubt choice any before after t) m agree
 
--- What is answered behind a fault is a turn of the broken machine.
+-- What is answered after a fault is a turn of the broken machine.
 pub unknowns_are_broken_turns : {D P : Type 0} → Laws → (w : World) (before after : ClerkState D P) → (t : AnswersUnknown before after) → IsMachineOf w before → LooksAgree w t.commands
     → (letters : List (Option ℕ)) × LeadsToClerk w (events_while_broken t.commands letters) (with_replies t.commands (unknowns t.commands)) (safe_list w) after
 unknowns_are_broken_turns {D} laws w before after t m agree =

@@ -321,7 +321,7 @@ reads_are_no_events w clerk before after t view g c r =
         same_terminal w w u (before u) (after u) refl refl (ap (λ (v : TerminalView). v.asked) same)
         (ap (λ (v : TerminalView). v.heard) same) (g.theirs u)
 
--- a list that begins another with one element at most behind a shorter one is all of that
+-- a list that begins another with one element at most after a shorter one is all of that
 whole_front : {A : Type 0} (xs ys rest : List A) → xs ++ rest ≡ ys → length ys ≤ length xs → xs ≡ ys
 whole_front xs ys [] e few = sym (append-nil xs) ∙ e
 whole_front xs ys (x ∷ rest) e few =

@@ -59,18 +59,18 @@ abbrev pub AtSeat : TerminalSeat → TerminalSeat → (Terminals → Terminals �
 AtSeat old new says = (before after : Terminals) → before old.terminal ≡ old.view
     → ChangesAt before after old.terminal new.view → says before after old.terminal
 
--- By the desk's rule what a terminal heard is a front of what was answered there: `tell` and `meet`
--- say so.
+-- By the desk's rule what a terminal heard is a prefix of what was answered there: `tell` and
+-- `meet` say so.
 abbrev pub HearsAnswers : {D : Type 0} → GroupState D → Terminals → ℕ → Type 0
 HearsAnswers group terminals terminal =
     IsPrefix (terminals terminal).heard (view_at group.seat terminal).answered
 
--- And what was taken of each is a front of what it asked: `tell` says so.
+-- And what was taken of each is a prefix of what it asked: `tell` says so.
 abbrev pub TakesAsks : {D : Type 0} → GroupState D → Terminals → Type 0
 TakesAsks group terminals = (terminal : ℕ)
     → IsPrefix (view_at group.seat terminal).taken (terminals terminal).asked
 
--- So it is with these commands behind what was taken, which a word can spell.
+-- So it is with these commands after what was taken, which a word can spell.
 pub record WereAsked {D : Type 0} (group : GroupState D) (terminals : Terminals)
     (commands : List Command) : Type 0 where
   pub in_range : All IsAsk (map ask_of commands)

@@ -73,7 +73,7 @@ HistoriesAreRuns D = (base : RegisterState) (group : GroupState D) (safe : List 
     (given : List Taken)
     → History base group safe given → IsRunOf base group safe given
 
--- the entries that a `Car` or `Stopped` among these answers told of
+-- the entries that a `Car` or `Stopped` among these answers acknowledges
 abbrev pub acknowledged_in : Plan → List Taken → List Entry
 acknowledged_in plan given = flat_map (told_in plan) given
 

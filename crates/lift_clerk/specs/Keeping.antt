@@ -26,7 +26,7 @@ abbrev pub KeepsEither : Type 0 → Plan → RegisterState → (safe batch : Lis
 KeepsEither D plan base safe batch given left = ImageKeeps D plan base safe given left
     ⊎ ImageKeeps D plan base (safe ++ batch) given left
 
--- It keeps some front of what was accepted.
+-- It keeps some prefix of what was accepted.
 abbrev pub KeepsFront : Type 0 → Plan → RegisterState → (accepted : List Entry) → List Taken → Image → Type 0
 KeepsFront D plan base accepted given left = (entries : List Entry) × IsPrefix entries accepted
     × ImageKeeps D plan base entries given left
@@ -51,7 +51,7 @@ CrashesKeep D =
     → (doubt : IsInDoubt group.keeper.writer.plan group.keeper.writer.register batch left)
     → ImageKeeps D group.keeper.writer.plan base (kept_after safe batch doubt) given left
 
--- One call, whose device was so before it and is so behind it, with at most this batch on its way.
+-- One call, whose device was so before it and is so after it, with at most this batch on its way.
 -- Each image that a crash at any moment of it may leave keeps what was safe before it, or that with
 -- the batch, and all that was given before.
 abbrev pub KeepsThroughout : {D : Type 0} → (base : RegisterState) → (before : GroupState D) (safe : List Entry) (given : List Taken)
@@ -74,7 +74,7 @@ MomentsKeep D state =
     → MomentsStand before batch (state before.keeper.writer.device) (state device)
 
 -- One call leads from one group to another, with at most this batch on its way. So much more is safe
--- behind it, and just these commands were answered in it. What was given before is kept at each
+-- after it, and just these commands were answered in it. What was given before is kept at each
 -- moment of it, and all of it from its end on.
 pub record AdvancesFrom {D : Type 0} (base : RegisterState) (before : GroupState D) (safe : List Entry)
     (given : List Taken) (after : GroupState D) (batch more : List Entry) (told : List Taken)

@@ -184,7 +184,7 @@ pub record ClerkReopens {D P : Type 0} (before after : ClerkState D P) : Type 0 
   pub no_doubt : after.keeper.writer.doubt ≡ []
   pub same_plan : after.keeper.writer.plan ≡ before.keeper.writer.plan
 
--- what is kept of a batch behind what is safe: nothing of it, or all
+-- what is kept of a batch after what is safe: nothing of it, or all
 abbrev pub kept_after : {A B : Type 0} → List Entry → List Entry → A ⊎ B → List Entry
 kept_after safe batch (inl without) = safe
 kept_after safe batch (inr whole) = safe ++ batch

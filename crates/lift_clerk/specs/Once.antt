@@ -1,4 +1,4 @@
--- What one turn of a running clerk tells, and one reopening, whatever they answer.
+-- What one turn of a running clerk says, and one reopening, whatever they answer.
 use Rattle.std.specs.Prelude.{◌≡◌, ◌⊎◌, true, List, Result, Err, IfOk, OnOk, OnErr, is_err}
 use Rattle.lift_base.specs.declared.history.Entry.{Entry}
 use Rattle.lift_disk.specs.Disk.{DiskState}
@@ -20,7 +20,7 @@ use Rattle.lift_clerk.specs.Machine.{ClerkReopens, Stays}
 use Rattle.lift_clerk.specs.History.{History}
 use Rattle.lift_clerk.specs.Keeping.{AdvancesFrom}
 
--- A turn of the machine, or one that the device failed, or one while broken.
+-- A turn that answers Ok, one that the device failed, or one while broken.
 pub record TurnsOnce {D P : Type 0} (state : D → DiskState) (choice : Choice)
     (before after : ClerkState D P) (result : Result Counts KeeperFault) : Type 0 where
   pub turns : IfOk result (IsTurn choice before after)
@@ -50,7 +50,7 @@ pub record ReopensOnce {D P T : Type 0} (state : D → DiskState) (before after 
   pub kept : (after.desk ≡ before.desk) × (after.seat ≡ before.seat)
       × (after.policy ≡ before.policy)
 
--- It is a turn of its group, as what it answers tells: it adds to what is safe and to what was
+-- It is a turn of its group, as what it answers says: it adds to what is safe and to what was
 -- answered. Whatever had happened before, the group's history goes on by whichever turn it is seen
 -- as, and what was given is kept.
 pub record TurnAdvances {D P : Type 0} (state : D → DiskState) (before after : ClerkState D P)

@@ -62,7 +62,7 @@ IsNoEvent group before after = (w : World) (safe : List Entry) (given : List Tak
 
 -- What the group does is these events, in each world that it may be in, by some letters for its
 -- replies, and however many calls a checkpoint makes. Each ask that it took was asked before, so no
--- terminal does anything. This batch is safe then behind the rest, and just these commands have
+-- terminal does anything. This batch is safe then after the rest, and just these commands have
 -- their replies.
 abbrev pub IsDoneBy : {D : Type 0} → GroupState D → GroupState D
     → (List (Option ℕ) → ℕ → List Event) → List Entry → List Taken → Type 0
@@ -117,7 +117,7 @@ DoubtsAreFailures D = (before after : GroupState D) (t : LeavesInDoubt before af
     failed_events t.may.commands letters folds GateWritten (length t.may.decided.batch)) []
     (with_replies t.may.commands (unknowns t.may.commands))
 
--- What is answered behind a fault is a turn of the broken machine.
+-- What is answered after a fault is a turn of the broken machine.
 abbrev pub UnknownsAreBroken : Type 0 → Type 0
 UnknownsAreBroken D = (before after : GroupState D) (t : AnswersUnknown before after)
     → IsDoneBy before after (λ letters folds. events_while_broken t.commands letters) []
@@ -160,7 +160,7 @@ MayComeFirst keeper batch (inl in_doubt) events = events ≡ []
 MayComeFirst keeper batch (inr accepted) events = Unit {0}
 
 -- The power is cut at any moment, with at most this batch on its way, and a clerk begins over what
--- that left, at a new desk: it is a power cut of the machine and its recovery, maybe behind events
+-- that left, at a new desk: it is a power cut of the machine and its recovery, maybe after events
 -- of a turn in which nothing was answered.
 abbrev pub CutsAreCuts : Type 0 → Type 0
 CutsAreCuts D = (w : World) (before after : GroupState D) (terminals fresh : Terminals)

@@ -70,7 +70,7 @@ pub record LeavesInDoubt {D P : Type 0} (old new : ClerkState D P) : Type 0 wher
   pub same_register : new.keeper.writer.register ≡ old.keeper.writer.register
   pub same_plan : new.keeper.writer.plan ≡ old.keeper.writer.plan
 
--- Behind a fault each is answered Unknown, and what is safe or in doubt stays so.
+-- After a fault each is answered Unknown, and what is safe or in doubt stays so.
 pub record AnswersUnknown {D P : Type 0} (old new : ClerkState D P) : Type 0 where
   pub commands : List Command
   pub desk : new.desk ≡ old.desk
@@ -78,7 +78,7 @@ pub record AnswersUnknown {D P : Type 0} (old new : ClerkState D P) : Type 0 whe
   pub was_broken : old.keeper.writer.is_broken ≡ true
   pub rests : new.keeper.writer ≡ old.keeper.writer
 
--- What a turn adds, and whether it fails: which batch is on its way in it, what is safe behind it,
+-- What a turn adds, and whether it fails: which batch is on its way in it, what is safe after it,
 -- and which commands it answers, and how.
 pub data TurnAdds {D : Type 0} (before after : GroupState D) : (fails : Bool)
     → (batch more : List Entry) → List Taken → Type 0 where
@@ -90,7 +90,7 @@ pub data TurnAdds {D : Type 0} (before after : GroupState D) : (fails : Bool)
   InDoubt : (t : LeavesInDoubt before after)
       → TurnAdds before after true after.keeper.writer.doubt []
       (with_replies t.may.commands (unknowns t.may.commands))
-  -- It comes behind a fault: there is what is in doubt.
+  -- It comes after a fault: there is what is in doubt.
   Unknown : (t : AnswersUnknown before after)
       → TurnAdds before after true before.keeper.writer.doubt []
       (with_replies t.commands (unknowns t.commands))

@@ -36,7 +36,7 @@ AreLooksAt IsLook (place ∷ places) (visit ∷ visits) =
 abbrev pub Finds : List ClerkPlace → List Visit → Type 0
 Finds places visits = AreLooksAt FindsAt places visits
 
--- the seats behind these looks
+-- the seats after these looks
 abbrev pub looked_at : List ClerkPlace → List Visit → List ClerkPlace
 looked_at places [] = places
 looked_at [] (visit ∷ visits) = []
@@ -62,7 +62,7 @@ with_reply view (Some ask) [] = view
 with_reply view (Some ask) (reply ∷ replies) =
     with_answer view (reply_word (length view.taken) ask.number reply)
 
--- the replies to the commands behind a look
+-- the replies to the commands after a look
 abbrev pub replies_behind : Option Ask → List Reply → List Reply
 replies_behind None replies = replies
 replies_behind (Some ask) [] = []

@@ -151,8 +151,8 @@ impl<'d, 'b, D: Disk, P: Policy + Drop> Clerk<'d, 'b, D, P> {
         }
     }
 
-    /// Opens the keeper again, also after a fault: no car has told where it is, and the batch is
-    /// empty. It writes nothing, and gives the register that was safe, or that with the batch in
+    /// Opens the keeper again, also after a fault: no car has reported where it is, and the batch
+    /// is empty. It writes nothing, and gives the register that was safe, or that with the batch in
     /// doubt. A refusal leaves it as it was, and a failed call broken. No word of the desk is
     /// touched.
     pub fn reopen(&mut self) -> Result<(), KeeperFault>

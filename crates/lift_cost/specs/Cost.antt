@@ -8,7 +8,7 @@ use Rattle.lift_building.specs.Arrivals.{arrivals_of}
 use Rattle.lift_stops.specs.StopList.{same_halt, halt_at, stop_list}
 use Rattle.lift_cost.specs.declared.call.NewCall.{NewCall}
 
--- the moment beside a halt
+-- the time that stands at the first place of this halt, 0 where the halt isn't there
 abbrev pub moment_at : Halt → List Halt → List ℕ → ℕ
 moment_at halt [] times = 0
 moment_at halt (other ∷ halts) [] = 0

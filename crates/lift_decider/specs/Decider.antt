@@ -21,11 +21,11 @@ abbrev pub state_of : RegisterState → List (Option ScheduleState) → List Ent
 state_of register schedules batch =
     record { register = register; positions = positions_of schedules; batch = batch }
 
--- these calls; no car has told where it is
+-- these calls; no car has reported where it is
 abbrev pub starting : RegisterState → State
 starting register = record { register = register; positions = replicate 16 None; batch = [] }
 
--- no calls, and no car has told where it is
+-- no calls, and no car has reported where it is
 abbrev pub nothing : State
 nothing = starting empty
 

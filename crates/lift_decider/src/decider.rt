@@ -40,14 +40,14 @@ impl<'b> Model for Decider<'b> {
 }
 
 impl<'b> Decider<'b> {
-    /// A decider without calls, in which no car has told where it is.
+    /// A decider without calls, in which no car has reported where it is.
     pub fn new(building: &'b Building) -> Self
         ensures { result ≡ record { plan = building.now; state = nothing } }
     {
         Decider::of(building, Register::empty(building.shape(64)))
     }
 
-    /// A decider that goes on from these calls, in which no car has told where it is.
+    /// A decider that goes on from these calls, in which no car has reported where it is.
     pub fn of(building: &'b Building, register: Register) -> Self
         requires belongs { BelongsTo building.now register }
         requires balanced { IsBalanced register }
@@ -78,7 +78,7 @@ impl<'b> Decider<'b> {
         &self.group.register
     }
 
-    /// The schedules of the cars that have told where they are, each with its car's open calls.
+    /// The schedules of the cars that have reported where they are, each with its car's open calls.
     pub fn schedules(&self) -> &[Option<Schedule>; MOST_CARS]
         ensures positions { positions_of result.now ≡ self.now.state.positions }
         ensures own { AreSchedulesOf self.now.state.register result.now }

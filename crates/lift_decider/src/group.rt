@@ -42,8 +42,9 @@ fn join(
     batch.push(*entry);
 }
 
-/// What decisions read and change: the calls, for each car that has told where it is its open calls
-/// in the order in which it serves them, and the entries that were accepted and not given out.
+/// What decisions read and change: the calls, for each car that has reported where it is its open
+/// calls in the order in which it serves them, and the entries that were accepted and not given
+/// out.
 #[derive(Drop)]
 pub struct Group {
     pub register: Register,
@@ -64,7 +65,7 @@ impl Model for Group {
 }
 
 impl Group {
-    /// These calls; no car has told where it is.
+    /// These calls; no car has reported where it is.
     pub fn of(register: Register) -> Self
         ensures { result ≡ starting register }
     {

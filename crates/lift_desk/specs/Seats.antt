@@ -117,11 +117,12 @@ abbrev pub IsToldAsk : ClerkView → Ask → Type 0
 IsToldAsk v ask = IsAsk ask
     × (v.told ≡ v.taken ++ ask_word (suc (length v.taken)) ask.number ask.body ∷ [])
 
--- what one look of the clerk tells, from what it knew to what it knows then
+-- what one look of the clerk shows, from what it knew to what it knows then
 pub record LookTells (before after : ClerkView) (found : Option Ask) : Type 0 where
   pub even : IsSome found → length before.answered ≡ length before.taken
   pub owes : IfSome found (λ ask. Owes after × (number_of (last_of after.taken) ≡ ask.number))
-  -- the word loaded is the last that was asked, 0 for none; so all that was asked is taken then
+  -- the word loaded is the last that is taken then, 0 for none; by the desk's rule it is the last
+  -- that was asked, so all of these are taken then
   pub last_word : after.last ≡ last_of after.taken
   -- all asks that the clerk was told of are taken then
   pub known : IsPrefix before.told after.taken

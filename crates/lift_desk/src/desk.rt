@@ -175,8 +175,8 @@ impl Desk {
             × (seat.new ≡ seat_with seat.old (with_hearing seat.old.view word))
             × HearsOf seat.old.view word result }
         ensures rests { IsSome result → ¬ (Waits seat.new.view) }
-        // The word loaded is the last that was answered, 0 for none; so all that was answered is
-        // heard then.
+        // The word loaded is the last that is heard then, 0 for none. By the desk's rule it is the
+        // last that was answered: so all of these are heard then.
         ensures last_word { seat.new.view.last ≡ last_of seat.new.view.heard }
         // All answers that the terminal was told of are heard then.
         ensures known { IsPrefix seat.old.view.told seat.new.view.heard }
@@ -244,7 +244,7 @@ impl Desk {
     }
 
     /// Tells the clerk what the terminal has asked so far, and the terminal what the clerk has
-    /// answered so far: behind a later look that ask is taken, and behind a later `hear` that
+    /// answered so far: after a later look that ask is taken, and after a later `hear` that
     /// answer is heard. It stores nothing, and gives nothing of what it loads.
     pub fn tell(&self, seat: &mut Seat, clerk: &mut ClerkSeat)
         requires seat { IsSeatOf self.now seat.old }
@@ -308,7 +308,8 @@ impl Desk {
         requires ahead { IsClerkOf self.now ahead.old }
         requires terminal { terminal < length self.now }
         ensures looked { LooksOnce TakesAheadOf ahead.old terminal ahead.new result }
-        // The word loaded is the last that was asked, 0 for none, and it is taken, now or earlier.
+        // The word loaded is the last that is taken then, 0 for none. By the desk's rule it is the
+        // last that was asked.
         ensures last_word { (view_at ahead.new terminal).last
             ≡ last_of (view_at ahead.new terminal).taken }
         // The last ask that the seats were told of, or a later one, is taken then.
@@ -331,7 +332,7 @@ impl Desk {
         place.take(table)
     }
 
-    /// Tells these seats what the terminal has asked so far: behind a later look the last of it, or
+    /// Tells these seats what the terminal has asked so far: after a later look the last of it, or
     /// a later ask, is taken. What they took until then was asked. It stores nothing, and gives
     /// nothing of what it loads.
     pub fn tell_ahead(&self, seat: &mut Seat, ahead: &mut TakeSeat)

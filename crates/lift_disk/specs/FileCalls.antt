@@ -21,7 +21,7 @@ pub data FileCall : Type 0 where
   SetLength : ℕ → FileCall
   -- all of the file is made safe
   SyncAll : FileCall
-  -- the file's length in bytes, which it told
+  -- the file's length in bytes, which it answered
   GetLength : ℕ → FileCall
   -- what is read of it from now on is what its disk holds
   DropCached : FileCall

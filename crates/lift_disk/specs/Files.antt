@@ -73,8 +73,8 @@ pub record SyncsByCalls {F T E : Type 0} {told : Told F} (result : Result T E)
   pub err : OnErr result (is_known_steady new ≡ false)
 
 -- A device on a file that was there and was not made: it was opened, and after these calls asked for
--- its length, before the calls of the device, and the sectors are the whole ones of what it told. The
--- device is honest exactly where that file was when it was opened, and has what that held.
+-- its length, before the calls of the device, and the sectors are the whole ones of that length.
+-- The device is honest exactly where that file was when it was opened, and has what that held.
 pub record IsMeasured {F : Type 0} {told : Told F} (opens : Option F → Type 0)
     (gives : F → FileCall → F → Type 0) (holds : F → DiskState) (first : List FileCall)
     (d : SectorFile F told) : Type 0 where
@@ -96,7 +96,7 @@ pub record IsMadeDevice {F : Type 0} {told : Told F} (opens : Option F → Type 
   pub honest : (sector_file_state_of holds d).is_honest ↔ (holds made.file).is_honest
 
 -- How an opening stops that makes these calls and then asks for the length: one of them failed,
--- whatever length it would have told, and none was made after it.
+-- whatever length it would have answered, and none was made after it.
 abbrev pub stops_opening : {F : Type 0} → (gives fails : F → FileCall → F → Type 0)
     → (first : List FileCall) → (opened left : F) → Type 0
 stops_opening gives fails first opened left =
@@ -110,11 +110,11 @@ stops_making unnamed gives fails sectors opened left =
     FailsIn gives fails (making_calls sectors) opened left
     ⊎ (LeadsBy gives (making_calls sectors) opened left × unnamed left)
 
--- It was told that no plain file stands there. That nothing was told is no reason to make none.
+-- The system said that no plain file stands there. That it said nothing is no reason to make none.
 abbrev pub stands_in_the_way : (stands : Option Bool → Type 0) → Option Bool → Type 0
 stands_in_the_way stands told = stands told × (told ≡ Some false)
 
--- Why there is no device of what stands at a path. The system didn't tell what stands there, or no
+-- Why there is no device of what stands at a path. The system didn't say what stands there, or no
 -- plain file does: then nothing was opened, and what was to open it comes back. Or the system
 -- didn't open it; or a file was opened, and stopped so.
 abbrev pub IsRefused : {F O : Type 0} → (opener : O) → (stands : Option Bool → Type 0)

@@ -22,7 +22,7 @@ pub struct StoppedFile<F: Drop> {
 /// Why a file can't be a device. Where nothing was opened by it, what opens it comes back.
 #[derive(Drop)]
 pub enum FileFault<F: Drop, O: Drop> {
-    /// The system refused to tell what stands there.
+    /// The system didn't say what stands there.
     Untold(io::Error, O),
     /// A folder, a pipe or another thing that is no plain file stands there.
     NotAFile(O),

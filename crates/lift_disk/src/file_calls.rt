@@ -17,7 +17,7 @@ pub(crate) enum Called<'a> {
     SyncData,
     SetLength(u64),
     SyncAll,
-    /// It told this length.
+    /// It answered this length.
     GetLength(u64),
     DropCached,
     Lock,

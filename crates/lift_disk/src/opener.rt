@@ -24,8 +24,8 @@ pub trait FileOpener: Drop {
     /// At this path the folder names this file for good: a power cut doesn't take the name back.
     ghost names: { Self → List ℕ → Self.Told → Type 0 };
 
-    /// What was told where it was asked whether a plain file stands at a path, nothing where that
-    /// failed.
+    /// What was answered where it was asked whether a plain file stands at a path, nothing where
+    /// that failed.
     ghost stands: { Self → List ℕ → Option Bool → Type 0 };
 
     /// The folder of this path, in which this file was made, couldn't be made safe.

@@ -83,7 +83,7 @@ impl<F: ToldFile + Drop> Disk for SectorFile<F> {
 
     ghost write_gives = { λ old _ _ result new. KeepsKnown result old new };
 
-    // what is cached is dropped behind a sync, unless it is known that this isn't needed
+    // what is cached is dropped after a sync, unless it is known that this isn't needed
     ghost sync_gives = { λ old result new. SyncsByCalls result old new };
 
     ghost whole = { λ d honest. F.whole (file_of d.file) honest.0 ∙ honest.1 };

@@ -61,7 +61,7 @@ fn main(rt: HostRuntime) -> ExitCode {
         Ok(true) => ExitCode::from(0),
         Ok(false) => ExitCode::from(1),
         Err(trouble) => {
-            // where the line can't be written, the status alone tells
+            // where the line can't be written, only the status says so
             let _ = eprintln!(rt; "{trouble}");
             ExitCode::from(2)
         }

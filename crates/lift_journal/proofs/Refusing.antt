@@ -52,7 +52,7 @@ module _ (fault : JournalFault) (old mid new : DiskState) (only : ReadsOnly old 
       by_fault Full same cause is = absurd is
       by_fault Broken same cause is = absurd is
 
--- behind a sync that succeeded, reads leave nothing in doubt, also where one fails
+-- after a sync that succeeded, reads leave nothing in doubt, also where one fails
 pub settled_behind : (old mid new : DiskState) → ReadsOnly old mid → ReadsOnly mid new → (old.is_honest → IsSynced mid) → ReadsOnly old new → old.is_honest → FixesImage old new
 settled_behind old mid new first second synced only honest =
     let honest_mid = first.runs.honest.1 honest in

@@ -39,7 +39,8 @@ pub record JournalReopens {D T : Type 0} (state : D → DiskState) (old new : Jo
   pub second : OnErr result (new.is_second ≡ old.is_second)
   pub number : OnErr result (new.number ≡ old.number)
 
--- A call of a journal breaks it just where a call of the device fails, and a broken one rests.
+-- A call of a journal breaks it just where a call of the device fails. A broken one makes no call
+-- and stays as it is.
 pub record BreaksByFault {D T : Type 0} (state : D → DiskState) (old new : JournalView D)
     (result : Result T JournalFault) : Type 0 where
   pub failed : IsErrOf result Disk → (state old.device).failures < (state new.device).failures

@@ -77,6 +77,7 @@ pub record StandsAt (shape : Shape) (start gate number : ℕ) (disk : DiskState)
   pub at : gate ≡ start_of shape.half disk.image + used batches
   pub counts : number ≡ 1 + length batches
 
+-- what is true of every journal: its place is right, until a call of its device fails
 pub record IsJournal (at : Place) (is_broken : Bool) (opened : ℕ) (disk : DiskState) : Type 0 where
   pub place : HasNextPlace disk.size at.shape at.start at.gate at.number
   pub counted : opened ≤ disk.failures

@@ -14,7 +14,7 @@ use Rattle.lift_journal.specs.Steps.{ReadsOnly}
 use Rattle.lift_journal.specs.Told.{AnswersAsTold}
 use Rattle.lift_journal.specs.Journal.{JournalView, CursorView, IsNext}
 
--- The next of these batches is given, or none at their end, and nothing is told to be damaged.
+-- The next of these batches is given, or none at their end, and nothing is reported as damaged.
 pub record GivesNext (batches : List Batch) (from to : CursorView)
     (result : Result (Option (ArrayVec Record)) JournalFault) : Type 0 where
   pub next : IfOk result (λ found. IsNext batches from to (option_map (λ l. l.items) found))
@@ -27,9 +27,9 @@ pub record MovesCursor {D : Type 0} (old : JournalView D) (from : CursorView) (n
   pub given : IfOk result (λ found. IfSome found (λ records.
       (to.skipped ≡ from.skipped + (1 + body_size (length records.items)))
       × (to.given ≡ from.given + 1)))
-  -- the end is told after all used sectors alone, and without a call
+  -- the end is answered after all used sectors alone, and without a call
   pub ends : result ≡ Ok None → (old.used ≤ from.skipped) × (new ≡ old) × (to ≡ from)
-  -- and it always is there, so that nothing is read behind the closing gate
+  -- and it always is there, so that nothing is read after the closing gate
   pub behind : old.is_broken ≡ false → old.used ≤ from.skipped → result ≡ Ok None
   pub refused : OnErr result (to ≡ from)
   pub stays : (new.is_second ≡ old.is_second) × (new.used ≡ old.used) × (new.number ≡ old.number)
@@ -50,7 +50,7 @@ pub record NextCalls {D : Type 0} (state : D → DiskState) (old : JournalView D
       → HasRead (half_start old.is_second old.shape.half + from.skipped) 2
       (half_start old.is_second old.shape.half + old.shape.half) (state old.device)
       (state new.device)
-  -- damage is told of the cursor's own gate, and no call has failed
+  -- damage is reported of the cursor's own gate, and no call has failed
   pub damaged : (sector : ℕ) → IsErrOf result (Damaged sector)
       → (sector ≡ half_start old.is_second old.shape.half + from.skipped)
       × ((state new.device).failures ≡ (state old.device).failures)

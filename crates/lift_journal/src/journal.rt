@@ -182,7 +182,8 @@ impl<D: Disk> Journal<D> {
         ensures goes { MovesOnOk self.old self.old.is_second
             (self.old.used + body_size (length batch.now.items) + 1) (self.old.number + 1) self.new
             result }
-        // A call of the device that fails breaks it; a broken journal rests.
+        // A call of the device that fails breaks it; a broken journal makes none and stays as it
+        // is.
         ensures breaks { BreaksByFault D.state self.old self.new result }
         // Full just where there is no room, and then nothing is changed.
         ensures refuses { RefusesForRoom self.old (length batch.now.items) self.new result }

@@ -122,7 +122,7 @@ module _ {D : Type 0} (plan : Plan) (journal : JournalView D) (register : Regist
         let now = now_after disk new (MayLeave disk) refuses.moments counts (refuses.moments.honest.1 honest) new.image (changes_nothing new.is_loose new.image) in
         ⊎_elim (λ is. refuses.good honest register is) (λ is. refuses.good honest (register_of register doubt) is) (doubt_of honest new.image now)
 
-    -- behind its sync a refused opening leaves one of the two registers for good
+    -- after its sync a refused opening leaves one of the two registers for good
     pub settled_one : (new : DiskState) (fault : KeeperFault) → RefusesReopening plan disk new fault
         → (new.trace ≡ disk.trace) ⊎ (disk.is_honest → LeavesNow new (IsImageOf plan register) ⊎ LeavesNow new (IsImageOf plan (register_of register doubt)))
     settled_one new fault refuses = ⊎_elim (λ same. inl same) (λ is. inr (λ honest. one_of (is honest) (doubt_of honest new.image (is honest).seen))) refuses.settled

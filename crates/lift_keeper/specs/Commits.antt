@@ -23,16 +23,18 @@ pub record CommitLeaves {D T : Type 0} (state : D → DiskState) (old : WriterVi
   pub acknowledged : OnOk result
       (LeavesNow (state new.device) (IsImageOf old.plan (register_of old.register batch)))
   pub register : OnOk result (new.register ≡ register_of old.register batch)
+  -- where a call failed, every crash from now on leaves one of the two
   pub in_doubt : result ≡ Err (Journal Disk)
       → LeavesNow (state new.device) (IsInDoubt old.plan old.register batch)
 
--- The batch is safe, or in doubt, or the writer was broken and rests: what a commit leaves to a
--- crash, why it fails, and what stays.
+-- The batch is safe, or in doubt, or the writer was broken and stays as it was: what a commit
+-- leaves to a crash, why it fails, and what stays.
 pub record Commits {D T : Type 0} (state : D → DiskState) (old : WriterView D) (batch : List Entry)
     (new : WriterView D) (result : Result T KeeperFault) : Type 0 where
   pub safe : CommitLeaves state old batch new result
   pub causes : IfErr result (λ fault. (fault ≡ Journal Disk) ⊎ (fault ≡ Journal Broken))
   pub broken : (result ≡ Err (Journal Broken)) ↔ (old.is_broken ≡ true)
+  -- a call has failed within it
   pub failed : result ≡ Err (Journal Disk)
       → (state old.device).failures < (state new.device).failures
   -- a broken one makes no call
@@ -43,6 +45,7 @@ pub record Commits {D T : Type 0} (state : D → DiskState) (old : WriterView D)
   pub since : OnErr result (new.opened < (state new.device).failures)
   pub doubts : result ≡ Err (Journal Disk) → new.doubt ≡ batch
   pub unmoved : OnErr result (new.register ≡ old.register)
+  -- no call failed, and nothing is broken or in doubt
   pub whole : OnOk result ((state new.device).failures ≡ (state old.device).failures)
   pub stays : OnOk result ((new.is_broken ≡ false) × (new.doubt ≡ []))
   pub same : (new.plan ≡ old.plan) × (new.half ≡ old.half) × (new.opened ≡ old.opened)

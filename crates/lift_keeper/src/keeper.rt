@@ -44,7 +44,8 @@ impl<'b, D: Disk> Model for Keeper<'b, D> {
 
 impl<'b, D: Disk> Keeper<'b, D> {
     /// Opens a device that a crash may have left, with the building that its journal is of: the
-    /// recovery. It writes nothing. No car has told where it is. An `Err` hands the device back.
+    /// recovery. It writes nothing. No car has reported where it is. An `Err` hands the device
+    /// back.
     ///
     /// `Journal` with the journal's faults 1 to 3, then `OtherBuilding`, then `BadEntry`;
     /// `Journal(Disk)` where a call of the device failed: of an inert one that was the last.
@@ -121,7 +122,7 @@ impl<'b, D: Disk> Keeper<'b, D> {
         self.writer.register()
     }
 
-    /// The schedules of the cars that have told where they are, each with its car's open calls:
+    /// The schedules of the cars that have reported where they are, each with its car's open calls:
     /// their positions, and where they stop.
     pub fn positions(&self) -> &[Option<Schedule>; MOST_CARS]
         ensures positions { positions_of result.now ≡ self.now.state.positions }
@@ -183,8 +184,8 @@ impl<'b, D: Disk> Keeper<'b, D> {
         Ok(())
     }
 
-    /// Opens it again, also after a fault: no car has told where it is, and the batch is empty. It
-    /// writes nothing, and gives the register that was safe, or that with the batch in doubt. A
+    /// Opens it again, also after a fault: no car has reported where it is, and the batch is empty.
+    /// It writes nothing, and gives the register that was safe, or that with the batch in doubt. A
     /// refusal leaves it as it was, but that a failed call leaves it broken: a later batch goes
     /// where it would have gone before.
     pub fn reopen(&mut self) -> Result<(), KeeperFault>

@@ -1,4 +1,4 @@
--- Looks without an answer, and a rest behind each.
+-- Looks without an answer, and a rest after each.
 use Rattle.std.proofs.Common.{◌≡◌, ℕ, ◌+◌, ap, ◌∙◌, arith}
 use Rattle.lift_kiosk.specs.Port.{PortView}
 use Rattle.lift_kiosk.specs.Hearing.{missed, rested, looked}

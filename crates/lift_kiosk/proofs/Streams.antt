@@ -164,7 +164,7 @@ module _ (wants : List ℕ → Wanted → Type 0) (unique : (line : List ℕ) (o
   ends_all [] before after run = refl
   ends_all (x ∷ xs) before after run = goes_on x.1 (ends_in xs) run.2 ∙ ends_all xs run.0 after run.3
 
-  -- all of a session behind its greeting, by its lines and the last of them
+  -- all of a session after its greeting, by its lines and the last of them
   record Follows (end : End) (known : LastLetter) (bytes : List ℕ) (read : LastRead) (gave : List (Option (Option Reply))) (cut : Option ℕ) (text : List ℕ) (after : LastLetter) : Type 0 where
     pub whole : List Exchanged
     pub fine : AreFine whole

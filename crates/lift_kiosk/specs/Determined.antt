@@ -30,7 +30,7 @@ all_given exchanges = flat_map (λ x. given x.1) exchanges
 abbrev pub answers_text : List (List ℕ × Outcome) → List ℕ
 answers_text exchanges = flat_map (λ x. answer_line x.1) exchanges
 
--- the last command behind these lines
+-- the last command after these lines
 abbrev pub last_after_lines : (keeps : LastLetter → ℕ → Reply → LastLetter) → LastLetter
     → List (List ℕ × Outcome) → LastLetter
 last_after_lines keeps last [] = last
@@ -47,7 +47,7 @@ LineDetermines wants = (line : List ℕ) (one other : Outcome) → Means wants l
     → Means wants line other → given one ≡ given other → one ≡ other
 
 -- Two sessions that know the same last command do the same for the same lines and the same answers
--- of the port, and know the same last command behind them.
+-- of the port, and know the same last command after them.
 abbrev pub LinesDetermine : (wants : List ℕ → Wanted → Type 0)
     → (keeps : LastLetter → ℕ → Reply → LastLetter) → Type 0
 LinesDetermine wants keeps =

@@ -11,7 +11,7 @@ missed before = record before { looks = before.looks + 1 }
 abbrev pub rested : PortView → PortView
 rested before = record before { rests = before.rests + 1 }
 
--- so many looks that found no answer, and a rest behind each
+-- so many looks that found no answer, and a rest after each
 abbrev pub looked : PortView → ℕ → PortView
 looked before looks = record before { looks = before.looks + looks; rests = before.rests + looks }
 
@@ -23,7 +23,7 @@ heard before reply = record before {
   looks = before.looks + 1;
 }
 
--- The port looked until an answer came, at most so many times, and rested behind each look that
+-- The port looked until an answer came, at most so many times, and rested after each look that
 -- found none. Where none came, all of these looks were made.
 abbrev pub WaitsForReply : (limit : ℕ) → (before : PortView) → Option Reply → (after : PortView)
     → Type 0

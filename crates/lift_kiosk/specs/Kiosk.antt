@@ -11,7 +11,7 @@ use Rattle.lift_kiosk.specs.declared.terms.LastLetter.{LastLetter}
 use Rattle.lift_kiosk.specs.declared.dialect.Wanted.{Wanted}
 use Rattle.lift_kiosk.specs.declared.dialect.Wanted.TheVariants.{Ask as Asks, NoFloor}
 
--- the words behind CALL: a number up to 16,777,215, a floor up to 999, and a party of 1 to 15
+-- the words after CALL: a number up to 16,777,215, a floor up to 999, and a party of 1 to 15
 pub record AreCallWords (words : List (List ℕ)) (number floor party : ℕ) : Type 0 where
   pub last : List (List ℕ)
   pub persons : ArePartyWords last party

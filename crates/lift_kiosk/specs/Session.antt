@@ -40,7 +40,7 @@ abbrev pub later : LastLetter → ℕ → Option ℕ → LastLetter
 later last number letter =
     if nat_lt last.number number then record { number = number; letter = letter } else last
 
--- the last command, as the greeting tells it
+-- the last command, as the greeting says it
 abbrev pub letter_part : Option ℕ → List ℕ
 letter_part None = []
 letter_part (Some letter) = 32 ∷ letter_text letter
@@ -194,7 +194,7 @@ pub record StopsInLine (part : List ℕ) (before : Standing) (mid : Source)
   pub sink : after.sink ≡ before.sink
 
 -- What ends a session before so many lines are answered, where the reader may be called up to this
--- count: the reader's end, its failure or that count, less than a line behind the last one; or a
+-- count: the reader's end, its failure or that count, less than a line after the last one; or a
 -- line whose answer ends it, or whose answer the writer failed to take.
 abbrev pub LastStep : (wants : List ℕ → Wanted → Type 0)
     → (keeps : LastLetter → ℕ → Reply → LastLetter) → Limits → (calls : ℕ) → End
@@ -241,9 +241,9 @@ abbrev pub IsSession : (wants : List ℕ → Wanted → Type 0)
 IsSession wants keeps limits end before after = EndsAtOnce keeps limits end before after
     ⊎ EndsBehind wants keeps limits end before after
 
--- A session, and what its end tells. It called the reader as often as the limits say at most. One
+-- A session, and what its end says. It called the reader as often as the limits say at most. One
 -- that ends late awaits an answer and has made all looks for it; one that ends spent has no turn
--- left; one that ends closed found the reader's end; behind a fault a call of the reader or of the
+-- left; one that ends closed found the reader's end; after a fault a call of the reader or of the
 -- writer had failed.
 pub record Converses (wants : List ℕ → Wanted → Type 0) (keeps : LastLetter → ℕ → Reply
     → LastLetter) (limits : Limits) (end : End) (before after : Standing) : Type 0 where

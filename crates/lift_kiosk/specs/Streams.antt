@@ -27,7 +27,7 @@ pub record Streams : Type 0 where
   pub given : List (Option (Option Reply))  -- the port, for the session's own asks
   pub cut : Option ℕ  -- how many bytes of the last line the writer took, where it did not take all
 
--- lines with their line feeds, and what came behind the last of them
+-- lines with their line feeds, and what came after the last of them
 abbrev pub lines_read : List (List ℕ) → (behind : List ℕ) → List ℕ
 lines_read [] behind = behind
 lines_read (line ∷ lines) behind = line ++ 10 ∷ lines_read lines behind
@@ -68,7 +68,7 @@ last_cut (ReaderFailed part) = None
 last_cut (CallsUsed part) = None
 last_cut (LastLine line gave cut) = cut
 
--- where the lines end, and which of them came last, is no longer told
+-- where the lines end, and which of them came last, isn't said
 abbrev pub streams_of : Came → Streams
 streams_of came = record {
   brought = came.brought;

@@ -36,7 +36,7 @@ pub data LastCame : Type 0 where
   LastLine : List ℕ → List (Option (Option Reply)) → Option ℕ → LastCame
 
 -- what came to a session: the port's answer to the ask of an earlier session, where one was
--- pending; the lines behind which it went on, with what the port gave for them; and what came last
+-- pending; the lines after which it went on, with what the port gave for them; and what came last
 pub record Came : Type 0 where
   pub brought : Option (Option Reply)
   pub lines : List (List ℕ)

@@ -35,7 +35,7 @@ fn outcome_of<T: Dialect, P: Port>(line: &Line, port: &mut P, looks: u32) -> Out
     }
 }
 
-/// The last command, behind a line.
+/// The last command, after a line.
 fn last_behind<T: Dialect>(last: &LastLetter, outcome: &Outcome) -> LastLetter
     ensures { result ≡ last_after T.keeps last.now outcome.now }
 {
@@ -45,7 +45,7 @@ fn last_behind<T: Dialect>(last: &LastLetter, outcome: &Outcome) -> LastLetter
     }
 }
 
-/// The last command, behind the start.
+/// The last command, after the start.
 fn last_behind_opening<T: Dialect>(last: &LastLetter, opening: &Opening) -> LastLetter
     ensures { result ≡ last_opened T.keeps last.now opening.now }
 {

@@ -25,7 +25,7 @@ struct CallLine {
     party: Party,
 }
 
-/// The call that the words behind CALL spell.
+/// The call that the words after CALL spell.
 fn call_of(words: &[&str]) -> Option<CallLine>
     ensures some { IfSome result (λ call.
         AreCallWords (map (λ word. word.now) words.now) call.number call.floor call.party) }

@@ -1,4 +1,4 @@
-//! Lines, read one byte at a call, so that nothing behind a line is taken from the reader.
+//! Lines, read one byte at a call, so that nothing after a line is taken from the reader.
 
 ghost use Rattle.std.specs.Prelude.{◌≡◌, ℕ, List, ◌+◌, ◌≤◌, ◌<◌, ◌^◌, [], ◌∷◌, IfOk, Ok, Err, None};
 ghost use Rattle.std.specs.Prelude.{Some, IfSome, IfErr, ◌++◌};

@@ -9,7 +9,7 @@ use crate::port::Port;
 use lift_base::Reply;
 use lift_desk::Ask;
 
-/// Looks for the answer until it comes, at most so many times, and rests behind each look that
+/// Looks for the answer until it comes, at most so many times, and rests after each look that
 /// found none.
 fn wait_for_reply<P: Port>(port: &mut P, looks: u32) -> Option<Reply>
     ensures waits { WaitsForReply looks (P.view port.old) result (P.view port.new) }

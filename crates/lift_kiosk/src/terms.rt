@@ -54,7 +54,7 @@ pub enum End {
     WriteFault,
 }
 
-/// The last command that is known behind a session, and why it ended.
+/// The last command that is known after a session, and why it ended.
 #[derive(Clone, Copy)]
 pub struct SessionEnd {
     pub last: LastLetter,

@@ -203,7 +203,7 @@ module _ (laws : RelayLaws) (w : World) (reached : IsReached w) (only : OnlyQueu
     words_are : all_words ≡ ask_words 1 (map ask_of fa) ++ ask_words (1 + length (map ask_of fa)) (map ask_of s.waiting)
     words_are = ap (ask_words 1) all_asks ∙ asks_both 1 (map ask_of fa) (map ask_of s.waiting)
 
-    -- its turn is behind those of all that was taken, and no later than that of the last ask
+    -- its turn is after those of all that was taken, and no later than that of the last ask
     was_asked : Contains all_words word
     was_asked = last_has (Contains all_words) p.view.taken word [] (subst (All (Contains all_words)) (taken-new p.view word at.reads.0) asked.ahead.asked_all)
 
@@ -266,7 +266,7 @@ module _ (laws : RelayLaws) (w : World) (reached : IsReached w) (only : OnlyQueu
     stands = by_waiting s.waiting refl
 
 -- ---- all looks
--- lists as long in front have the same behind
+-- lists with beginnings of one length have the same rest
 pub same_behind : {A : Type 0} (xs ys us vs : List A) → length xs ≡ length ys → xs ++ us ≡ ys ++ vs → us ≡ vs
 same_behind [] [] us vs l e = e
 same_behind [] (y ∷ ys) us vs l e = absurd (omega arith)

@@ -37,7 +37,7 @@ DecidesAlong plan choice state (batch ∷ batches) last =
     (replies_in batch.commands) decided
     × (batch.entries ≡ decided.batch) × DecidesAlong plan choice (settled decided) batches last
 
--- where the batches go on from what was sent: behind a batch in hand
+-- where the batches go on from what was sent: after a batch in hand
 abbrev pub GoesOnBehind : Plan → List TableId → State → List ℕ → List BatchState → State → List ℕ → Type 0
 GoesOnBehind plan desk sent turns [] shown taken = (shown ≡ sent) × (taken ≡ turns)
 GoesOnBehind plan desk sent turns (batch ∷ []) shown taken = IsNextBatch plan desk sent turns batch
@@ -92,7 +92,7 @@ pub record IsScanTurn {P : Type 0} (choice : Choice) (old new : AllocatorState P
   pub some : commands_of 0 visits ≢ []
       → new.end.sent ++ new.hand ≡ (old.end.sent ++ old.hand) ++ batch ∷ []
   pub sent : Begins (old.end.sent ++ old.hand) new.end.sent
-  -- a batch stays in hand only where it was tried behind that, and refused
+  -- a batch stays in hand only where it was tried after that, and refused
   pub full : new.hand ≢ [] → WasFull new.end
   pub refused : new.hand ≢ [] → new.end.tries ≡ tried (tries_behind old.hand old.end.tries) true
   pub same_place : (new.desk ≡ old.desk) × (new.plan ≡ old.plan) × (new.policy ≡ old.policy)

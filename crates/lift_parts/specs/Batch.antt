@@ -21,7 +21,7 @@ pub record BatchState : Type 0 where
   pub commands : List NotedCommand
   -- what was accepted of it
   pub entries : List Entry
-  -- the building that it was decided in, what decisions read before it and behind it, and the desk
+  -- the building that it was decided in, what decisions read before it and after it, and the desk
   -- that it was taken at
   pub building : Plan
   pub before : State
@@ -81,7 +81,7 @@ AreNoted desk turns (taken ∷ commands) = IsNoted desk turns taken
 abbrev pub state_with_entries : BatchState → State
 state_with_entries batch = record batch.after { batch = batch.entries }
 
--- Its commands with their replies are a run of the rules from before it to behind it, which
+-- Its commands with their replies are a run of the rules from before it to after it, which
 -- accepted just its entries.
 pub record IsDecided (batch : BatchState) : Type 0 where
   pub run : Run batch.building any_eligible batch.before (commands_in batch.commands)

@@ -34,7 +34,7 @@ held_in batches =
     flat_map (λ (b : BatchState). with_replies (commands_in b.commands) (replies_in b.commands)) batches
 
 -- What a flusher's turns add. Of the batches that they received the first are safe, and their
--- commands have their replies; those behind a fault are not, and theirs were answered Unknown.
+-- commands have their replies; those after a fault are not, and theirs were answered Unknown.
 pub record Adds {D : Type 0} (old new : FlusherState D) (more : List Entry)
     (told : List Taken) : Type 0 where
   pub kept : List BatchState

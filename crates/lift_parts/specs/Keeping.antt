@@ -19,7 +19,7 @@ pub data KeepingTurns {D : Type 0} (state : D → DiskState) (base : RegisterSta
   NoneYet : {f : FlusherState D} {safe : List Entry} {given : List Taken}
       → KeepingTurns state base f safe given f safe given
   -- At each moment of one more turn all is kept that was safe and given before it. What the turn
-  -- makes safe and answers is added behind.
+  -- makes safe and answers is added at the end.
   OneKept : {f g h : FlusherState D} {safe mid : List Entry} {given now : List Taken}
       {answer : Result FlushCounts KeeperFault}
       → KeepingTurns state base f safe given g mid now → IsFlush state g h answer

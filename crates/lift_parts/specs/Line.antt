@@ -18,6 +18,7 @@ no_tries = record { odd = false; refused = false }
 abbrev pub tried : Tries → Bool → Tries
 tried tries refused = record { odd = not tries.odd; refused = refused }
 
+-- the end that sends
 pub record SendState : Type 0 where
   pub line : TableId
   pub sent : List BatchState
@@ -25,12 +26,13 @@ pub record SendState : Type 0 where
   pub gone : List BatchState
   pub building : Plan
   pub desk : List TableId
-  -- what decisions read behind all that was sent, and the turns of the terminals
+  -- what decisions read after all that was sent, and the turns of the terminals
   pub state : State
   pub turns : List ℕ
   -- its pushes
   pub tries : Tries
 
+-- the end that receives
 pub record ReceiveState : Type 0 where
   pub line : TableId
   pub received : List BatchState
@@ -38,7 +40,7 @@ pub record ReceiveState : Type 0 where
   pub known : List BatchState
   pub building : Plan
   pub desk : List TableId
-  -- what decisions read behind all that was received, and the turns of the terminals
+  -- what decisions read after all that was received, and the turns of the terminals
   pub state : State
   pub turns : List ℕ
   -- its pops
@@ -48,7 +50,7 @@ pub record ReceiveState : Type 0 where
 abbrev pub Begins : List BatchState → List BatchState → Type 0
 Begins first whole = (rest : List BatchState) × (whole ≡ first ++ rest)
 
--- the batch was decided in this building, at this desk, on this state, and taken behind these turns
+-- the batch was decided in this building, at this desk, on this state, and taken after these turns
 pub record IsNextBatch (building : Plan) (desk : List TableId) (state : State)
     (turns : List ℕ) (batch : BatchState) : Type 0 where
   pub of_building : batch.building ≡ building
@@ -89,7 +91,7 @@ pub record IsLine (first : BatchState) (sender : SendState) (receiver : ReceiveS
     tries = no_tries;
   }
 
--- the batch joins at the back, behind fewer than four that weren't received
+-- the batch joins at the back, after fewer than four that weren't received
 pub record SendsOne (old : SendState) (batch : BatchState) (new : SendState) : Type 0 where
   pub same : (new.line ≡ old.line) × (new.building ≡ old.building) × (new.desk ≡ old.desk)
   pub sends : new.sent ≡ old.sent ++ batch ∷ []
@@ -101,7 +103,8 @@ pub record SendsOne (old : SendState) (batch : BatchState) (new : SendState) : T
   pub later : Begins old.gone new.gone
   pub tries : new.tries ≡ tried old.tries false
 
--- the batch leaves at the front, it goes on from what was received, and what is behind it was sent
+-- the batch leaves at the front, it goes on from what was received, and what comes after it was
+-- sent
 pub record ReceivesOne (old : ReceiveState) (batch : BatchState) (new : ReceiveState) : Type 0 where
   pub same : (new.line ≡ old.line) × (new.building ≡ old.building) × (new.desk ≡ old.desk)
   pub next : IsNextBatch old.building old.desk old.state old.turns batch

@@ -22,7 +22,7 @@ use Rattle.lift_parts.specs.Turns.{IsFlush}
 use Rattle.lift_parts.specs.History.{group_behind, Adds}
 
 -- The events of a flusher's turn: those of a turn of the machine with the batch that it received,
--- of one that the device fails, or of one behind a fault; and none where it received nothing.
+-- of one that the device fails, or of one after a fault; and none where it received nothing.
 abbrev pub flush_events : List BatchState → Bool → Bool → List (Option ℕ) → ℕ → List Event
 flush_events [] is_safe was_broken letters folds = []
 flush_events (b ∷ batches) true was_broken letters folds =
@@ -46,7 +46,7 @@ pub record FlushLeadsOn {D : Type 0} (f g : FlusherState D) (answer : Result Flu
       terminals (safe ++ more) (given ++ told)
 
 -- A flusher's turn is a step of its group's past, in each world that it may be in. By the desk's
--- rule what its seats took is a front of what terminals asked.
+-- rule what its seats took is a prefix of what terminals asked.
 abbrev pub FlushesLeadOn : (D : Type 0) → (D → DiskState) → Type 0
 FlushesLeadOn D state = (f g : FlusherState D) (answer : Result FlushCounts KeeperFault)
     → IsFlush state f g answer

@@ -12,7 +12,7 @@ use Rattle.lift_parts.specs.Allocator.{AllocatorState, IsAllocation}
 use Rattle.lift_parts.specs.Flusher.{FlusherState, IsFlusher, IsEmptyTurn, IsBatchTurn}
 use Rattle.lift_parts.specs.Flusher.{entries_received}
 
--- The batch in hand, if there is one, was sent behind all that was sent before, and nothing else
+-- The batch in hand, if there is one, was sent after all that was sent before, and nothing else
 -- changes.
 pub record IsSending {P : Type 0} (old new : AllocatorState P) : Type 0 where
   pub sent : new.end.sent ≡ old.end.sent ++ old.hand

@@ -60,8 +60,8 @@ pub fn relays_are_the_machines<D: Disk, P: Policy>()
 /// A flusher's turns are steps of its group's history, which goes on over a split, over any number
 /// of them and over a rejoining, whatever the allocator takes and sends meanwhile. So all that is
 /// shown of a history is shown at each moment of each turn. In the machine each is the events of a
-/// turn with the batch that it received, where by the desk's rule what its seats took is a front of
-/// what terminals asked.
+/// turn with the batch that it received, where by the desk's rule what its seats took is a prefix
+/// of what terminals asked.
 pub fn flushes_are_steps<D: Disk>()
     ensures flushes { FlushesStand D D.state }
     ensures turns { TurnsGoOn D D.state }
@@ -83,7 +83,7 @@ pub fn parts_are_clerks<D: Disk, P: Policy>()
 
 /// Whatever turns a flusher has made by any moment, each image that a crash at any moment of one of
 /// them may leave keeps what was safe and all that was answered before it: what its group had given,
-/// and what the turns gave. So does each that a crash may leave now, behind the last one. A clerk
+/// and what the turns gave. So does each that a crash may leave now, after the last one. A clerk
 /// that begins over it goes on with just that.
 pub fn turns_keep_what_was_given<D: Disk>()
     ensures { TurnsKeep D D.state }

@@ -25,7 +25,7 @@ pub record IsFirstLeast (measure : ℕ → ℕ) (eligible : List ℕ) (car : ℕ
   pub lowest : All (λ other. measure other ≡ measure car → car ≤ other) eligible
 
 -- what the call would add to the times of all persons of a car, its own party with them; none
--- before the car has told where it is
+-- before the car has reported where it is
 abbrev pub cost_at : Plan → ViewState → NewCall → ℕ → Option ℕ
 cost_at plan view call car =
     option_map (λ (p : Position). total_cost plan p (rows_of view.register car) call)

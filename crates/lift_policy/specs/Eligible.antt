@@ -12,7 +12,7 @@ can_take plan register call car =
     serves_floor plan car call.from && serves_floor plan car call.to
     && nat_le (persons_of (rows_of register car) + call.party) (places_of plan car)
 
--- it can take the call, and has told where it is
+-- it can take the call, and has reported where it is
 abbrev pub is_eligible : Plan → ViewState → NewCall → ℕ → Bool
 is_eligible plan view call car =
     is_some (position_of view.positions car) && can_take plan view.register call car

@@ -83,7 +83,7 @@ StepsKeepStates choice =
     → IsBuilding plan → IsTypedCommand terminal number → IsTypedBody body → IsStateIn plan state
     → Step plan choice state terminal number body reply next → IsStateIn plan next
 
--- a `Car` or a `Stopped`, new or repeated, tells of the command that the register keeps as its
+-- a `Car` or a `Stopped`, new or repeated, answers the command that the register keeps as its
 -- terminal's last
 abbrev pub TellsKept : Plan → RegisterState → ℕ → ℕ → Body → Reply → Type 0
 TellsKept plan register terminal number (Call to party) (Car car) =

@@ -31,7 +31,7 @@ cause_in (RepeatedStop car position) = None
 cause_in (Placed car position) = None
 
 -- the command that a verdict is on, where it isn't refused: its body, whether its number is new, and
--- what is told of it
+-- what is known of it
 abbrev pub IsCaseOf : Plan → State → ℕ → ℕ → Body → Verdict → Type 0
 IsCaseOf plan state terminal number body (Refused reason) = Unit {0}
 IsCaseOf plan state terminal number body (NewCall call eligible) =

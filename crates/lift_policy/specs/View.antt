@@ -8,9 +8,9 @@ use Rattle.lift_stops.specs.Schedule.{ScheduleState}
 
 pub record ViewState : Type 0 where
   pub register : RegisterState
-  pub positions : List (Option Position)  -- for each car, where it is, none before it has told
+  pub positions : List (Option Position)  -- where each car is, none before it has reported it
 
--- where a car is, if it has told
+-- where a car is, if it has reported that
 abbrev pub position_of : List (Option Position) → ℕ → Option Position
 position_of positions car = slice_index_or positions car None
 

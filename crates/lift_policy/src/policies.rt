@@ -109,7 +109,7 @@ fn pick<M: Measure>(
 
 impl Etd {
     /// What a call would add to the times in ms of all persons of a car, its own party with them;
-    /// none before the car has told where it is.
+    /// none before the car has reported where it is.
     pub fn cost(building: &Building, view: &View, call: &NewCall, car: Letter) -> Option<u64>
         requires possible { IsViewIn building.now view.now }
         requires from { call.now.from < building.now.floors }

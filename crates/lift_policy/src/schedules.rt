@@ -20,7 +20,7 @@ pub fn schedule_of(register: &Register, car: Letter, position: Position) -> Sche
     schedule
 }
 
-/// The schedule of the car with this index, where it has told its position.
+/// The schedule of the car with this index, where it has reported its position.
 fn schedule_at(register: &Register, index: u8, position: &Option<Position>) -> Option<Schedule>
     requires { index < 16 }
     ensures { result ≡ option_map (λ (p : PositionValue).

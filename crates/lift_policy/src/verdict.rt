@@ -30,7 +30,7 @@ pub enum Verdict {
     Stop(Letter, Stop),
     /// A car's last stop again: it stands there.
     RepeatedStop(Letter, Position),
-    /// A car tells where it stands.
+    /// A car reports where it stands.
     Place(Letter, Position),
 }
 

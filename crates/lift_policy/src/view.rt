@@ -34,8 +34,8 @@ impl<'a> Model for View<'a> {
 }
 
 impl<'a> View<'a> {
-    /// The schedules are those of the cars that have told where they are, each with its car's open
-    /// calls.
+    /// The schedules are those of the cars that have reported where they are, each with its car's
+    /// open calls.
     pub fn new(register: &'a Register, schedules: &'a [Option<Schedule>; MOST_CARS]) -> Self
         requires { AreSchedulesOf register.now schedules.now }
         ensures { result ≡ record {
@@ -66,7 +66,7 @@ impl<'a> View<'a> {
         register.open_rows(car)
     }
 
-    /// The schedule of a car, none before it has told where it is.
+    /// The schedule of a car, none before it has reported where it is.
     pub fn schedule(&self, car: Letter) -> Option<&Schedule>
         ensures { option_map (λ s. s.now) result
             ≡ option_map (λ (p : PositionValue).
@@ -80,7 +80,7 @@ impl<'a> View<'a> {
         }
     }
 
-    /// Where a car is, none before it has told.
+    /// Where a car is, none before it has reported that.
     pub fn position(&self, car: Letter) -> Option<Position>
         ensures { result ≡ position_of self.now.positions car }
     {
@@ -88,8 +88,8 @@ impl<'a> View<'a> {
         Some(schedule.position())
     }
 
-    /// Whether a car may take a call: it has told where it is, serves both floors, and has places
-    /// for the party.
+    /// Whether a car may take a call: it has reported where it is, serves both floors, and has
+    /// places for the party.
     pub fn is_eligible(&self, building: &Building, call: NewCall, car: Letter) -> bool
         ensures { result ≡ is_eligible building.now self.now call car }
     {

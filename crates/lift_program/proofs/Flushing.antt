@@ -24,7 +24,7 @@ pub takes_put : {W : Type 0} (gives : W → List ℕ → Option ℕ → W → Ty
 takes_put gives bytes old new (Ok done) whole told = takes_of gives bytes old new told
 takes_put gives bytes old new (Err fault) whole told = absurd (false≢true (sym whole))
 
--- or a front of them
+-- or a prefix of them
 pub put_failed : {W : Type 0} (gives : W → List ℕ → Option ℕ → W → Type 0) (flushes : W → Bool → W → Type 0) (bytes : List ℕ) (old new : W) (result : Result Unit WriteFault)
     → is_err result ≡ true → IfErr result (λ fault. fault.written < length bytes) → IfErr result (λ fault. (calls : ℕ) × WroteUpToFault gives bytes fault.written 0 calls old new)
     → WriterHasFailed gives flushes old new

@@ -178,7 +178,7 @@ keeper_undone is_text is_no_text opener is_fresh state is_refused plan (Opened f
   unwritten = is.refused.writes;
 }
 
--- behind the recovery
+-- after the recovery
 kept_left : (is_text : List ℕ → Type 0) (files : ImageFiles) (path : List ℕ) (plan : Plan) (keeper : KeeperView files.Served) (left : files.Served) (fault : Fault) → HasBuilding is_text plan → HasKeeperOf files path plan keeper → left ≡ keeper.writer.device
     → ((old new : DiskState) → HasRecovered plan old new → StopsOver plan old new fault) → IsLeftAs is_text (files.is_to_be_served path) files.served_state fault left
 kept_left is_text files path plan keeper left fault has opened is stops =
@@ -287,7 +287,7 @@ nothing_written (Memory no_memory) written = tt
 nothing_written Network written = refl
 nothing_written Thread written = tt
 
--- of a writer that failed a front may be written
+-- of a writer that failed a prefix may be written
 pub output_report : (fault : Fault) (before after : Option (List ℕ)) → IsFileFault Output fault → IsReportOfFault fault before after
 output_report fault before after (inl is) = subst (λ (f : Fault). IsReportOfFault f before after) (sym is) tt
 output_report fault before after (inr is) = subst (λ (f : Fault). IsReportOfFault f before after) (sym is) tt

@@ -13,7 +13,7 @@ use Rattle.lift_program.specs.declared.end.End.TheVariants.{Replayed, Formatted,
 use Rattle.lift_program.specs.declared.fault.Fault.{Fault}
 use Rattle.lift_program.specs.declared.fault.Fault.TheVariants.{Building, Journal, File, Memory, Network, Thread}
 
--- what was heard of a serving over a whole keeper was told at once
+-- that a device failed below a serving over a whole keeper was reported at once
 module _ {E : Type 0} (contents : E → Option (List ℕ)) (a b : OutputState E) where
   broken_told : (is_broken : Bool) (other : Option ServeFault) → FailureHeard (IsFailureTold contents) false is_broken a b → TellsLine contents (line_at_once_in (served_fault is_broken other)) a b
   broken_told true other heard = heard

@@ -17,7 +17,7 @@ use Rattle.lift_program.specs.Stages.{HasBuilding}
 pub nothing_said : (port : ℕ) (written : Option (List ℕ)) → SaysFront port written written
 nothing_said port written = (0, Appends-nil written)
 
--- all of it is a front of it
+-- all of it is a prefix of it
 pub said_front : (port : ℕ) (old new : Option (List ℕ)) → Appends old new (serving_text port) → SaysFront port old new
 said_front port old new said =
     let text : List ℕ = serving_text port in
@@ -27,11 +27,11 @@ said_front port old new said =
 pub kept_report : (input old mid new : Option (List ℕ)) (verdict : Verdict) → ReportsInput input old mid verdict → Keeps mid new → ReportsInput input old new verdict
 kept_report input old mid new verdict told keeps = (told.0, told.1, (told.2.0, told.2.1, Appends-kept old mid new told.2.0 told.2.2 keeps))
 
--- all of a report is a front of it
+-- all of a report is a prefix of it
 pub report_front : (input old new : Option (List ℕ)) (verdict : Verdict) → ReportsInput input old new verdict → ReportsFront input old new
 report_front input old new verdict told = (told.0, told.1, (told.2.0, verdict, told.2.1, (told.2.0, ([], append-nil told.2.0), told.2.2)))
 
--- all lines of a register are a front of them
+-- all lines of a register are a prefix of them
 pub shown_front : (plan : Plan) (opened left : DiskState) (old new : Option (List ℕ)) → ShowsRegister plan opened left old new
     → ShowsFront plan opened left old new
 shown_front plan opened left old new shows =

@@ -64,7 +64,7 @@ exit_status_of (OtherWords unused) = 2
 abbrev pub told_line : Fault → Option (List ℕ)
 told_line fault = Some (fault_text fault ++ 10 ∷ [])
 
--- the line that is told, none where there is nothing to tell
+-- the line on standard error, none where there is nothing to report
 abbrev pub line_of : {M S V F O : Type 0} → End M S V F O → Option (List ℕ)
 line_of (Replayed verdict unused) = None
 line_of (Formatted disk) = None
@@ -78,7 +78,7 @@ line_of (Unshown fault left) = told_line fault
 line_of (Unserved fault left) = told_line fault
 line_of (OtherWords unused) = Some (usage_text ++ 10 ∷ [])
 
--- that a device failed is told at once, while the building is served
+-- that a device failed is reported at once, while the building is served
 abbrev pub line_at_once_in : Option Fault → Option (List ℕ)
 line_at_once_in None = None
 line_at_once_in (Some (Building fault)) = None
@@ -98,7 +98,7 @@ line_at_end_in (Some (Memory no_memory)) = told_line (Memory no_memory)
 line_at_end_in (Some Network) = told_line Network
 line_at_end_in (Some Thread) = told_line Thread
 
--- the line that is told before the end, none but of a device that failed while it was served
+-- the line that is written before the end, none but of a device that failed while it was served
 abbrev pub line_at_once : {M S V F O : Type 0} → End M S V F O → Option (List ℕ)
 line_at_once (Replayed verdict unused) = None
 line_at_once (Formatted disk) = None
@@ -111,7 +111,7 @@ line_at_once (Unshown fault left) = None
 line_at_once (Unserved fault left) = None
 line_at_once (OtherWords unused) = None
 
--- the line that is told at the end, none where it was told before
+-- the line that is written at the end, none where it was written before
 abbrev pub line_at_end : {M S V F O : Type 0} → End M S V F O → Option (List ℕ)
 line_at_end (Replayed verdict unused) = None
 line_at_end (Formatted disk) = None
@@ -124,13 +124,14 @@ line_at_end (Unshown fault left) = told_line fault
 line_at_end (Unserved fault left) = told_line fault
 line_at_end (OtherWords unused) = Some (usage_text ++ 10 ∷ [])
 
--- This line was told, if there is one, or a front of it and then the writer failed; and nothing else.
+-- This line was written, if there is one, or a prefix of it and then the writer failed; and nothing
+-- else.
 abbrev pub TellsLine : {E : Type 0} → (contents : E → Option (List ℕ)) → Option (List ℕ)
     → (old new : OutputState E) → Type 0
 TellsLine contents None old new = new ≡ old
 TellsLine contents (Some line) old new = IsWrittenOrFailed contents old new line
 
--- that a device failed was told
+-- that a device failed was reported
 abbrev pub IsFailureTold : {E : Type 0} → (contents : E → Option (List ℕ))
     → (old new : OutputState E) → Type 0
 IsFailureTold contents old new =
@@ -249,7 +250,7 @@ uncalled reader = record { reader = reader; calls = 0; failed = false; ended = f
 abbrev pub IsUncalled : {R : Type 0} → InputState R → Type 0
 IsUncalled old = (old.calls ≡ 0) × (old.failed ≡ false) × (old.ended ≡ false)
 
--- What was written is the report of the input, with this verdict; or a front of it.
+-- What was written is the report of the input, with this verdict; or a prefix of it.
 abbrev pub ReportsAll : (input before after : Option (List ℕ)) → Result Verdict Fault → Type 0
 ReportsAll input before after (Ok verdict) = ReportsInput input before after verdict
 ReportsAll input before after (Err fault) = ReportsFront input before after
@@ -397,13 +398,13 @@ IsEndFor files gives request before after (OtherWords unused) = ⊥
 abbrev pub serving_text : ℕ → List ℕ
 serving_text port = codes "serving " ++ decimal port ++ 10 ∷ []
 
--- what says that a port is served was written, or a front of it
+-- what says that a port is served was written, or a prefix of it
 abbrev pub SaysFront : ℕ → (before after : Option (List ℕ)) → Type 0
 SaysFront port before after = (count : ℕ) × Appends before after (take count (serving_text port))
 
--- What is written for a request, however it ends: for a script a front of the report of the input;
--- for a journal that is made nothing; for one that is shown a front of its open calls; for a
--- serving a front of what says so.
+-- What is written for a request, however it ends: for a script a prefix of the report of the input;
+-- for a journal that is made nothing; for one that is shown a prefix of its open calls; for a
+-- serving a prefix of what says so.
 abbrev pub WritesFor : CommandFiles → (input : Option (List ℕ)) → Request
     → (before after : Option (List ℕ)) → Type 0
 WritesFor files input Replay before after = ReportsFront input before after
@@ -447,7 +448,7 @@ IsReportOfFault Network before after = after ≡ before
 IsReportOfFault Thread before after = Unit {0}
 
 -- what was written, by the end: of a script the report of the input, and of a serving what says so;
--- for other words it is told beside this
+-- for other words it is written beside this
 abbrev pub IsReportOfEnd : {M S V F O : Type 0} → (input : Option (List ℕ)) → End M S V F O
     → (before after : Option (List ℕ)) → Type 0
 IsReportOfEnd input (Replayed verdict unused) before after = ReportsInput input before after verdict

@@ -89,8 +89,9 @@ pub record IsOnlyRead (file : DiskState) : Type 0 where
   pub unwritten : file.writes ≡ 0
   pub unhurt : file.failures ≡ 0
 
--- the devices over files of this type: what opens the file, what it tells of a path, what it opens and
--- names, what a call of such a file leads to, what it holds, and what is said of the devices
+-- the devices over files of this type: what opens the file, what it answers of a path, what it
+-- opens and names, what a call of such a file leads to, what it holds, and what is said of the
+-- devices
 abbrev pub image_files : {F O : Type 0} {told : Told F} {runs : RunGhosts (SectorFile F told)}
     {disk : Ghosts (SectorFile F told)} {shown_runs : RunGhosts (UnwrittenFile F told)}
     {shown_disk : Ghosts (UnwrittenFile F told)}

@@ -8,7 +8,7 @@ use Rattle.lift_program.specs.declared.fault.Fault.{Fault}
 use Rattle.lift_program.specs.declared.fault.Fault.TheVariants.{File, Memory}
 use Rattle.lift_program.specs.declared.fault.Role.TheVariants.{Output}
 
--- All of these bytes were written, or the writer failed behind a front of them.
+-- All of these bytes were written, or the writer failed after a prefix of them.
 abbrev pub IsWrittenOrFailed : {W : Type 0} → (W → Option (List ℕ)) → (old new : OutputState W)
     → List ℕ
     → Type 0
@@ -29,15 +29,15 @@ WasTaken {W} gives flushes old new =
     (last : W) × TakesSomeEachCall gives old last × ((new ≡ last) ⊎ flushes last false new)
 
 -- The writer's last call failed, or took nothing; or each took a byte at least, and the flush
--- behind them failed.
+-- after them failed.
 abbrev pub WriterHasFailed : {W : Type 0} → (gives : W → List ℕ → Option ℕ → W → Type 0)
     → (flushes : W → Bool → W → Type 0) → (old new : W) → Type 0
 WriterHasFailed {W} gives flushes old new =
     FailsAtLast gives old new
     ⊎ ((last : W) × TakesSomeEachCall gives old last × flushes last false new)
 
--- How the standard output was called: what is written ends well only with a flush behind it that
--- did not fail; the output is told as the fault only where it has failed, and memory only where no
+-- How the standard output was called: what is written ends well only with a flush after it that
+-- did not fail; the output is the fault only where it has failed, and memory only where no
 -- call failed but a flush.
 pub record IsOutputSettled {W : Type 0} (gives : W → List ℕ → Option ℕ → W → Type 0)
     (flushes : W → Bool → W → Type 0) (old new : W) (result : Result Unit Fault) : Type 0 where
@@ -45,7 +45,7 @@ pub record IsOutputSettled {W : Type 0} (gives : W → List ℕ → Option ℕ �
   pub failed : result ≡ Err (File Output) → WriterHasFailed gives flushes old new
   pub wanting : result ≡ Err (Memory tt) → WasTaken gives flushes old new
 
--- This text was written and passed on; or a front of it, and then the output has failed.
+-- This text was written and passed on; or a prefix of it, and then the output has failed.
 abbrev pub SaysText : List ℕ → (is_flushed has_failed : Type 0) → (before after : Option (List ℕ))
     → Type 0
 SaysText text is_flushed has_failed before after = (is_flushed × Appends before after text)

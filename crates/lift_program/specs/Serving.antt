@@ -30,7 +30,7 @@ pub record IsReadyOver (files : CommandFiles) (gives : Option Listener → Type 
   pub here : gives (Some listener)
 
 -- The keeper's building was served at this socket with this policy, and the serving ended so. What is
--- told is that the device failed, exactly where it did, and else what the serving was refused.
+-- reported is that the device failed, exactly where it did, and else what the serving was refused.
 -- Connections have ended only where so many have at this socket, and where nothing was refused they
 -- have. This is the device as it was left.
 pub record IsServedOver {D : Type 0} (state : D → DiskState) (policy : Shipped)
@@ -52,9 +52,9 @@ pub record IsServing (files : CommandFiles) (gives : Option Listener → Type 0)
   pub ready : IsReadyOver files gives image building keeper listener
   pub served : IsServedOver files.image.served_state policy listener sessions keeper fault left ending
   -- Every letter is kept over power cuts, if the file is an honest device: where each image that the
-  -- recovery may have found keeps a front of what was accepted, over whatever register the journal
+  -- recovery may have found keeps a prefix of what was accepted, over whatever register the journal
   -- began with, and these answers, a crash at any moment until the end leaves what keeps such a
-  -- front, and them and all that was answered until then.
+  -- prefix, and them and all that was answered until then.
   pub keeps : (files.image.served_state ready.has.opened).is_honest → (base : RegisterState)
       (accepted : List Entry) (given : List Taken)
       → LeavesNow (files.image.served_state ready.has.opened)

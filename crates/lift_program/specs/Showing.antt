@@ -31,7 +31,7 @@ pub record ShowsRegister (plan : Plan) (old new : DiskState)
   pub recovers : RecoversRegister plan old new register
   pub written : Appends before after (register_text register)
 
--- A front of them was.
+-- A prefix of them was.
 pub record ShowsFront (plan : Plan) (old new : DiskState)
     (before after : Option (List ℕ)) : Type 0 where
   pub register : RegisterState
@@ -39,8 +39,8 @@ pub record ShowsFront (plan : Plan) (old new : DiskState)
   pub count : ℕ
   pub written : Appends before after (take count (register_text register))
 
--- A front of them was, of a journal in the file that was opened at this path, and of a building that
--- the text describes which was read from its file.
+-- A prefix of them was, of a journal in the file that was opened at this path, and of a building
+-- that the text describes which was read from its file.
 pub record ShowsFrontOfFile (files : CommandFiles) (image building : List ℕ)
     (before after : Option (List ℕ)) : Type 0 where
   pub plan : Plan
@@ -51,7 +51,7 @@ pub record ShowsFrontOfFile (files : CommandFiles) (image building : List ℕ)
   pub front : ShowsFront plan (files.image.shown_state opened) (files.image.shown_state left)
       before after
 
--- nothing was written, or such a front
+-- nothing was written, or such a prefix
 abbrev pub ShowsPart : CommandFiles → (image building : List ℕ)
     → (before after : Option (List ℕ)) → Type 0
 ShowsPart files image building before after =

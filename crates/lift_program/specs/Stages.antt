@@ -176,7 +176,7 @@ IsImageFault (NotAFile opener) fault = fault ≡ File OfImage
 IsImageFault (Unopened error) fault = IsSystemFault OfImage error fault
 IsImageFault (Stopped stopped) fault = IsSystemFault OfImage stopped.error fault
 
--- No image was had: that is told as its file, or as want of memory where the system told that.
+-- No image was had: the fault is its file, or want of memory where the system said that.
 pub record HasNoImage {F O : Type 0} (is_refused : FileFault F O → Type 0) (fault : Fault)
     (cause : FileFault F O) : Type 0 where
   pub is_fault : (fault ≡ File OfImage) ⊎ (fault ≡ Memory tt)

@@ -15,7 +15,7 @@ use Rattle.lift_program.specs.declared.words.Request.TheVariants.{Replay, Format
 abbrev pub word_rule : Text → Rule
 word_rule name = record (new_rule name) { required = true }
 
--- an option, with its value in the next word or behind `=`
+-- an option, with its value in the next word or after `=`
 abbrev pub option_rule : Text → Rule
 option_rule name = record (new_rule name) { long = Some name }
 
@@ -41,7 +41,7 @@ serve_app = with_rule (with_rule (with_rule (app_on (codes "serve")) (option_rul
 abbrev pub replay_app : App
 replay_app = new_app (codes "replay")
 
--- A command that, added to a program, is this command of it, behind those that it had.
+-- A command that, added to a program, is this command of it, after those that it had.
 abbrev pub IsCommand : App → Command → Type 0
 IsCommand app command = (old new : Command) → AddsSubcommand old command new
     → app_of new ≡ with_subcommand (app_of old) app.top
@@ -71,7 +71,7 @@ abbrev pub IsOver : List Row → (image building : Text) → Type 0
 IsOver rows image building = (first_of (codes "image") rows ≡ Some image)
     × (first_of (codes "building") rows ≡ Some building)
 
--- what the words behind `format` ask for
+-- what the words after `format` ask for
 abbrev pub IsFormat : List Row → Request → Type 0
 IsFormat rows Replay = ⊥
 IsFormat rows (Format image building half) = IsOver rows image.now building.now
@@ -79,7 +79,7 @@ IsFormat rows (Format image building half) = IsOver rows image.now building.now
 IsFormat rows (Show image building) = ⊥
 IsFormat rows (Serve image building port sessions policy) = ⊥
 
--- what the words behind `show` ask for
+-- what the words after `show` ask for
 abbrev pub IsShow : List Row → Request → Type 0
 IsShow rows Replay = ⊥
 IsShow rows (Format image building half) = ⊥
@@ -96,7 +96,7 @@ abbrev pub IsPolicy : Option Text → Shipped → Type 0
 IsPolicy None policy = codes "etd" ≡ policy_name policy
 IsPolicy (Some word) policy = word ≡ policy_name policy
 
--- what the words behind `serve` ask for
+-- what the words after `serve` ask for
 abbrev pub IsServe : List Row → Request → Type 0
 IsServe rows Replay = ⊥
 IsServe rows (Format image building half) = ⊥

@@ -1,4 +1,4 @@
-//! The line of a device that fails, told when it does.
+//! The line of a device that fails, written when it does.
 
 ghost use Rattle.lift_program.specs.Ends.{IsFailureTold};
 
@@ -9,7 +9,7 @@ use lift_keeper::KeeperFault;
 use lift_serve::{Failed, Witness};
 use std::io::Write;
 
-/// What is told of a device that failed.
+/// What is reported of a device that failed.
 pub const FAILED: Fault = Fault::Journal(KeeperFault::Journal(JournalFault::Disk));
 
 /// Writes the line of a device that fails, at once. Nothing holds it back where standard error is not

@@ -26,7 +26,7 @@ pub enum End<M, S, V, F: Drop, O: Drop> {
     /// The open calls of the journal on this file were written.
     Shown(Left<S>),
     /// The building was served on this port, over this image, and the serving ended so: only a serving
-    /// makes that. What is told of it is a fault of the device, and else what it was refused.
+    /// makes that. What is reported of it is a fault of the device, and else what it was refused.
     Served(u16, Option<Fault>, Left<V>, ServingEnd),
     /// The work is undone, and nothing was asked of an image.
     Failed(Fault, Left<O>),
@@ -45,7 +45,8 @@ pub enum End<M, S, V, F: Drop, O: Drop> {
 /// How a command ends over files that this opens.
 pub type EndBy<I, T> = End<SectorFile<T>, ShownImage<T>, BufferedFile<T>, T, I>;
 
-/// Writes the line of a fault of a serving at its end: but that a device failed was told when it did.
+/// Writes the line of a fault of a serving at its end: but that a device failed was reported when
+/// it did.
 fn tell_at_end<E: Write + Drop>(fault: &Fault, errors: &mut Watched<E>)
     ensures told { IfSome (line_at_end_in (Some fault.now))
         (IsWrittenOrFailed E.contents errors.old errors.new) }
@@ -84,7 +85,7 @@ impl<M, S, V, F: Drop, O: Drop> End<M, S, V, F, O> {
     }
 
     /// Writes the line of a fault, or of other words: but that a device failed while it was served
-    /// was told when it did. Where it can't be written, the status alone tells.
+    /// was reported when it did. Where it can't be written, only the status says so.
     pub fn tell<E: Write + Drop>(&self, errors: &mut Watched<E>)
         ensures told { IfSome (line_at_end self.now)
             (IsWrittenOrFailed E.contents errors.old errors.new) }

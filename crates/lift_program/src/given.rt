@@ -31,10 +31,10 @@ use std::convert::AsStr;
 use std::io::{Read, Write};
 use std::marker::PhantomData;
 
-/// The words behind the program's name, what opens the files and the socket that they ask for, and the
-/// standard input. Nobody can take them apart: they can only be prepared, by a call that returns. So
-/// whoever waits with them has opened and read nothing, and nothing but what the words ask for can be
-/// opened by them. That a device fails is told to an `E`.
+/// The words after the program's name, what opens the files and the socket that they ask for, and
+/// the standard input. Nobody can take them apart: they can only be prepared, by a call that
+/// returns. So whoever waits with them has opened and read nothing, and nothing but what the words
+/// ask for can be opened by them. That a device fails is reported to an `E`.
 #[derive(Drop)]
 pub struct Given<'w, B, I, L, S, R, E> {
     files: Files<B, I>,
@@ -77,7 +77,7 @@ fn done<'b, B: TextOpener, I: FileOpener, L: Listens, R: Read + Drop, W: Outflow
         input.old input.new }
     ensures unwritten { IfErr result (λ end. undone_for end ≡ Some (Fault.File Output)
         → WriterHasFailed W.gives W.flushes writer.old writer.new) }
-    // Nothing is told at once but of what is served.
+    // Nothing is reported at once but of what is served.
     ensures quiet { IfErr result (λ end. line_at_once end ≡ None) }
 {
     match request {
@@ -169,7 +169,7 @@ impl<'w, B: TextOpener, I: FileOpener, L: Listens, S: AsStr, R: Read + Drop, E: 
             (L.gives self.entry.socket local) (map S.text self.entry.words.now) (W.contents writer.old)
             (W.contents writer.new) ready.prepared.keeper ready.prepared.listening ready.port
             ready.prepared.sessions ready.prepared.policy) }
-        // It ends as the words ask, and nothing is written but a front of what they ask for.
+        // It ends as the words ask, and nothing is written but a prefix of what they ask for.
         ensures end { IfErr result.1 (IsEndOf (⟦<Files<B, I> as FilesView>⟧.view self.entry.files)
             (L.gives self.entry.socket local) (R.remaining self.entry.reader)
             (map S.text self.entry.words.now) (W.contents writer.old) (W.contents writer.new)) }
@@ -191,7 +191,7 @@ impl<'w, B: TextOpener, I: FileOpener, L: Listens, S: AsStr, R: Read + Drop, E: 
             (IsFlushed W.gives W.flushes writer.old writer.new)
             (WriterHasFailed W.gives W.flushes writer.old writer.new) (W.contents writer.old)
             (W.contents writer.new) }
-        // The standard output is told only where it failed.
+        // The standard output is the fault only where it failed.
         ensures unwritten { IfErr result.1 (λ end. undone_for end ≡ Some (Fault.File Output)
             → WriterHasFailed W.gives W.flushes writer.old writer.new) }
         ensures quiet { IfErr result.1 (λ end. line_at_once end ≡ None) }

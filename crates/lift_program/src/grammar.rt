@@ -1,4 +1,5 @@
-//! The grammar of the program's words: its commands and their arguments, and the text that tells them.
+//! The grammar of the program's words: its commands and their arguments, and the text that lists
+//! them.
 
 ghost use Rattle.std.specs.Prelude.{◌≡◌, false, IfOk};
 ghost use Rattle.clap.specs.Words.{app_of, rule_of};
@@ -34,7 +35,7 @@ fn word<'a>(alloc: Global, name: &'a str) -> Arg<'a>
     Arg::new(alloc, name).required(true)
 }
 
-/// An option, with its value in the next word or behind `=`.
+/// An option, with its value in the next word or after `=`.
 fn option<'a>(alloc: Global, name: &'a str) -> Arg<'a>
     ensures rule { rule_of result ≡ option_rule name.now }
     ensures local { result.global ≡ false }

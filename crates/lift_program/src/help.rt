@@ -10,7 +10,7 @@ use crate::words::asks_for_help;
 use lift_base::text::put_all;
 use std::convert::AsStr;
 
-/// Writes a text, and has the output pass it on. Where it can't be written, nothing tells.
+/// Writes a text, and has the output pass it on. Where it can't be written, nothing says so.
 fn write_text<W: Outflow>(writer: &mut W, text: &str)
     ensures { SaysText text.now (IsFlushed W.gives W.flushes writer.old writer.new)
         (WriterHasFailed W.gives W.flushes writer.old writer.new)

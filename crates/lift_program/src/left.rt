@@ -32,7 +32,7 @@ impl<D> Left<D> {
     }
 }
 
-/// Why no image was had: what is told, and what that comes from.
+/// Why no image was had: what is reported, and what that comes from.
 #[derive(Drop)]
 pub struct Refused<F: Drop, O: Drop> {
     pub fault: Fault,

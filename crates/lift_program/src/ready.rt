@@ -86,7 +86,7 @@ fn listen_here<L: Listens>(socket: ForServing<L>, port: u16) -> Result<Listening
 
 /// All that it takes to serve the building in the file `building` on a port of this machine, with
 /// the journal in the file `image`, until so many connections have ended. The building stands in
-/// `place`. That the port is served is said behind all that can be refused here.
+/// `place`. That the port is served is said after all that can be refused here.
 #[inline(never)]
 #[tactic(auto, using(crate::proofs::Stages::nothing_written, crate::proofs::Writing::nothing_said, crate::proofs::Writing::said_front))]
 pub(crate) fn ready_for<'b, B: TextOpener, I: FileOpener, L: Listens, W: Outflow, E: Write + Drop>(
@@ -110,7 +110,7 @@ pub(crate) fn ready_for<'b, B: TextOpener, I: FileOpener, L: Listens, W: Outflow
     ensures port { IfOk result (λ ready. ready.port ≡ port) }
     ensures sessions { IfOk result (λ ready. ready.prepared.sessions ≡ sessions) }
     ensures policy { IfOk result (λ ready. ready.prepared.policy ≡ policy) }
-    // The port is told only where that was refused.
+    // The port is the fault only where that was refused.
     ensures refused { IfErr result (λ undone. fault_in undone ≡ Fault.Network
         → L.gives openers.socket local port None) }
     // Nothing was written to an image that isn't served.

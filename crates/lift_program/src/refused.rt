@@ -97,7 +97,7 @@ fn told(role: Role, error: &io::Error) -> Fault
     }
 }
 
-/// What is told of a file that can't be an image.
+/// What is answered of a file that can't be an image.
 pub(crate) fn told_as<F: Drop, O: Drop>(cause: &FileFault<F, O>) -> Fault
     ensures file { IsFileFault OfImage result }
     ensures told { IsImageFault cause.now result }
@@ -116,7 +116,7 @@ pub(crate) fn text_in<B: TextOpener>(opener: B, path: &str) -> Result<OpenedText
     ensures uncalled { IfOk result IsUncalled }
     ensures refused { result ≡ Err (Fault.File OfBuilding) → IsTextRefused (B.opens opener path.now) }
     ensures fault { IfErr result (IsFileFault OfBuilding) }
-    // Memory is told just where the system said so.
+    // Memory is the fault just where the system said so.
     ensures told { IfErr result
         (IsRefusedBySystem OfBuilding (λ error. B.opens opener path.now (Err error))) }
 {
@@ -132,7 +132,7 @@ pub(crate) fn pass_on<W: Outflow>(writer: &mut W) -> Result<(), Fault>
     ensures failed { OnErr result (W.flushes writer.old false writer.new) }
     ensures bytes { Keeps (W.contents writer.old) (W.contents writer.new) }
     ensures fault { IfErr result (IsFileFault Output) }
-    // Memory is told just where the system said so.
+    // Memory is the fault just where the system said so.
     ensures told { IfErr result
         (IsRefusedBySystem Output (λ error. W.refuses writer.old error writer.new)) }
 {

@@ -24,7 +24,7 @@ pub fn replay<R: Read + Drop, W: Outflow>(
     requires uncalled { IsUncalled input.old }
     ensures good { result ≡ Ok Verdict.Good → input.new.ended ≡ true }
     // What was written is the report of the reader's input, and the verdict is that of it; else it
-    // is a front of it.
+    // is a prefix of it.
     ensures report { ReportsAll (R.remaining input.old.reader) (W.contents writer.old)
         (W.contents writer.new) result }
     ensures fault { IfErr result IsReplayFault }
@@ -32,7 +32,7 @@ pub fn replay<R: Read + Drop, W: Outflow>(
     ensures unwritten { result ≡ Err (Fault.File Input)
         → W.contents writer.new ≡ W.contents writer.old }
     ensures read { result ≡ Err (Fault.File Output) → IsInputRead R.remaining input.old input.new }
-    // Nothing is read behind what the script took.
+    // Nothing is read after what the script took.
     ensures taken { TakesUpTo (most_bytes + 1) R.remaining input.old.reader input.new.reader }
     ensures few_calls { input.new.calls ≤ 2097152 }
     ensures flushed { OnOk result (IsFlushed W.gives W.flushes writer.old writer.new) }

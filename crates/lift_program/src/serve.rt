@@ -35,7 +35,7 @@ fn fault_of(is_broken: bool, end: &ServingEnd) -> Option<Fault>
     refused_in(end)
 }
 
-/// What is told of a serving, the image as it was left, and how the serving ended.
+/// What is reported of a serving, the image as it was left, and how the serving ended.
 #[derive(Drop)]
 pub struct Serving<D> {
     pub fault: Option<Fault>,
@@ -100,8 +100,8 @@ where
     (errors, behind)
 }
 
-/// Serves until so many connections have ended. That the device failed is told in `errors` in the very
-/// turn in which it fails, and nothing else is.
+/// Serves until so many connections have ended. That the device failed is written to `errors` in
+/// the very turn in which it fails, and nothing else is.
 fn serve_telling<'b, R, D, E>(
     rt: &R,
     alloc: Global,
@@ -140,7 +140,7 @@ where
 }
 
 /// Serves what is ready, until so many connections have ended. The answer tells the fault that did
-/// not end it, if there was one. That the device failed is told in `errors` when it does.
+/// not end it, if there was one. That the device failed is written to `errors` when it does.
 #[inline(never)]
 pub(crate) fn serve<R: Threads + Wait + Clock + Sync, D: Disk + Drop, E: Write + Drop>(
     rt: &R,

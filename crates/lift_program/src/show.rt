@@ -54,18 +54,18 @@ fn show_on<D: Disk + Drop, W: Outflow>(
         (ShowsRegister building.now (D.state disk) (D.state result.0) (W.contents writer.old)
         (W.contents writer.new)) }
     ensures flushed { OnOk result.1 (IsFlushed W.gives W.flushes writer.old writer.new) }
-    // or a front of them, where they can't be written.
+    // or a prefix of them, where they can't be written.
     ensures front { IfErr result.1 (λ fault. IsFileFault Output fault
         → ShowsFront building.now (D.state disk) (D.state result.0) (W.contents writer.old)
         (W.contents writer.new)) }
-    // Where the recovery is refused its cause is told, and nothing is written.
+    // Where the recovery is refused its cause is answered, and nothing is written.
     ensures refused { (fault : Refusal) → result.1 ≡ Err (OfJournal fault)
         → RefusesReopening building.now (D.state disk) (D.state result.0) fault }
     ensures unwritten { IfErr result.1 (λ fault.
         IsReportOfFault fault (W.contents writer.old) (W.contents writer.new)) }
     ensures fault { IfErr result.1 IsShowingFault }
     ensures writes { (D.state result.0).writes ≡ (D.state disk).writes }
-    // The standard output is told only where it failed.
+    // The standard output is the fault only where it failed.
     ensures failed { result.1 ≡ Err (Fault.File Output)
         → WriterHasFailed W.gives W.flushes writer.old writer.new }
 {

@@ -46,13 +46,13 @@ pub fn not_given<E: Write + Drop>(
     end
 }
 
-/// Does what the words behind the program's name ask for, and answers how that ended, whose `status` is
-/// the program's: 0 where all was done, 1 for a bad script or a fault, 2 for other words. A fault writes
-/// its line to `errors`, and so do other words; where that fails, the status alone tells. A request for
-/// help is told how the program is called. What opens the files and the socket is used up: nothing is
-/// opened twice, and no file or socket but these. Only a serving waits, once all that it takes was had:
-/// whatever it waits for, and whether or not it ever ends, nothing was opened but what the words asked
-/// for, and nothing is read.
+/// Does what the words after the program's name ask for, and answers how that ended, whose `status`
+/// is the program's: 0 where all was done, 1 for a bad script or a fault, 2 for other words. A
+/// fault writes its line to `errors`, and so do other words; where that fails, only the status says
+/// so. A request for help is told how the program is called. What opens the files and the socket is
+/// used up: nothing is opened twice, and no file or socket but these. Only a serving waits, once
+/// all that it takes was had: whatever it waits for, and whether or not it ever ends, nothing was
+/// opened but what the words asked for, and nothing is read.
 #[inline(never)]
 pub fn start<
     F: Threads + Wait + Clock + Sync,
@@ -87,7 +87,7 @@ pub fn start<
         → WriterHasFailed W.gives W.flushes writer.old writer.new }
     // what was written was passed on where all was done,
     ensures passed_on { IsPassedOn result (IsFlushed W.gives W.flushes writer.old writer.new) }
-    // and its line was told, and nothing else.
+    // and its line was written, and nothing else.
     ensures told { TellsLine E.contents (line_of result) errors.old errors.new }
 {
     let mut place = None;

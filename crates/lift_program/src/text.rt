@@ -64,7 +64,7 @@ pub(crate) fn bytes_of<B: TextOpener>(
         IfSome (B.Text.remaining text.reader) (λ all. bytes.items ≡ all)) }
     ensures bound { IfOk result.1 (λ bytes. vec_len bytes ≤ most_text) }
     ensures taken { TakesUpTo (most_text + 1) B.Text.remaining text.reader result.0.reader }
-    // No call was made behind the end, behind a failed one, or once a byte too many had come.
+    // No call was made after the end, after a failed one, or once a byte too many had come.
     ensures each_call { TakesByEach most_text B.Text.remaining text result.0 }
     ensures few_calls { result.0.calls ≤ 2097152 }
     ensures fault { IfErr result.1 (IsFileFault OfBuilding) }

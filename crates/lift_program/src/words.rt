@@ -79,7 +79,7 @@ fn files_of<'a>(matches: &ArgMatches<'a>) -> Option<(&'a str, &'a str)>
     Some((image, building))
 }
 
-/// What the words behind `format` ask for.
+/// What the words after `format` ask for.
 fn format_of<'a>(matches: &ArgMatches<'a>) -> Option<Request<'a>>
     ensures some { IfSome result (λ request. IsFormat (rows_of (found_of matches.now)) request) }
     ensures range { IfSome result (λ request. IsRequestInRange request) }
@@ -94,7 +94,7 @@ fn format_of<'a>(matches: &ArgMatches<'a>) -> Option<Request<'a>>
     })
 }
 
-/// What the words behind `show` ask for.
+/// What the words after `show` ask for.
 fn show_of<'a>(matches: &ArgMatches<'a>) -> Option<Request<'a>>
     ensures some { IfSome result (λ request. IsShow (rows_of (found_of matches.now)) request) }
     ensures range { IfSome result (λ request. IsRequestInRange request) }
@@ -129,7 +129,7 @@ fn policy_of(word: Option<&str>) -> Option<Shipped>
     }
 }
 
-/// What the words behind `serve` ask for.
+/// What the words after `serve` ask for.
 fn serve_of<'a>(matches: &ArgMatches<'a>) -> Option<Request<'a>>
     ensures some { IfSome result (λ request. IsServe (rows_of (found_of matches.now)) request) }
     ensures range { IfSome result (λ request. IsRequestInRange request) }
@@ -176,7 +176,7 @@ pub fn asks_for_help<S: AsStr>(words: &[S]) -> bool
     }
 }
 
-/// What the words behind the program's name ask for; none where they are those of no command, or
+/// What the words after the program's name ask for; none where they are those of no command, or
 /// ask for help.
 pub fn request_of<'a, S: AsStr>(
     alloc: Global,

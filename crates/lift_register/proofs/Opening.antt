@@ -39,7 +39,7 @@ becomes_lent {X} f xs lent i x blank is within mapped =
     let now : refill (length xs) xs (set xs i x) ≡ set xs i x = take_at (set xs i x) (drop (length (set xs i x)) xs) (length xs) (length-set xs i x) in
     rw (is, now) (becomes f xs i x blank within mapped, omega (arith, within, length-set xs i x), omega (arith, length-set xs i x))
 
--- what stands behind the one that is taken out
+-- what stands after the one that is taken out
 removed : {X : Type 0} (xs : List X) (i : ℕ) → remove xs i ≡ take i xs ++ drop (i + 1) xs
 removed {X} xs i = sym (ap (λ (n : ℕ). take i xs ++ drop n xs) (add-one i))
 

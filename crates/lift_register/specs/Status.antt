@@ -19,6 +19,7 @@ abbrev pub is_leaving : (car to : ℕ) → Entry → Bool
 is_leaving car to (Allot kiosk number f t c party) = false
 is_leaving car to (Stop c number floor dir) = c == car && floor == to
 
+-- how far a call is
 pub data Status : Type 0 where
   Waiting : Status
   Aboard : Status

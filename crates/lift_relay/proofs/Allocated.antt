@@ -61,7 +61,7 @@ makes choice a seat decided taken entries plan before after seats batch is seate
   turns = sym turns ∙ ap (λ l. turns_after (turns_of l) taken) (sym of_seat) ∙ ap turns_behind (sym is);
 }
 
--- with no batch in hand what is shown and the turns are those behind all that was sent
+-- with no batch in hand what is shown and the turns are those after all that was sent
 pub level : (plan : Plan) (desk : List TableId) (sent : State) (turns : List ℕ) (hand : List BatchState) (shown : State) (used : List ℕ) → hand ≡ [] → GoesOnBehind plan desk sent turns hand shown used
     → (shown ≡ sent) × (used ≡ turns)
 level plan desk sent turns [] shown used none goes = goes
@@ -115,7 +115,8 @@ held_one choice a seat decided state plan batch back end is none made of_plan se
       );
     }
 
--- The turn: the state before it, the one after its batch in hand was sent, and the one behind its scan.
+-- The turn: the state before it, the one after its batch in hand was sent, and the one after its
+-- scan.
 pub record Between {P : Type 0} (old a : AllocatorState P) : Type 0 where
   pub none : a.hand ≡ []
   pub sent : a.end.sent ≡ old.end.sent ++ old.hand
@@ -134,7 +135,7 @@ some_command : (taken : List NotedCommand) (commands : List Command) → command
 some_command [] commands is some = absurd (some (sym is))
 some_command (t ∷ taken) commands is some = omega arith
 
--- what was full at a refused try reads so behind it
+-- what was full at a refused try reads so after it
 pub refused_full : (old new : SendState) → FindsNoRoom old new → WasFull new
 refused_full old new refused =
     let full = refused.was_full in
@@ -184,7 +185,7 @@ scan_turn {P} choice old a new counts taken decided batch between scans commands
       later = then_later old.end.gone a.end.gone new.end.gone between.later later;
     }
 
--- ---- behind a scan, its batch is sent or held, if it made one
+-- ---- after a scan, its batch is sent or held, if it made one
 no_items : (taken : List NotedCommand) → length taken ≡ 0 → taken ≡ []
 no_items [] is = refl
 no_items (t ∷ taken) is = absurd (omega arith)

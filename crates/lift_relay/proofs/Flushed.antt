@@ -128,7 +128,7 @@ answered_more is_safe places mid next commands n taken visit inside is before la
 pub answered_all : (is_safe : Bool) (places next : List ClerkPlace) (commands : List NotedCommand) (n : ℕ) → length commands ≤ n → Answered is_safe places (take n commands) next → Answered is_safe places commands next
 answered_all is_safe places next commands n all is = subst (λ (l : List NotedCommand). Answered is_safe places l next) (take_all n commands all) is
 
--- the command behind these, with its note
+-- the command after these, with its note
 pub noted_at : (desk : List TableId) (turns : List ℕ) (commands : List NotedCommand) (n : ℕ) (d : NotedCommand) → n < length commands → AreNoted desk turns commands → IsNoted desk (turns_after turns (take n commands)) (get_or commands n d)
 noted_at desk turns [] n d inside all = absurd (omega arith)
 noted_at desk turns (t ∷ commands) zero d inside all = all.0
@@ -150,7 +150,7 @@ below_one count [] n d inside below = absurd (omega arith)
 below_one count (t ∷ commands) zero d inside below = below.0
 below_one count (t ∷ commands) (suc n) d inside below = below_one count commands n d (omega arith) below.1
 
--- what is not later than these turns isn't as late as the command behind them
+-- what is not later than these turns isn't as late as the command after them
 pub due_at : (desk : List TableId) (places : List ClerkPlace) (turns : List ℕ) (commands : List NotedCommand) (n : ℕ) (d : NotedCommand) → n < length commands → AreBelow (length desk) (commands_in commands)
     → AreNoted desk turns commands → IsSettled places (turns_after turns (take n commands)) → IsToBeAnswered desk places (get_or commands n d)
 due_at desk places turns commands n d inside below all settled =

@@ -73,7 +73,7 @@ goes_on {D} choice state a b f g fault law (inl refused) base safe given h =
     subst (λ (x : FlusherState D). GoesOnTo f x base safe given) (sym refused.1.1) (law f f None None NoFlush base safe given h)
 goes_on choice state a b f g fault law (inr run) base safe given h = law f g None run.first run.flusher base safe given h
 
--- a drain behind the turns of both parts
+-- a drain after the turns of both parts
 pub have_run : {D P : Type 0} (chooses : P → Choice) (state : D → DiskState) (a b c : AllocatorState P) (f g h : FlusherState D) (first last : Option KeeperFault) (fault : Option RunFault)
     → AllocatorTurns (chooses a.policy) a b → FlusherTurns state f None g first → AllocatorTurns (chooses b.policy) b c → FlusherTurns state g first h last
     → c.hand ≡ [] → length c.end.sent ≡ length h.end.received → fault ≡ fault_of last → HaveRun (chooses a.policy) state a c f h fault

@@ -82,7 +82,7 @@ pub below : (first n : ℕ) (visits : List Visit) → first + length visits ≤ 
 below first n [] h = tt
 below first n (v ∷ visits) h = below_at first n v.found (commands_of (suc first) visits) (omega arith) (below (suc first) n visits (omega arith))
 
--- along a run all that is accepted fits behind what was shown before
+-- along a run all that is accepted fits after what was shown before
 pub keeps-run : (choice : Choice) → StepsJoinAtMostOne choice → (plan : Plan) (safe : RegisterState) → register_of safe [] ≡ safe → (state next : State) (commands : List Command) (replies : List Reply)
     → IsKeeper plan state plan safe false → Run plan choice state commands replies next → IsKeeper plan next plan safe false
 keeps-run choice joins plan safe same state next [] [] keeper run = subst (λ (s : State). IsKeeper plan s plan safe false) (sym run) keeper

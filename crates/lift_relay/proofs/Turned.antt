@@ -83,7 +83,7 @@ module _ {D : Type 0} (state : D → DiskState) (f g : FlusherState D) (is_flush
 abbrev pub half_of : {D : Type 0} → FlusherState D → SettlerState D
 half_of f = record { desk = f.desk; seat = f.seat; writer = f.writer }
 
--- what is safe behind a batch, where nothing has failed
+-- what is safe after a batch, where nothing has failed
 pub leads_to : {D : Type 0} (state : D → DiskState) (old new : WriterView D) (batch : BatchState) (answer : Result FlushCounts KeeperFault) → IsDecided batch
     → (old.is_broken ≡ false → (batch.building ≡ old.plan) × (batch.before.register ≡ old.register)) → Commits state old batch.entries new answer → new.is_broken ≡ false → new.register ≡ batch.after.register
 leads_to state old new batch (Ok counts) is next c whole =

@@ -1,7 +1,7 @@
--- Who is told that a device fails.
+-- Who is notified that a device fails.
 use Rattle.std.specs.Prelude.{◌≡◌, Bool, true, false}
 
--- A writer that wasn't broken is, and the witness was told of that, once; else it is as it was.
+-- A writer that wasn't broken is, and the witness was notified, once; else it is as it was.
 abbrev pub FailureHeard : {V : Type 0} → (hears : V → V → Type 0) → (was_broken is_broken : Bool)
     → (old new : V) → Type 0
 FailureHeard hears false true old new = hears old new

@@ -104,6 +104,7 @@ pub record LineLists : Type 0 where
   pub turns_ahead : List ℕ
   pub turns_behind : List ℕ
 
+-- what this pass knows is so, of what it has the right to: to send, or to receive
 pub record EndFits (l : LineLists) (pass : ℕ) (v : EndView) : Type 0 where
   pub begun : v.begun ≡ true
   pub sends : v.sends ≡ true → (pass ≡ l.sender) × (v.sent ≡ l.sent) × Begins v.gone l.received
@@ -114,6 +115,8 @@ pub record EndFits (l : LineLists) (pass : ℕ) (v : EndView) : Type 0 where
       × (v.building ≡ l.building) × (v.desk ≡ l.desk) × (v.behind ≡ l.behind)
       × (v.turns_behind ≡ l.turns_behind)
 
+-- What was received, and then these batches, which the line holds, is what was sent. They are four
+-- at most, and each goes on from the one before it.
 pub record IsLineInOrder (items : List BatchState) (views : List EndView) : Type 0 where
   pub lists : LineLists
   pub in_order : lists.sent ≡ lists.received ++ items
@@ -128,13 +131,16 @@ pub record IsLineInOrder (items : List BatchState) (views : List EndView) : Type
 abbrev pub IsLineKept : List BatchState → List EndView → Type 0
 IsLineKept items views = (views ≡ opening items ∷ []) ⊎ IsLineInOrder items views
 
+-- the first batch is pushed, before the line begins
 abbrev pub Named : EndView → BatchState → EndView → Type 0
 Named v batch w = w ≡ opening (batch ∷ [])
 
+-- it is popped, and the line begins with it
 pub record Begun (v : EndView) (batch : BatchState) (w : EndView) : Type 0 where
   pub only : v.sent ≡ batch ∷ []
   pub begins : w ≡ begun_with batch
 
+-- one push: the batch comes after fewer than four others
 pub record Sent (v : EndView) (batch : BatchState) (w : EndView) : Type 0 where
   pub begun : w.begun ≡ v.begun
   pub sends : w.sends ≡ v.sends
@@ -149,6 +155,7 @@ pub record Sent (v : EndView) (batch : BatchState) (w : EndView) : Type 0 where
   pub before : w.sent ≡ w.gone ++ (items ++ batch ∷ [])
   pub later : Begins v.gone w.gone
 
+-- one pop: the batch goes on from what was received
 pub record Received (v : EndView) (batch : BatchState) (w : EndView) : Type 0 where
   pub begun : w.begun ≡ v.begun
   pub sends : w.sends ≡ v.sends

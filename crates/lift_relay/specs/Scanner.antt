@@ -31,7 +31,7 @@ pub record MakesBatch {P : Type 0} (choice : Choice) (a : ScannerState P) (seat 
       decided
   pub entries : batch.entries ≡ decided.batch
   pub next : IsNextBatch a.plan a.desk a.state (turns_of a.seat) batch
-  -- what decisions read behind it
+  -- what decisions read after it
   pub leads : batch.after ≡ settled decided
   pub turns : turns_of seat ≡ turns_behind batch
   pub uses : turns_in a.seat + 1 ≤ turns_in seat

@@ -18,8 +18,8 @@ pub record SettlerState (D : Type 0) : Type 0 where
   pub seat : List ClerkPlace
   pub writer : WriterView D
 
--- The command is of a terminal of the desk, and its note says it: an ask there, behind all that these
--- seats took.
+-- The command is of a terminal of the desk, and its note says it: an ask there, after all that
+-- these seats took.
 pub record IsToBeAnswered (desk : List TableId) (seat : List ClerkPlace) (taken : NotedCommand) : Type 0 where
   pub terminal : taken.command.terminal < length desk
   pub noted : IsNoteOf desk taken.command.terminal taken.note
@@ -35,7 +35,7 @@ pub record SettlesBatch {D : Type 0} (state : D
   pub answered : Answered (is_ok answer) old.seat batch.commands new.seat
   pub counts : (counts : FlushCounts) → answer ≡ Ok counts
       → (counts.batches ≡ 1) × (counts.answers ≡ length batch.commands)
-  -- where nothing has failed, what is safe is the register behind the batch
+  -- where nothing has failed, what is safe is the register after the batch
   pub leads : new.writer.is_broken ≡ false → new.writer.register ≡ batch.after.register
   pub settled : IsSettled new.seat (turns_behind batch)
   pub seated : IsClerkOf new.desk new.seat

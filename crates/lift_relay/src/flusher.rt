@@ -174,8 +174,8 @@ impl<'d, 'b, D: Disk, K> Flusher<'d, 'b, D, K> {
 
     /// One turn: receives one batch, makes it safe, then looks once more at each of its commands'
     /// terminals, and answers each command, which its look gives, with the batch's reply. After a
-    /// device fault it answers Unknown to that batch and all later ones. The witness hears of that
-    /// fault in the call that never waits, by which the batch is settled.
+    /// device fault it answers Unknown to that batch and all later ones. The witness is notified of
+    /// that fault in the call that never waits, by which the batch is settled.
     ///
     /// `Journal(Disk)` where a call of the device failed, `Journal(Broken)` while it is broken,
     /// also where the line was empty.
@@ -189,7 +189,7 @@ impl<'d, 'b, D: Disk, K> Flusher<'d, 'b, D, K> {
         ensures flushes { IsFlush D.state self.old self.new result }
         ensures calls { CommitCalls D.state self.old.writer
             (length (entries_received self.old.end self.new.end)) self.new.writer result }
-        // Where the device failed first, the witness heard of that, once.
+        // Where the device failed first, the witness was notified, once.
         ensures heard { FailureHeard V.hears
             self.old.writer.is_broken self.new.writer.is_broken witness.old witness.new }
         // A batch that it was told of, it receives.

@@ -22,10 +22,10 @@ use std::thread;
 /// in place of turning for nothing. What a run sends and receives after the last turn of both is
 /// not told.
 pub trait Gate {
-    // What it tells where it goes on.
+    // What is known once it has said to go on.
     ghost opened: { Self → Type 0 } = { λ _. Unit {0} };
 
-    // What it tells where it doesn't go on.
+    // What is known once it has said not to go on.
     ghost closed: { Self → Type 0 } = { λ _. Unit {0} };
 
     /// It is asked between turns, by both threads.

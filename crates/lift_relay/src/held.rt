@@ -143,7 +143,7 @@ impl<'d, 'b, D: Disk, P: Policy + Drop, K> HeldClerk<'d, 'b, D, P, K> {
 
     /// It after one turn more, and what that answers. Whatever had been answered before, each image
     /// that a crash at any moment of the turn may leave keeps, and what the turn answers is kept
-    /// from then on. Where the device fails first in it, the witness hears of that.
+    /// from then on. Where the device fails first in it, the witness is notified.
     pub fn turn<V: Witness>(self, witness: &mut V) -> (Self, Result<Counts, KeeperFault>)
     where
         K: HeardBy<V>,
@@ -188,7 +188,7 @@ pub(crate) fn part<'d, 'b, D: Disk, P: Policy + Drop, K>(
     ensures of_one { IfOk result (λ parts. AreOfOne parts.0 parts.1) }
     ensures refused { IfErr result (λ back. back.0 ≡ clerk.entry) }
     ensures flusher { IfOk result (λ parts. IsFlusher parts.1) }
-    // What has happened to the clerk's group goes on behind the flusher.
+    // The history of the clerk's group goes on as that of the flusher's.
     ensures history { IfOk result (λ parts. (base : RegisterState) (safe : List Entry)
         (given : List Taken) → History base (group_of clerk.entry) safe given
         → History base (group_behind parts.1) safe given) }
@@ -228,7 +228,7 @@ pub fn split_held<'d, 'b, D: Disk, P: Policy + Drop, K>(
     ensures of_one { IfOk result (λ parts. AreOfOne parts.0 parts.1) }
     ensures refused { IfErr result (λ back. back.0 ≡ clerk.entry) }
     ensures flusher { IfOk result (λ parts. IsFlusher parts.1) }
-    // What has happened to the clerk's group goes on behind the flusher.
+    // The history of the clerk's group goes on as that of the flusher's.
     ensures history { IfOk result (λ parts. (base : RegisterState) (safe : List Entry)
         (given : List Taken) → History base (group_of clerk.entry) safe given
         → History base (group_behind parts.1) safe given) }
@@ -254,7 +254,7 @@ pub fn rejoin_held<'d, 'b, D: Disk, P: Policy + Drop, K>(
         ⊎ (allocator.entry.hand ≢ [])) }
     // What was received, and then what the line holds, is what was sent.
     ensures queued { Queued allocator.entry.end flusher.entry.end }
-    // What has happened behind the flusher has happened to the clerk's group.
+    // The history of the flusher's group is that of the clerk's.
     ensures history { IfOk result (λ clerk. (base : RegisterState) (safe : List Entry)
         (given : List Taken) → History base (group_behind flusher.entry) safe given
         → History base (group_of clerk) safe given) }

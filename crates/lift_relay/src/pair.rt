@@ -326,9 +326,9 @@ where
 /// It is generic in the key of its parts. So it can have the flusher's seats answer by turns alone,
 /// each of which ends, or waits for a batch, with nothing answered that isn't safe.
 ///
-/// A device fault doesn't end it: the flusher's first is the answer, which the witness hears of in the
-/// very turn, and what was received from then on was answered Unknown. `Spawn` where the thread
-/// couldn't be started; then it returns at once. The witness is given back.
+/// A device fault doesn't end it: the flusher's first is the answer, of which the witness is
+/// notified in the very turn, and what was received from then on was answered Unknown. `Spawn`
+/// where the thread couldn't be started; then it returns at once. The witness is given back.
 pub fn run<'d, 'b, R, G, D, P, K, V>(
     rt: &R,
     allocator: &mut Allocator<'d, 'b, P>,
@@ -349,8 +349,8 @@ where
     ensures ran { result.1 ≢ Some (RunFault.Spawn tt)
         → HaveRun (P.chooses allocator.old.policy) D.state allocator.old allocator.new flusher.old
         flusher.new result.1 }
-    // The witness heard that the device failed, once, where it did first in the run; else it is as it
-    // was.
+    // The witness was notified that the device failed, once, where it did first in the run; else it
+    // is as it was.
     ensures heard { FailureHeard V.hears
         flusher.old.writer.is_broken flusher.new.writer.is_broken witness result.0 }
     // It ends only once the gate has said not to go on, or where no thread could be made.

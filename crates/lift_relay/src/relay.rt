@@ -30,7 +30,7 @@ pub struct Key {
     made: (),
 }
 
-/// Who turns such parts by hand tells whom they like.
+/// Who turns such parts by hand notifies whom they like.
 impl<V: Witness> HeardBy<V> for Key {}
 
 /// A clerk's work in two parts, with a line of four batches between them. A broken clerk may be
@@ -43,7 +43,7 @@ pub fn split<'d, 'b, D: Disk, P: Policy + Drop>(
     ensures of_one { IfOk result (λ parts. AreOfOne parts.0 parts.1) }
     ensures refused { IfErr result (λ back. back.0 ≡ clerk.entry) }
     ensures flusher { IfOk result (λ parts. IsFlusher parts.1) }
-    // What has happened to the clerk's group goes on behind the flusher.
+    // The history of the clerk's group goes on as that of the flusher's.
     ensures history { IfOk result (λ parts. (base : RegisterState) (safe : List Entry)
         (given : List Taken) → History base (group_of clerk.entry) safe given
         → History base (group_behind parts.1) safe given) }
@@ -89,7 +89,7 @@ pub fn rejoin<'d, 'b, D: Disk, P: Policy + Drop>(
         ⊎ (allocator.entry.hand ≢ [])) }
     // What was received, and then what the line holds, is what was sent.
     ensures queued { Queued allocator.entry.end flusher.entry.end }
-    // What has happened behind the flusher has happened to the clerk's group.
+    // The history of the flusher's group is that of the clerk's.
     ensures history { IfOk result (λ clerk. (base : RegisterState) (safe : List Entry)
         (given : List Taken) → History base (group_behind flusher.entry) safe given
         → History base (group_of clerk) safe given) }

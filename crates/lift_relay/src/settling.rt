@@ -139,7 +139,7 @@ impl<'d, 'b, D: Disk, K> Settler<'d, 'b, D, K> {
 
     /// Makes a batch safe, then looks once more at each of its commands' terminals, and answers each
     /// command, which its look gives, with the batch's reply. After a device fault it answers Unknown
-    /// to that batch and all later ones. The witness hears of that fault here.
+    /// to that batch and all later ones. The witness is notified of that fault here.
     ///
     /// `Journal(Disk)` where a call of the device failed, `Journal(Broken)` while it is broken.
     pub fn settle<V: Witness>(

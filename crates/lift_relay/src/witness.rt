@@ -1,30 +1,30 @@
-//! Who is told that the device fails, when it does.
+//! Who is notified that the device fails, when it does.
 
 ghost use Rattle.lift_relay.specs.Heard.{FailureHeard};
 
 /// That a device has just failed, as it hadn't since it was last opened. Only this file makes one, in
-/// which no call waits: so whoever waits with a witness can't tell it of a failure.
+/// which no call waits: so whoever waits with a witness can't notify it of a failure.
 #[derive(Drop)]
 pub struct Failed {
     made: (),
 }
 
-/// Is told when a device fails, in the very call in which it does.
+/// Is notified when a device fails, in the very call in which it does.
 pub trait Witness {
-    // It was told.
+    // It was notified.
     ghost hears: { Self → Self → Type 0 } = { λ _ _. Unit {0} };
 
     /// A call of the device has just failed, as none had before since it was last opened. So a device
-    /// that stays broken is told once.
+    /// that stays broken is reported once.
     fn has_failed(&mut self, failed: Failed)
         ensures { hears self.old self.new };
 }
 
-/// Whom those tell who have a clerk or its parts for this key. Who is generic in both knows of no
-/// other: so whatever it waits for, no device fails there that this one isn't told of.
+/// Whom those notify who have a clerk or its parts for this key. Who is generic in both knows of no
+/// other: so whatever it waits for, no device fails there that this one isn't notified of.
 pub trait HeardBy<V: Witness> {}
 
-/// Hears of nothing.
+/// Takes no notice.
 #[derive(Clone, Copy)]
 pub struct NoWitness;
 
@@ -32,7 +32,7 @@ impl Witness for NoWitness {
     fn has_failed(&mut self, _failed: Failed) {}
 }
 
-/// Tells the witness where the writer is broken now, as it wasn't before.
+/// Notifies the witness where the writer is broken now, as it wasn't before.
 pub(crate) fn tell_of<V: Witness>(witness: &mut V, was_broken: bool, is_broken: bool)
     ensures { FailureHeard V.hears was_broken is_broken witness.old witness.new }
 {

@@ -198,7 +198,7 @@ fn write(rt: &HostRuntime, report: &str) -> Result<(), Trouble> {
 
 /// Tells why there is no whole report.
 fn tell(rt: &HostRuntime, trouble: Trouble) -> ExitCode {
-    // where the line can't be written, the status alone tells
+    // where the line can't be written, only the status says so
     let _ = eprintln!(rt; "lift_relay_cases: {}", trouble.name());
     ExitCode::from(2)
 }

@@ -44,7 +44,7 @@ impl<'d, 'b> Station<'d, 'b> {
         self.terminals.ask(terminal, number, body)
     }
 
-    /// A terminal asks, or the report tells why it can't.
+    /// A terminal asks, or the report says why it can't.
     fn ask(
         &mut self,
         report: &mut String,

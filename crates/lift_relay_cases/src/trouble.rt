@@ -7,7 +7,7 @@ use std::io;
 
 #[derive(Clone, Copy)]
 pub(crate) enum Trouble {
-    /// The script, its building or one of its lines is malformed, as the report tells.
+    /// The script, its building or one of its lines is malformed, as the report says.
     Bad,
     /// The script can't be read, or the report can't be written.
     Stream,

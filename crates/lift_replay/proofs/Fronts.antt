@@ -1,4 +1,4 @@
--- A front of what the lines tell.
+-- A prefix of what the lines report.
 use Rattle.std.proofs.Common.{◌≡◌, ℕ, List, [], ◌++◌, take, drop, take-append-drop, refl, sym, ap, ◌∙◌, subst}
 use Rattle.std.specs.Prelude.{Option, Some, None, Result, Ok, Err, OnErr, IfOk}
 use Rattle.std.proofs.lemmas.List.{append_assoc, append-nil}
@@ -47,7 +47,7 @@ no_part old piece all = record { written = []; appends = Appends-nil old; front 
 pub whole_part : (old new : Option (List ℕ)) (piece after all : List ℕ) → Reports old new piece after all → ReportsPart old new piece after all
 whole_part old new piece after all reports = record { written = reports.written; appends = reports.appends; front = ([], append-nil (reports.written ++ after) ∙ sym reports.same) }
 
--- a writer took a front of the piece, which is empty then
+-- a writer took a prefix of the piece, which is empty then
 pub torn_part : (old new : Option (List ℕ)) (n : ℕ) (piece after all : List ℕ) → Appends old new (take n piece) → after ≡ [] → ReportsPart old new piece after all
 torn_part old new n piece after all appends none = record {
   written = take n piece;
@@ -59,7 +59,7 @@ torn_part old new n piece after all appends none = record {
   );
 }
 
--- a writer took a front of the piece, to which all of it had been added
+-- a writer took a prefix of the piece, to which all of it had been added
 pub torn_told : (old new : Option (List ℕ)) (n : ℕ) (piece mid after told : List ℕ) → mid ≡ piece ++ told → Appends old new (take n mid) → after ≡ [] → ReportsPart old new piece after told
 torn_told old new n piece mid after told is appends none = record {
   written = take n mid;
@@ -67,7 +67,7 @@ torn_told old new n piece mid after told is appends none = record {
   front = (drop n mid, ap (λ l. (take n mid ++ l) ++ drop n mid) none ∙ ap (λ l. l ++ drop n mid) (append-nil (take n mid)) ∙ take-append-drop n mid ∙ is);
 }
 
--- a front of what goes on after what was reported
+-- a prefix of what goes on after what was reported
 pub more_part : (old mid new : Option (List ℕ)) (piece next after added more : List ℕ) → Reports old mid piece next added → ReportsPart mid new next after more → ReportsPart old new piece after (added ++ more)
 more_part old mid new piece next after added more first second = record {
   written = first.written ++ second.written;
@@ -83,13 +83,13 @@ more_part old mid new piece next after added more first second = record {
 pub tells_none : (plan : Plan) (count : ℕ) (g : ScriptGroup) (script : List (List ℕ)) (old : Option (List ℕ)) (piece : List ℕ) → TellsPart plan count g script old old piece piece
 tells_none plan count g script old piece = let told = lines_total plan count g script in (told.0, told.1, told.2, no_part old piece told.0)
 
--- the writer took a front of the piece
+-- the writer took a prefix of the piece
 pub tells_torn : (plan : Plan) (count : ℕ) (g : ScriptGroup) (script : List (List ℕ)) (old new : Option (List ℕ)) (n : ℕ) (piece after : List ℕ) → Appends old new (take n piece) → after ≡ []
     → TellsPart plan count g script old new piece after
 tells_torn plan count g script old new n piece after appends none =
     let told = lines_total plan count g script in (told.0, told.1, told.2, torn_part old new n piece after told.0 appends none)
 
--- the later lines told a front
+-- the later lines reported a prefix
 pub tells_more : (plan : Plan) (count later : ℕ) (g next : ScriptGroup) (script rest : List (List ℕ)) (old mid new : Option (List ℕ)) (piece kept after text : List ℕ)
     → Continues plan count g script text later next rest → Reports old mid piece kept text → TellsPart plan later next rest mid new kept after → TellsPart plan count g script old new piece after
 tells_more plan count later g next script rest old mid new piece kept after text leads reports (more, verdict, tells, part) =
@@ -105,7 +105,7 @@ tells_so_far plan count later g next script rest old new piece after text leads 
 pub tells_kept : (plan : Plan) (count : ℕ) (g : ScriptGroup) (script : List (List ℕ)) (old new : Option (List ℕ)) (piece kept after : List ℕ) → after ≡ kept → TellsPart plan count g script old new piece kept → TellsPart plan count g script old new piece after
 tells_kept plan count g script old new piece kept after is part = subst (TellsPart plan count g script old new piece) (sym is) part
 
--- what was kept back was written, or a front of it
+-- what was kept back was written, or a prefix of it
 pub tells_put : (plan : Plan) (count : ℕ) (g : ScriptGroup) (script : List (List ℕ)) (old mid new : Option (List ℕ)) (piece after : List ℕ) → piece ≡ [] → TellsPart plan count g script old mid piece after
     → AppendsFront mid new after → WritesFront (TellsLines plan count g script) old new
 tells_put plan count g script old mid new piece after none (all, verdict, tells, part) (put, (rest, is), appends) = (
@@ -128,7 +128,7 @@ pub tells_all : (plan : Plan) (count : ℕ) (g : ScriptGroup) (script : List (Li
     → (all : List ℕ) × TellsLines plan count g script all verdict × Reports old new piece after all → TellsPart plan count g script old new piece after
 tells_all plan count g script old new piece after verdict (all, tells, reports) = (all, verdict, tells, whole_part old new piece after all reports)
 
--- all was told, or a front of it
+-- all was reported, or a prefix of it
 pub tells_either : {E : Type 0} (plan : Plan) (count : ℕ) (g : ScriptGroup) (script : List (List ℕ)) (old new : Option (List ℕ)) (piece after : List ℕ) (result : Result Verdict E)
     → IfOk result (λ verdict. (all : List ℕ) × TellsLines plan count g script all verdict × Reports old new piece after all) → OnErr result (TellsPart plan count g script old new piece after)
     → TellsPart plan count g script old new piece after
@@ -151,7 +151,7 @@ input_is (Some all) = refl
 pub input_unwritten : (input old : Option (List ℕ)) → ReportsFront input old old
 input_unwritten input old = let told = report_total (input_of input) in (input_of input, input_is input, (told.0, told.1, told.2, no_front old told.0))
 
--- a front of a text is one of a longer text
+-- a prefix of a text is one of a longer text
 pub longer_part : (old new : Option (List ℕ)) (piece after all more : List ℕ) → ReportsPart old new piece after all → ReportsPart old new piece after (all ++ more)
 longer_part old new piece after all more part = record {
   written = part.written;

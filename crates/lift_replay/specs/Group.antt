@@ -1,5 +1,5 @@
--- What a script's group is between two of its lines, what a line tells of it, and what it makes of
--- it: functions of the script.
+-- What a script's group is between two of its lines, what a line reports of it, and what it makes
+-- of it: functions of the script.
 use Rattle.std.specs.Prelude.{ℕ, suc, ◌+◌, ◌-◌, ◌==◌, Bool, true, false, not, if◌then◌else◌, nat_le}
 use Rattle.std.specs.Prelude.{List, [], ◌∷◌, ◌++◌, length, replicate, slice_index_or, slice_set}
 use Rattle.std.specs.Prelude.{codes, Option, Some, None}
@@ -69,7 +69,7 @@ asking_at terminals terminal = slice_index_or terminals terminal unasked
 abbrev pub new_terminals : Plan → List Asking
 new_terminals plan = replicate (16 + length plan.kiosks) unasked
 
--- no car has told where it is
+-- no car has reported where it is
 abbrev pub no_positions : List (Option Position)
 no_positions = replicate 16 None
 
@@ -88,7 +88,8 @@ first_group plan = record {
 abbrev pub policy_view : ScriptGroup → ViewState
 policy_view g = record { register = g.register; positions = g.positions }
 
--- What a terminal tells that asks: nothing, or that it waits still, or that it has no turn left.
+-- What is reported of a terminal that asks: nothing, or that it waits still, or that it has no turn
+-- left.
 abbrev pub ask_text : Option Ask → (turns terminal number : ℕ) → List ℕ
 ask_text (Some ask) turns terminal number = waiting_text terminal number
 ask_text None turns terminal number = if turns == 1048575 then spent_text terminal number else []
@@ -317,7 +318,7 @@ after_asking g terminal number body =
       });
     }
 
--- what each line tells
+-- what each line reports
 abbrev pub line_text : Plan → ScriptGroup → ScriptLine → List ℕ
 line_text plan g (Place car position) = asked_text g car 0
 line_text plan g (Call kiosk number floor party) = asked_text g (16 + kiosk) number

@@ -12,7 +12,7 @@ HasOne IsSuch = (text : List ℕ) × (verdict : Verdict) × IsSuch text verdict
     × ((other : List ℕ) (second : Verdict) → IsSuch other second
     → (other ≡ text) × (second ≡ verdict))
 
--- Any lines tell one text of a group of a building, and have one verdict.
+-- Any lines report one text of a group of a building, and have one verdict.
 abbrev pub EachTellsOneText : Type 0
 EachTellsOneText = (plan : Plan) (count : ℕ) (g : ScriptGroup) (script : List (List ℕ))
     → HasOne (TellsLines plan count g script)

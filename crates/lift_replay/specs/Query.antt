@@ -49,7 +49,7 @@ abbrev pub halts_text : List Halt → List ℕ
 halts_text [] = codes " -"
 halts_text (halt ∷ halts) = flat_map halt_text (halt ∷ halts)
 
--- the stop list of a car with these open calls, once it has told where it is
+-- the stop list of a car with these open calls, once it has reported where it is
 abbrev pub placed_text : List Row → Option Position → List ℕ
 placed_text rows None = codes " unplaced"
 placed_text rows (Some position) = halts_text (stop_list rows position)

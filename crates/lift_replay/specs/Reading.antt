@@ -92,7 +92,7 @@ abbrev pub ReaderFails : {R : Type 0} → (gives : R → List ℕ → Option ℕ
 ReaderFails {R} gives old new =
     (last : R) × (buffer : List ℕ) × TakesSomeEachCall gives old last × gives last buffer None new
 
--- These bytes are the input of a reader that has so much left; of one that doesn't tell, they may
+-- These bytes are the input of a reader that has so much left; of one that doesn't say, they may
 -- be any.
 abbrev pub IsInput : Option (List ℕ) → List ℕ → Type 0
 IsInput None bytes = Unit {0}

@@ -12,7 +12,7 @@ use Rattle.lift_replay.specs.Running.{TellsLines}
 use Rattle.lift_replay.specs.Script.{RefusesBuilding, SaysBuilding, IsText}
 use Rattle.lift_replay.specs.Source.{IsScript, LacksDivider}
 
--- a building that is refused, or what the lines tell from an empty journal on
+-- a building that is refused, or what the lines report from an empty journal on
 abbrev pub IsPartsReport : (building : List ℕ) → List (List ℕ) → List ℕ → Verdict → Type 0
 IsPartsReport building script report verdict = (RefusesBuilding building report × (verdict ≡ Bad))
     ⊎ ((plan : Plan) × SaysBuilding building plan
@@ -25,7 +25,7 @@ IsTextReport text report verdict =
     × IsPartsReport building script report verdict)
 
 -- The first of these that is so: it is too long, it is no UTF-8, it has no divider, its building is
--- refused, or else what its lines tell.
+-- refused, or else what its lines report.
 abbrev pub IsReport : (bytes report : List ℕ) → Verdict → Type 0
 IsReport bytes report verdict =
     ((most_bytes < length bytes) × (report ≡ codes "TOO LONG\n") × (verdict ≡ Bad))
@@ -39,7 +39,7 @@ abbrev pub WritesReport : (List ℕ → Verdict → Type 0) → (before after : 
 WritesReport IsSuch before after verdict = (report : List ℕ) × IsSuch report verdict
     × Appends before after report
 
--- what was written is a front of such a report
+-- what was written is a prefix of such a report
 abbrev pub WritesFront : (List ℕ → Verdict → Type 0) → (before after : Option (List ℕ)) → Type 0
 WritesFront IsSuch before after = (report : List ℕ) × (verdict : Verdict) × IsSuch report verdict
     × AppendsFront before after report
@@ -49,7 +49,7 @@ abbrev pub ReportsInput : (input before after : Option (List ℕ)) → Verdict �
 ReportsInput input before after verdict = (bytes : List ℕ) × IsInput input bytes
     × WritesReport (IsReport bytes) before after verdict
 
--- or a front of it
+-- or a prefix of it
 abbrev pub ReportsFront : (input before after : Option (List ℕ)) → Type 0
 ReportsFront input before after = (bytes : List ℕ) × IsInput input bytes
     × WritesFront (IsReport bytes) before after

@@ -96,7 +96,7 @@ refused_text reason = codes " NO " ++ decimal (reason_number reason)
 abbrev pub detour_text : (from by to : ℕ) → List ℕ
 detour_text from by to = 32 ∷ decimal from ++ 32 ∷ decimal by ++ 32 ∷ decimal to
 
--- the floors, of a fault that tells some
+-- the floors, of a fault that names some
 abbrev pub floors_text : BuildingFault → List ℕ
 floors_text NotToml = []
 floors_text (Missing field) = []
@@ -111,7 +111,7 @@ abbrev pub building_text : BuildingFault → List ℕ
 building_text fault = codes "BUILDING " ++ decimal (fault_number fault) ++ floors_text fault ++ 10
     ∷ []
 
--- a front of this text was written
+-- a prefix of this text was written
 abbrev pub AppendsFront : (old new : Option (List ℕ)) → List ℕ → Type 0
 AppendsFront old new text = (written : List ℕ) × IsPrefix written text × Appends old new written
 
@@ -122,8 +122,8 @@ pub record Reports (old new : Option (List ℕ)) (before after added : List ℕ)
   pub appends : Appends old new written
   pub same : before ++ added ≡ written ++ after
 
--- The report grew by a front of this. What was written, with what is kept back, is a front of what
--- had been kept back and this.
+-- The report grew by a prefix of this. What was written, with what is kept back, is a prefix of
+-- what had been kept back and this.
 pub record ReportsPart (old new : Option (List ℕ)) (before after all : List ℕ) : Type 0 where
   pub written : List ℕ
   pub appends : Appends old new written

@@ -1,4 +1,4 @@
--- What the lines of a script tell, from one to the next: the report as a function of the script.
+-- What the lines of a script report, from one to the next: the report as a function of the script.
 use Rattle.std.specs.Prelude.{ℕ, suc, ◌≡◌, ◌⊎◌, Option, List, [], ◌∷◌, ◌++◌}
 use Rattle.lift_building.specs.Plan.{Plan}
 use Rattle.lift_desk.specs.Seats.{TerminalSeat}
@@ -18,8 +18,8 @@ use Rattle.lift_replay.specs.Script.{IsBadLine}
 use Rattle.lift_replay.specs.Shows.{Shows, IsKeeperOf}
 use Rattle.lift_replay.specs.Told.{ScriptClerk}
 
--- These lines, after `count` others, tell this of a group, and the run of them has this verdict:
--- skipped ones tell nothing, a malformed one ends the run, and each other tells what it asks for
+-- These lines, after `count` others, report this of a group, and the run of them has this verdict:
+-- skipped ones report nothing, a malformed one ends the run, and each other what it asks for
 -- and leaves the group to the next.
 abbrev pub TellsLines : Plan → ℕ → ScriptGroup → List (List ℕ) → List ℕ → Verdict → Type 0
 TellsLines plan count g [] text verdict = (text ≡ []) × (verdict ≡ Good)
@@ -31,7 +31,7 @@ TellsLines plan count g (line ∷ lines) text verdict =
     × (text ≡ line_text plan g wanted ++ more))
     ⊎ (IsBadLine plan line × (text ≡ bad_text (suc count)) × (verdict ≡ Bad)))
 
--- What the later lines tell of the later group, after this text, all of them tell of the first
+-- What the later lines report of the later group, after this text, all of them report of the first
 -- one.
 abbrev pub Continues : Plan → (count : ℕ) → ScriptGroup → List (List ℕ) → List ℕ → (later : ℕ)
     → ScriptGroup → List (List ℕ) → Type 0
@@ -39,7 +39,7 @@ Continues plan count g script text later next rest =
     (more : List ℕ) (verdict : Verdict) → TellsLines plan later next rest more verdict
     → TellsLines plan count g script (text ++ more) verdict
 
--- The lines tell some text of the group, and the report grew by a front of it.
+-- The lines report some text of the group, and the report grew by a prefix of it.
 abbrev pub TellsPart : Plan → (count : ℕ) → ScriptGroup → List (List ℕ)
     → (old new : Option (List ℕ))
     → (before after : List ℕ) → Type 0
@@ -47,7 +47,7 @@ TellsPart plan count g script old new before after =
     (all : List ℕ) × (verdict : Verdict) × TellsLines plan count g script all verdict
     × ReportsPart old new before after all
 
--- Where lines end at a desk: all are told, or a power cut is left to do.
+-- Where lines end at a desk: all are carried out, or a power cut is left to do.
 abbrev pub LinesEnd : Plan → (count : ℕ) → ScriptGroup → List (List ℕ) → List ℕ → (later : ℕ)
     → List (List ℕ) → ScriptClerk → List TerminalSeat → End → Type 0
 LinesEnd plan count g script text later rest clerk seats (Over verdict) =
@@ -57,7 +57,7 @@ LinesEnd plan count g script text later rest clerk seats (Power outcome) =
     × Continues plan count g script (text ++ cut_text (open_count (left_by outcome next).register))
     later (recovered plan (left_by outcome next)) rest
 
--- where a segment ends: all lines are told, or a keeper goes on
+-- where a segment ends: all lines are carried out, or a keeper goes on
 abbrev pub SegmentEnds : Plan → (count : ℕ) → ScriptGroup → List (List ℕ) → List ℕ → (later : ℕ)
     → List (List ℕ) → SegmentEnd → Type 0
 SegmentEnds plan count g script text later rest (Run verdict) =

@@ -35,6 +35,7 @@ pub record IsInStep (asking : Asking) (seat : TerminalView) (place : ClerkView) 
   pub even : length place.answered ≡ length place.taken
   pub waits : WaitsFor asking.waiting seat place
 
+-- what is kept of each terminal is so of its seat and of the clerk's
 pub record AreInStep (terminals : List Asking) (seats : List TerminalSeat)
     (places : List ClerkPlace) : Type 0 where
   pub seat_count : length seats ≡ length terminals
@@ -73,6 +74,7 @@ Stands None plan g keeper = (keeper.writer.is_broken ≡ false)
 Stands (Some stopped) plan g keeper = (keeper.writer.is_broken ≡ true)
     × IsCutAs plan g (fuse_state_of keeper.writer.device)
 
+-- the keeper has what the group has, on a device that stands as the group says
 pub record IsKeeperOf (plan : Plan) (g : ScriptGroup) (keeper : KeeperView FusedDisk) : Type 0 where
   pub same_plan : keeper.writer.plan ≡ plan
   pub half_is : keeper.writer.half ≡ half

@@ -1,4 +1,4 @@
--- What each line tells as it is carried out.
+-- What each line reports as it is carried out.
 use Rattle.std.specs.Prelude.{ℕ, ◌≡◌, ◌⊎◌, ◌↔◌, ◌+◌, ◌<◌, ◌≤◌, true, false, List, [], ◌++◌, codes}
 use Rattle.std.specs.Prelude.{length, slice_set, Option, Some, None}
 use Rattle.lift_base.specs.declared.command.Body.{Body}
@@ -51,8 +51,8 @@ pub record HasAsked (seats after : List TerminalSeat) (places known : List Clerk
   pub knows : known ≡ clerk_with places terminal
       (with_told_asks (view_at places terminal) (seat_at asked terminal).view.asked)
 
--- A terminal asks, and tells nothing. Where it still waits for an answer, or has used up its turns,
--- it tells that.
+-- A terminal asks, and nothing is reported. Where it still waits for an answer, or has used up its
+-- turns, that is reported.
 abbrev pub Asks : (seats after : List TerminalSeat) (places known : List ClerkPlace)
     → (terminal number : ℕ) → Body → List ℕ → Type 0
 Asks seats after places known terminal number body text =
@@ -123,8 +123,8 @@ pub record KeepsPlace (old new : ScriptClerk) : Type 0 where
   pub fuse : (call : ℕ) → (device_of new).calls < call → (device_of new).fails_at call
       ↔ (device_of old).fails_at call
 
--- what a turn tells, and below it what each terminal hears, by rising terminal: all are told before
--- what was answered
+-- what a turn reports, and below it what each terminal hears, by rising terminal: all are told
+-- before what was answered
 pub record OutcomeTells (old new : ScriptClerk) (seats after : List TerminalSeat)
     (text : List ℕ) : Type 0 where
   pub turned : ScriptClerk
@@ -138,7 +138,7 @@ pub record OutcomeTells (old new : ScriptClerk) (seats after : List TerminalSeat
   pub hear : AllHear told after heard
   pub shown : text ≡ head ++ heard
 
--- The device of the clerk is told to fail every call after this many, and nothing else changes.
+-- The device of the clerk is armed to fail every call after this many, and nothing else changes.
 pub record IsArmed (calls : ℕ) (old new : ScriptClerk) : Type 0 where
   pub told : IsArmedWith (AllAfter calls (fuse_state_of old.keeper.writer.device).calls)
       (fuse_state_of new.keeper.writer.device)
@@ -151,7 +151,7 @@ pub record ScriptRests (old new : ScriptClerk) (seats after : List TerminalSeat)
   pub clerk : new ≡ old
   pub terminals : after ≡ seats
 
--- what a line tells in a building, to a clerk and terminals, and how it leaves them
+-- what a line reports in a building, to a clerk and terminals, and how it leaves them
 abbrev pub Tells : Plan → (old new : ScriptClerk) → (seats after : List TerminalSeat) → ScriptLine
     → List ℕ → Type 0
 Tells plan old new seats after (Place car position) text =

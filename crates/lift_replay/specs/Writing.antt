@@ -31,8 +31,8 @@ FailsAtLast {W} gives before after =
     (between : W) × (given : List ℕ) × TakesSomeEachCall gives before between × (0 < length given)
     × (gives between given None after ⊎ gives between given (Some 0) after)
 
--- How the writer was called, by the fault. The writer is told where a call failed or took nothing,
--- and that call was the last; where the reading failed there was none at all.
+-- How the writer was called, by the fault. The writer is the fault where a call failed or took
+-- nothing, and that call was the last; where the reading failed there was none at all.
 abbrev pub IsCalledTill : {W : Type 0} → (gives : W → List ℕ → Option ℕ → W → Type 0)
     → (before after : W) → ReplayFault → Type 0
 IsCalledTill gives before after (Memory no_memory) = TakesSomeEachCall gives before after

@@ -98,7 +98,7 @@ fn last_dir(text: &[u8]) -> Option<Dir>
     }
 }
 
-/// What stands after a front of five bytes, none where a text has another one.
+/// What stands after a prefix of five bytes, none where a text has another one.
 pub fn behind<'t>(text: &'t [u8], front: &[u8; 5]) -> Option<&'t [u8]>
     ensures { IfSome result (λ rest. text.now ≡ front.now ++ rest.now) }
 {

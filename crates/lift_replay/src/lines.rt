@@ -38,7 +38,7 @@ pub enum End {
     Cut(Outcome),
 }
 
-/// A terminal asks, or is told why it can't.
+/// A terminal asks, or the report says why it can't.
 fn push_ask(
     report: &mut String,
     station: &mut Station,

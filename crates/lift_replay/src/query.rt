@@ -102,7 +102,7 @@ fn push_halts(report: &mut String, halts: &[Halt]) -> Result<(), NoMemory>
     Ok(())
 }
 
-/// The stop list of a car, if it has told where it is.
+/// The stop list of a car, if it has reported where it is.
 fn push_stops(report: &mut String, view: &View, car: Letter) -> Result<(), NoMemory>
     ensures { OnOk result (string_bytes report.new ≡ string_bytes report.old
         ++ stops_text view.now car) }

@@ -14,7 +14,7 @@ use lift_base::{Dir, Floor, Halt, Letter, Number, Party, Reason, Reply, Row, Sto
 use lift_building::BuildingFault;
 use lift_register::Register;
 
-/// Adds a number of any length. It is done without a formatter.
+/// Adds a number of any length, without a formatter.
 #[inline(never)]
 fn push_long(report: &mut String, number: u64) -> Result<(), NoMemory>
     ensures { OnOk result (string_bytes report.new ≡ string_bytes report.old ++ decimal number) }
@@ -22,7 +22,7 @@ fn push_long(report: &mut String, number: u64) -> Result<(), NoMemory>
     add(report, Buffer::new().format(number))
 }
 
-/// Adds a number. A turn tells several, and most of them have one digit: that is added without a
+/// Adds a number. A turn reports several, and most of them have one digit: that is added without a
 /// call.
 #[inline(always)]
 fn push_number(report: &mut String, number: u64) -> Result<(), NoMemory>

@@ -86,7 +86,7 @@ fn refuse<W: Outlet>(writer: &mut W, report: &str) -> Result<Verdict, ReplayFaul
     Ok(Verdict::Bad)
 }
 
-/// Why the building is refused, as the report tells it.
+/// Why the building is refused, as the report says it.
 fn refuse_building<W: Outlet>(
     alloc: Global,
     writer: &mut W,
@@ -192,7 +192,7 @@ fn run_text<W: Outlet>(alloc: Global, text: &str, writer: &mut W) -> Result<Verd
 
 /// Carries out a script: reads it whole, and writes its report in pieces of whole lines. The
 /// verdict is Bad where the script, its building or one of its lines is malformed. After `Read`
-/// nothing was written, and after `Memory` or `Write` a front of the report.
+/// nothing was written, and after `Memory` or `Write` a prefix of the report.
 // (in a frame of its own: whoever does something else beside scripts has none for them)
 #[inline(never)]
 pub fn run<R: Read + Drop, W: Outlet>(
@@ -204,7 +204,7 @@ pub fn run<R: Read + Drop, W: Outlet>(
     requires unhurt { input.old.failed ≡ false }
     requires before_end { input.old.ended ≡ false }
     // What was written is the one report of the reader's input, and the verdict is that of it; else
-    // it is a front of it.
+    // it is a prefix of it.
     ensures report { IfOk result (λ verdict.
         ReportsInput (R.remaining input.old.reader) (W.contents writer.old)
         (W.contents writer.new) verdict) }
@@ -213,7 +213,8 @@ pub fn run<R: Read + Drop, W: Outlet>(
         (W.contents writer.new)) }
     ensures unwritten { result ≡ Err ReplayFault.Read
         → W.contents writer.new ≡ W.contents writer.old }
-    // The writer is told where one of its calls failed, and nowhere else; that call was the last.
+    // The writer is the fault where one of its calls failed, and nowhere else; that call was the
+    // last.
     ensures writes { IsCalled W.gives writer.old writer.new result }
     ensures unread { result ≡ Err ReplayFault.Read
         → LeavesUnread most_bytes most_calls R.remaining input.old input.new }
@@ -223,7 +224,7 @@ pub fn run<R: Read + Drop, W: Outlet>(
     ensures read { OnOk result (IsInputRead R.remaining input.old input.new) }
     ensures output { result ≡ Err ReplayFault.Write → IsInputRead R.remaining input.old input.new }
     ensures good { result ≡ Ok Verdict.Good → input.new.ended ≡ true }
-    // Reading stops behind one byte more than a script may have.
+    // Reading stops after one byte more than a script may have.
     ensures reads { ReadsUpTo most_bytes most_calls R.remaining input.old input.new }
 {
     let bytes = match read_all(alloc, input, MOST_BYTES, MOST_CALLS) {

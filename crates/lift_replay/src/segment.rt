@@ -60,7 +60,7 @@ fn add_lines<W: Outlet>(
     // No more is held back than that, but for the line that ends a bad script.
     ensures small { IfOk result (λ end. end ≢ End.Run Verdict.Bad
         → length (string_bytes piece.new) < 32768) }
-    // What they tell is what is computed, of whichever group the station shows.
+    // What they report is what is computed, of whichever group the station shows.
     ensures tells { IfOk result (λ end. (g : ScriptGroup)
         → Shows station.old.building.now g station.old.clerk station.old.terminals.seats.items
         → (added : List ℕ) × LinesEnd station.old.building.now lines.old.count g
@@ -134,7 +134,7 @@ pub fn add_segment<'b, W: Outlet>(
     requires settled { keeper.state.batch ≡ [] }
     requires small { length (string_bytes piece.old) < 32768 }
     ensures writes { WritesPieces W.gives writer.old writer.new (string_bytes piece.new) result }
-    // What they tell is what is computed, of whichever group the keeper is of.
+    // What they report is what is computed, of whichever group the keeper is of.
     ensures tells { IfOk result (λ end. (g : ScriptGroup) → IsKeeperOf building.now g keeper.entry
         → g.terminals ≡ new_terminals building.now
         → (added : List ℕ) × SegmentEnds building.now lines.old.count g

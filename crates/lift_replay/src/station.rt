@@ -85,7 +85,7 @@ pub fn first_keeper(alloc: Global, building: &Building) -> Result<Keeper<'_, Fus
 }
 
 impl<'d, 'b> Station<'d, 'b> {
-    /// At a new desk nobody has asked, and after an opening no car has told where it is.
+    /// At a new desk nobody has asked, and after an opening no car has reported where it is.
     pub fn new(
         building: &'b Building,
         keeper: Keeper<'b, FuseDisk>,

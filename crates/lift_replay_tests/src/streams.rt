@@ -1,4 +1,4 @@
-//! Scripts whose reader or writer fails: the report's front comes, and the end tells why.
+//! Scripts whose reader or writer fails: a prefix of the report comes, and the end tells why.
 use crate::reading::Failing;
 use lift_base::text::Counted;
 use lift_replay::{ReplayFault, Verdict, run};
@@ -37,7 +37,7 @@ impl Write for Narrow {
 
 /// Whether a bad script with this report comes to what it should where the writer takes this many
 /// bytes: the whole report, or as much of it as there is room for. Where memory is refused it comes
-/// to any front of it.
+/// to any prefix of it.
 fn comes_to(alloc: Global, script: &[u8], report: &[u8], room: usize) -> Result<bool, AllocError> {
     let mut writer = Narrow {
         room,
@@ -151,7 +151,7 @@ fn halted(alloc: Global, halt: usize, fails: bool) -> (Result<Verdict, ReplayFau
 }
 
 /// Whether a reader that fails there has nothing written, and one that ends there comes to what the
-/// front that it gave comes to.
+/// prefix that it gave comes to.
 fn halts_at(alloc: Global, halt: usize) -> bool {
     let (failed, unwritten) = halted(alloc, halt, true);
     let (ended, report) = halted(alloc, halt, false);
@@ -182,7 +182,7 @@ fn readers_halt_at_each_call(rt: HostRuntime) {
 }
 
 /// Whether a writer that takes this many bytes, two at most in a call, and then fails or takes
-/// nothing, has the report's front.
+/// nothing, has a prefix of the report.
 fn halts_writing(alloc: Global, room: usize, fails: bool) -> bool {
     let mut writer = Narrow {
         room,

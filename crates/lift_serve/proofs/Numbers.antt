@@ -1,4 +1,4 @@
--- The numbers of connections, behind one that has left.
+-- The numbers of connections, after one that has left.
 use Rattle.std.proofs.Common.{◌≡◌, ℕ, Bool, true, false, List, [], ◌∷◌, map, ap, refl, ◌∙◌}
 use Rattle.std.specs.Prelude.{cond, not, ◌==◌, filter}
 use Rattle.lift_serve.specs.declared.connections.Open.{Open}

@@ -8,7 +8,7 @@ pub none_in_order : AreInOrder []
 none_in_order zero terminal is = absurd (cc)
 none_in_order (suc place) terminal is = absurd (cc)
 
--- what is found behind one pager more was there before, or is the last one
+-- what is found after one pager more was there before, or is the last one
 paged_behind : (pagers : List ℕ) (last place terminal : ℕ) → slice_get (pagers ++ last ∷ []) place ≡ Some terminal
     → (slice_get pagers place ≡ Some terminal) ⊎ ((place ≡ length pagers) × (last ≡ terminal))
 paged_behind [] last zero terminal is = inr (refl, cc)

@@ -22,7 +22,7 @@ refill_set xs ys i a e =
     subst (λ zs. refill (length xs) xs (set zs i a) ≡ set xs i a) (sym e)
     (subst (λ n. take n (set xs i a ++ drop (length (set xs i a)) xs) ≡ set xs i a) same (refill_all xs (set xs i a) same))
 
--- what is found behind a place's setting was there before, or is what was set
+-- what is found after a place's setting was there before, or is what was set
 found_in : (places : List (Option HeldState)) (at place : ℕ) (seat : Option HeldState) (held : HeldState) → slice_get (slice_set places at seat) place ≡ Some (Some held)
     → (slice_get places place ≡ Some (Some held)) ⊎ ((place ≡ at) × (seat ≡ Some held))
 found_in [] zero place seat held is = inl is
@@ -114,7 +114,7 @@ pub one_taken_more : (desk : List TableId) (before : List TerminalSeat) (seat : 
 one_taken_more desk before seat left rest split first =
     one_behind before seat rest ∙ (ap (λ (l : List TerminalSeat). before ++ l) (sym first) ∙ split)
 
--- the next seat's place is behind those that were received
+-- the next seat's place is after those that were received
 pub next_place : (register : RegisterState) (desk : List TableId) (before : List TerminalSeat) (seat : TerminalSeat) (left rest : List TerminalSeat) (held : HeldState) (places : List (Option HeldState))
     → before ++ left ≡ seats_from 0 desk → left ≡ seat ∷ rest → held ≡ found_at register desk seat → places ≡ found_seats register desk before
     → held.seat.terminal ≡ length places
@@ -186,7 +186,7 @@ no_more : (l : List TerminalSeat) → length l ≡ 0 → l ≡ []
 no_more [] is = refl
 no_more (seat ∷ l) is = absurd (omega (arith, is))
 
--- as far as nothing is left behind those that came
+-- as far as nothing is left after those that came
 pub is_lobby_behind : (register : RegisterState) (desk : List TableId) (before rest : List TerminalSeat) (places : List (Option HeldState)) → before ++ rest ≡ seats_from 0 desk
     → length rest ≡ 0 → places ≡ found_seats register desk before → IsLobbyOf desk places
 is_lobby_behind register desk before rest places split none are =

@@ -145,7 +145,7 @@ not_run choice state a f of_one = record {
   };
 }
 
--- ---- who hears that the device fails
+-- ---- who is notified that the device fails
 module _ {D P : Type 0} (chooses : P → Choice) (choice : Choice) (state : D → DiskState) (a b : AllocatorState P) (f g : FlusherState D) where
   run_stays : (fault : Option RunFault) → HaveRunOrNot choice state a b f g fault → f.writer.is_broken ≡ true → g.writer.is_broken ≡ true
   run_stays None run = let ran = run.ran no_fault in turns_stay state f g None ran.first ran.flusher
@@ -157,7 +157,7 @@ module _ {D P : Type 0} (chooses : P → Choice) (choice : Choice) (state : D �
       let joined : last.joined.keeper.writer.is_broken ≡ true = ap (λ (w : WriterView D). w.is_broken) last.rejoined.writer ∙ was in
       ap (λ (w : WriterView D). w.is_broken) (last.turn.commits.is.rests joined) ∙ joined
 
-  -- of a run and of the last turn behind it
+  -- of a run and of the last turn after it
   pub heard_behind : {V : Type 0} (hears : V → V → Type 0) (before after : ClerkState D P) (fault : Option RunFault) (u v w : V) → AreParts before a f → HaveRunOrNot choice state a b f g fault
       → IsLastTurn chooses state b g after → FailureHeard hears f.writer.is_broken g.writer.is_broken u v → FailureHeard hears g.writer.is_broken after.keeper.writer.is_broken v w
       → FailureHeard hears before.keeper.writer.is_broken after.keeper.writer.is_broken u w
@@ -210,7 +210,7 @@ pub come_on : {D P : Type 0} (chooses : P → Choice) (state : D → DiskState) 
     → (fault ≡ Some (Spawn tt) → (b ≡ a) × (g ≡ f)) → (fault ≢ Some (Spawn tt) → HaveRun (chooses a.policy) state a b f g fault) → ∥ ComeOf chooses state clerk b g ∥₁
 come_on chooses state clerk a b f g fault come refused ran = ∥∥₁_map come (come_by chooses state clerk a b f g fault refused ran)
 
--- what is told behind the last end, and where all were given up
+-- what is reported after the last end, and where all were given up
 pub told_at_last : (over : Result EndedState (Unit {0})) (first : Option ServeFault) → is_ok over ≡ true → told_behind over first ≡ first
 told_at_last (Ok ended) first is = refl
 told_at_last (Err given_up) first is = absurd (cc)

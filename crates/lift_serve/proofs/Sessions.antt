@@ -1,4 +1,4 @@
--- A session more, behind those of a place.
+-- A session more, after those of a place.
 use Rattle.std.proofs.Common.{◌≡◌, ℕ, ◌≤◌, ◌<◌, true, false, nat_lt, List, [], ◌∷◌, ◌++◌, sym, ap, subst, ◌∙◌, refl, arith}
 use Rattle.std.specs.Prelude.{suc, All}
 use Rattle.std.proofs.lemmas.List.Elements.{All-nil, All-cons}
@@ -44,7 +44,7 @@ one_more terminal last port [] last' port' are v begins at visit = (begins ∙ a
 one_more terminal last port (w ∷ ws) last' port' are v begins at visit =
     (are.0, are.1, are.2, one_more terminal w.after.last (unrested w.after.port) ws last' port' are.3 v begins at visit)
 
--- the place behind a session
+-- the place after a session
 pub served_on : (held held' : HeldState) (end : End) (source source' : Source) (sink sink' : Sink) → IsServedSeat held → Visits held end held' source source' sink sink'
     → IsSeatOf held'.desk held'.seat → IsServedSeat held'
 served_on held held' end source source' sink sink' served visits seated =

@@ -11,16 +11,16 @@ use Rattle.lift_serve.specs.declared.attending.Outcome.{Outcome}
 use Rattle.lift_serve.specs.declared.attending.Outcome.TheVariants.{NoLine, Bad, Busy, Unseated}
 use Rattle.lift_serve.specs.declared.attending.Outcome.TheVariants.{Visited}
 
--- all of these bytes were written, or a front of them, before which the writer failed
+-- all of these bytes were written, or a prefix of them, before which the writer failed
 abbrev pub IsSaid : List ℕ → (before after : Sink) → Type 0
 IsSaid bytes before after = Takes bytes before after
     ⊎ ((count : ℕ) × TakesFront count bytes before after)
 
--- a reader that was not called, with what it has left where it tells that
+-- a reader that was not called, with what it has left where it says that
 abbrev pub new_source : Option (List ℕ) → Source
 new_source left = record { calls = 0; failed = false; ended = false; left = left }
 
--- a writer that was not called, with what is in it where it tells that
+-- a writer that was not called, with what is in it where it says that
 abbrev pub new_sink : Option (List ℕ) → Sink
 new_sink written = record { calls = 0; failed = false; written = written }
 

@@ -21,7 +21,7 @@ pub data KeptServing {D P : Type 0} (chooses : P → Choice) (state : D
     : IsServingOutcome chooses state policy keeper last fault → List Entry → List Taken → List Entry
     → List Taken → Type 0 where
   -- At each moment of each turn all is kept that was safe and given before it. What the turns make
-  -- safe and answer is added behind.
+  -- safe and answer is added at the end.
   Served : {safe : List Entry} {given : List Taken}
       (served : IsServedKeeper chooses state policy keeper last fault)
       → (k : KeptInParts chooses state served.relayed.relayed.allocator'
@@ -39,8 +39,8 @@ KeepsAll D plan base given left = (entries : List Entry) × (now : List Taken) �
     × ImageKeeps D plan base entries now left
 
 -- A device was opened, and the building served over it. Had its journal begun with this register, had
--- these entries been accepted since and these commands been answered, and does each image that the recovery may have found keep a front of
--- the entries and all the answers, then
+-- these entries been accepted since and these commands been answered, and does each image that the
+-- recovery may have found keep a prefix of the entries and all the answers, then
 pub record KeepsOver {D P : Type 0} (chooses : P → Choice) (state : D
     → DiskState) (plan : Plan) (opened : D) (policy : P) (keeper last : KeeperView D)
     (fault : Option ServeFault) (comes : IsServingOutcome chooses state policy keeper last fault)
@@ -48,7 +48,7 @@ pub record KeepsOver {D P : Type 0} (chooses : P → Choice) (state : D
   -- so does each that a crash at any moment of the recovery may leave;
   pub recovery : LeavesOnly (state opened) (state keeper.writer.device)
       (KeepsFront D plan base accepted given)
-  -- the keeper that has opened has the register of such a front;
+  -- the keeper that has opened has the register of such a prefix;
   pub safe : List Entry
   pub is_front : IsPrefix safe accepted
   pub register : keeper.writer.register ≡ register_of base safe
@@ -57,7 +57,7 @@ pub record KeepsOver {D P : Type 0} (chooses : P → Choice) (state : D
   pub now_given : List Taken
   pub serving : KeptServing chooses state base policy keeper last fault comes safe given now_safe
       now_given
-  -- from the end on each image keeps all that was answered, and a front of what is safe then and
+  -- from the end on each image keeps all that was answered, and a prefix of what is safe then and
   -- what is in doubt;
   pub now : LeavesNow (state last.writer.device)
       (KeepsFront D plan base (now_safe ++ last.writer.doubt) now_given)

@@ -60,8 +60,8 @@ abbrev pub first_told : {T : Type 0} → (before behind : Option T) → Option T
 first_told None behind = behind
 first_told (Some shortage) behind = Some shortage
 
--- what is told of a serving whose accepting was over so: that no thread could be had for the serving
--- itself, and else the first shortage
+-- what is reported of a serving whose accepting was over so: that no thread could be had for the
+-- serving itself, and else the first shortage
 abbrev pub told_behind : Result EndedState (Unit {0}) → (first : Option ServeFault) → Option ServeFault
 told_behind (Ok ended) first = first
 told_behind (Err given_up) first = Some Thread

@@ -50,7 +50,7 @@ pub record HaveRunOrNot {D P : Type 0} (choice : Choice) (state : D
   pub broken : (of : KeeperFault) → fault ≡ Some (Keeper of) → g.writer.is_broken ≡ true
   pub stay : AreSameParts a b f g
 
--- The clerk of both parts, behind one turn more, by which its group's history goes on and all that
+-- The clerk of both parts, after one turn more, by which its group's history goes on and all that
 -- was answered is kept.
 pub record IsLastTurn {D P : Type 0} (chooses : P → Choice) (state : D
     → DiskState) (a : AllocatorState P) (f : FlusherState D)
@@ -117,7 +117,7 @@ pub record IsRelayedKeeper {D P : Type 0} (chooses : P → Choice) (state : D
 
 -- The keeper was relayed to this at a desk with a seat for each terminal that its building may
 -- have, 16 cars and its kiosks. Where no thread could be made for the accepting or for the parts,
--- that is told, whatever else there was; and behind the beginning the socket is no fault.
+-- that is reported, whatever else there was; and after the beginning the socket is no fault.
 pub record IsServedKeeper {D P : Type 0} (chooses : P → Choice) (state : D
     → DiskState) (policy : P) (keeper keeper' : KeeperView D)
     (fault : Option ServeFault) : Type 0 where
@@ -127,7 +127,7 @@ pub record IsServedKeeper {D P : Type 0} (chooses : P → Choice) (state : D
   pub begun : fault ≢ Some Network
 
 -- Nobody was served: the keeper is as it was, and that the socket failed or that it was out of memory
--- is told.
+-- is reported.
 pub record IsUnserved {D : Type 0} (keeper keeper' : KeeperView D)
     (fault : Option ServeFault) : Type 0 where
   pub keeper_is : keeper' ≡ keeper

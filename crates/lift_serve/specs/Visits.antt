@@ -35,6 +35,7 @@ IsVisitAs false end before after = Converses WantsCall keeps_letter limits end b
 abbrev pub IsVisit : (terminal : ℕ) → End → (before after : Standing) → Type 0
 IsVisit terminal end before after = IsVisitAs (nat_lt terminal 16) end before after
 
+-- one session: why it ended, and where it stood before and after
 pub record SessionVisit : Type 0 where
   pub end : End
   pub before : Standing

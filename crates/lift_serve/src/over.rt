@@ -60,8 +60,8 @@ impl Over {
         }
     }
 
-    /// What all are given up by behind a run of both parts that came to this: that the allocator had no
-    /// thread.
+    /// By what all are given up after a run of both parts that came to this: that the allocator had
+    /// no thread.
     pub(crate) fn by(bound: &ServingTerms, fault: Option<RunFault>) -> Option<Self>
         ensures only { IsSome result ↔ (fault ≡ Some (Fault.Spawn tt)) }
         ensures given_up { IfSome result IsErr }
@@ -76,8 +76,8 @@ impl Over {
         }
     }
 
-    /// How it is over behind a run of both parts that came to this: where the allocator had no thread,
-    /// all are given up.
+    /// How it is over after a run of both parts that came to this: where the allocator had no
+    /// thread, all are given up.
     pub(crate) fn behind(self, fault: Option<RunFault>) -> Self
         ensures given_up { fault ≡ Some (Fault.Spawn tt) → IsErr result }
         ensures ended { (bound : EndedState) → IsEndAt bound self → IsEndAt bound result }

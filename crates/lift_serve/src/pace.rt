@@ -21,13 +21,13 @@ use std::time::Duration;
 /// with it before.
 const AHEAD_MS: u64 = 1;
 
-/// So many sessions the flusher wakes behind a batch. Each wakes another behind what it writes.
+/// So many sessions the flusher wakes after a batch. Each wakes another after what it writes.
 const FIRST_WOKEN: u64 = 2;
 
 /// The allocator doesn't wait for asks.
 const NOT_WAITING: u64 = u64::MAX;
 
-/// What is rung behind each ask. It wakes the allocator once as many have asked as that waits for.
+/// What is rung after each ask. It wakes the allocator once as many have asked as that waits for.
 #[derive(Drop)]
 pub struct AskBell {
     parker: Parker,
@@ -167,7 +167,7 @@ impl<'s> Bells<'s> {
         }
     }
 
-    /// To be rung behind each ask.
+    /// To be rung after each ask.
     pub fn asks(&self) -> &AskBell {
         &self.asks
     }

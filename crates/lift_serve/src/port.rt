@@ -25,7 +25,7 @@ impl<'r, R: Wait + Clock> Rest for Sleep<'r, R> {
     }
 }
 
-/// A terminal's port at the desk. It wakes the clerk behind each ask, once that is stored, and it
+/// A terminal's port at the desk. It wakes the clerk after each ask, once that is stored, and it
 /// rests by sleeping for a millisecond, or until its answer is stored.
 #[derive(Drop)]
 pub struct RestingPort<'d, 'r, R: Wait + Clock> {

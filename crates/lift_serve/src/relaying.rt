@@ -36,7 +36,7 @@ pub struct Parts<'d, 'b, D: Disk + Drop, P: Policy + Drop, K: Drop, V: Witness +
     pub clerk: Snapshot<HeldClerk<'d, 'b, D, P, K>>,
     /// What came of their run.
     pub fault: Option<RunFault>,
-    /// Who hears that the device fails.
+    /// Who is notified that the device fails.
     pub witness: V,
     ghost of_one: { AreOfOne allocator flusher },
     ghost come_of: { ∥ ComeOf P.chooses D.state clerk.value allocator flusher ∥₁ },
@@ -61,7 +61,7 @@ impl<'d, 'b, D: Disk + Drop, P: Policy + Drop, K: Drop, V: Witness + Drop> Parts
         requires unused { clerk.seat ≡ clerk_of clerk.desk }
         ensures clerk { IfOk result (λ parts. parts.clerk.value ≡ clerk.entry) }
         ensures parts { IfOk result (λ parts. AreParts clerk.entry parts.allocator parts.flusher) }
-        // What has happened to the clerk's group goes on behind the flusher.
+        // The history of the clerk's group goes on as that of the flusher's.
         ensures history { IfOk result (λ parts. (base : RegisterState) (entries : List Entry)
             (given : List Taken) → History base (group_of clerk.entry) entries given
             → History base (group_behind parts.flusher) entries given) }
@@ -96,7 +96,7 @@ pub(crate) fn unrun<'d, 'b, D: Disk + Drop, P: Policy + Drop, K: Drop, V: Witnes
     parts
 }
 
-/// Both parts run while the gate goes on, the flusher on this thread, and are given back behind the
+/// Both parts run while the gate goes on, the flusher on this thread, and are given back after the
 /// last batch.
 #[tactic(auto, using(crate::proofs::Relayings::come_on))]
 pub fn run_parts<'d, 'b, R, G, D, P, K, V>(
@@ -113,7 +113,7 @@ where
     V: Witness + Drop,
     ensures ran { HaveRunOrNot (P.chooses parts.entry.allocator.policy) D.state parts.entry.allocator
         result.allocator parts.entry.flusher result.flusher result.fault }
-    // Where the device failed first in it, the witness heard of that, once.
+    // Where the device failed first in it, the witness was notified, once.
     ensures heard { FailureHeard V.hears parts.entry.flusher.writer.is_broken
         result.flusher.writer.is_broken parts.entry.witness result.witness }
 {
@@ -134,7 +134,7 @@ where
     }
 }
 
-/// The clerk of both parts, between which nothing is on its way, behind one turn more: it finds
+/// The clerk of both parts, between which nothing is on its way, after one turn more: it finds
 /// what was asked at last.
 pub fn turn_rejoined<'d, 'b, D: Disk, P: Policy + Drop, K: HeardBy<V> + Drop, V: Witness>(
     allocator: Allocator<'d, 'b, P>,
@@ -145,7 +145,7 @@ pub fn turn_rejoined<'d, 'b, D: Disk, P: Policy + Drop, K: HeardBy<V> + Drop, V:
     requires none_in_hand { allocator.hand ≡ [] }
     requires all_received { allocator.end.sent ≡ flusher.end.received }
     ensures last { IsLastTurn P.chooses D.state allocator.entry flusher.entry result }
-    // Where the device fails first in it, the witness hears of that, once.
+    // Where the device fails first in it, the witness is notified, once.
     ensures heard { FailureHeard V.hears flusher.entry.writer.is_broken result.keeper.writer.is_broken
         witness.old witness.new }
 {

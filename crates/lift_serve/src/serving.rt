@@ -52,20 +52,20 @@ pub enum ServeFault {
 /// What came of the serving.
 #[derive(Drop)]
 pub struct ServingOutcome<'b, D: Disk + Drop, K: Drop, V: Witness + Drop> {
-    /// The keeper behind the last turn, or as it was where none was made. It is broken where a call
+    /// The keeper after the last turn, or as it was where none was made. It is broken where a call
     /// of the device failed.
     pub keeper: HeldKeeper<'b, D, K>,
     /// What was refused, and that so many connections have ended at the socket, unless all were given
     /// up.
     pub end: ServingEnd,
-    /// Who has heard where the device failed.
+    /// Who was notified where the device failed.
     pub witness: V,
 }
 
 /// How long the accepting of connections rests where it failed, ms.
 const REST_MS: u64 = 10;
 
-/// A connection's thread, behind which the connection is counted as ended: it was attended to, or
+/// A connection's thread, after which the connection is counted as ended: it was attended to, or
 /// the shortage at that is noted.
 fn attend_connection<R: Wait + Clock>(
     rt: &R,
@@ -189,8 +189,8 @@ where
     )
 }
 
-/// The clerk's work is done in its two parts while connections are accepted. It turns once more behind
-/// them.
+/// The clerk's work is done in its two parts while connections are accepted. It turns once more
+/// after them.
 #[tactic(auto, using(crate::proofs::Relayings::relayed_on, crate::proofs::Relayings::none_in_hand, crate::proofs::Relayings::all_received))]
 fn run<'d, 'b, R, D, P, K, V>(
     rt: &R,
@@ -254,8 +254,8 @@ fn unserved<'b, D: Disk + Drop, K: Drop, V: Witness + Drop>(
 ///
 /// The keeper is held for whoever has a `K`. So nothing that waits here can call its device, or answer
 /// an ask, but by a turn of its group, each of which returns: whatever a serving waits for, and
-/// whether or not it ever ends, it has had such turns alone. A turn in which the device fails tells the
-/// witness, and no other: also in a serving that never ends.
+/// whether or not it ever ends, it has had such turns alone. A turn in which the device fails
+/// notifies the witness, and no other: also in a serving that never ends.
 pub fn serve<'b, R, D, P, K, V>(
     rt: &R,
     alloc: Global,
@@ -269,15 +269,15 @@ where
     K: HeardBy<V> + Drop,
     V: Witness + Drop,
     // What the keeper has at the end came to it by the turns of the two parts of a clerk with this
-    // policy, and by its last one; or it is as it was, and why is told.
+    // policy, and by its last one; or it is as it was, and why is reported.
     ensures comes { IsServingOutcome P.chooses D.state prepared.entry.policy prepared.entry.keeper result.keeper
         result.end.fault }
-    // The witness has heard that the device failed, once, where the keeper is broken that wasn't;
-    // else it is as it was.
+    // The witness was notified that the device failed, once, where the keeper is broken that
+    // wasn't; else it is as it was.
     ensures heard { FailureHeard V.hears prepared.entry.keeper.writer.is_broken
         result.keeper.writer.is_broken witness result.witness }
-    // It tells that connections have ended only where so many have at this socket, and tells no fault
-    // only where it tells that.
+    // That connections have ended is reported only where as many have at this socket as were to;
+    // and where that isn't reported a fault is.
     ensures ended { IfSome result.end.ended (AreEndedAt prepared.entry.listening prepared.entry.sessions) }
     ensures counted { result.end.fault ≡ None → IsSome result.end.ended }
 {

@@ -1,4 +1,4 @@
-//! A connection's writer that wakes another session behind each write.
+//! A connection's writer that wakes another session after each write.
 
 ghost use Rattle.std.specs.Prelude.{◌≡◌};
 
@@ -6,7 +6,7 @@ use crate::pace::Bells;
 use std::io;
 use std::io::Write;
 
-/// A writer. Behind each call another session is woken whose answer is stored, if one is left: it
+/// A writer. After each call another session is woken whose answer is stored, if one is left: it
 /// runs as this one comes to its next line.
 #[derive(Drop)]
 pub(crate) struct WakingWriter<'s, W: Write + Drop> {

@@ -24,7 +24,7 @@ const RETRY_MS: u64 = 20;
 /// How long a sync is held before the last connection ends, ms.
 const HELD_MS: u64 = 1_000;
 
-/// How long the end of a connection may take to be counted behind its closing, ms.
+/// How long the end of a connection may take to be counted after its closing, ms.
 const COUNTED_MS: u64 = 100;
 
 /// A port of this machine; 0 is one that nobody has.

@@ -31,7 +31,7 @@ keeps_above p q k a zero above agree = refl
 keeps_above p q k a (suc n) above agree =
     rw (agree a (omega arith) (λ same. omega (arith, same, above)), keeps_above p q k (a + 1) n (omega (arith, above)) (λ i below. agree i (omega (arith, below)))) refl
 
--- the first place that passes a test, and those that pass it behind
+-- the first place that passes a test, and those that pass it after that
 first_kept : (p q : ℕ → Bool) (k a n : ℕ) → a ≤ k → k < a + n → p k ≡ true → q k ≡ false → ((i : ℕ) → i < k → p i ≡ false) → ((i : ℕ) → i < a + n → i ≢ k → q i ≡ p i)
     → filter p (range_with_len a n) ≡ k ∷ filter q (range_with_len a n)
 first_kept p q k a zero low high kept passed none agree = absurd (omega (arith, low, high))

@@ -190,7 +190,7 @@ impl Schedule {
         drop_halts(&mut self.halts, &self.rows, &self.position);
     }
 
-    /// The car told where it is. Its calls stay as they are.
+    /// The car reported where it is. Its calls stay as they are.
     pub fn replace_position(&mut self, position: Position)
         ensures { self.new ≡ record self.old { position = position } }
     {

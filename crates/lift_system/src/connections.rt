@@ -5,13 +5,13 @@ use std::net::TcpStream;
 use std::os::fd::AsRawFd;
 use std::time::Duration;
 
-/// Behind so long a silence the system asks the other side whether it is there, s.
+/// After so long a silence the system asks the other side whether it is there, s.
 const SILENCE_S: i32 = 10;
 
 /// How long it waits before it asks again, s.
 const AGAIN_S: i32 = 5;
 
-/// How long the other side may leave a question or what was sent to it unacknowledged, ms: behind
+/// How long the other side may leave a question or what was sent to it unacknowledged, ms: after
 /// two questions more the connection ends.
 const UNACKNOWLEDGED_MS: i32 = 25_000;
 

@@ -27,7 +27,7 @@ use Rattle.lift_world.proofs.Scans.{taken_as}
 use Rattle.lift_world.specs.lemmas.Steps.{if_from, then_from, mapped, taken_next}
 use Rattle.lift_world.specs.lemmas.Ordered.{Ordered, ordered_from, end_above, flies_to, none_owed}
 
--- a part of a front stays, whatever comes after it
+-- a part of a prefix stays, whatever comes after it
 part_of : (front ys : List Entry) (s u : ℕ) → s ≤ u → u ≤ length front → take (u - s) (drop s (front ++ ys)) ≡ take (u - s) (drop s front)
 part_of front ys s u low high =
     let l = length-drop s front in
@@ -173,7 +173,7 @@ pub record Took (w : World) (terminal : ℕ) (letter : Option ℕ) (taken : Worl
   pub is : deciding w command decision ≡ taken
   pub still : (event : Event) (before : World) → IsTrue (is_flushers event) → next w event ≡ Some before → next before (Take terminal letter) ≡ Some (deciding before command decision)
 
--- behind the flusher's events it does the same
+-- after the flusher's events it does the same
 pub took : (w : World) (terminal : ℕ) (letter : Option ℕ) (taken : World) → next w (Take terminal letter) ≡ Some taken → Took w terminal letter taken
 took w terminal letter taken takes =
     let a = if_from (may_take w terminal) (option_and_then (taking w letter) (find (asks terminal) (reverse w.asked))) taken takes in

@@ -23,7 +23,7 @@ asks_once_heard w = record {
       (and_right (not (is_off w.power)) (eqb (count_by (asks terminal) w.asked) (count_by (is_answer_to terminal) w.heard)) (ne_eqb (count_by (asks terminal) w.asked) (count_by (is_answer_to terminal) w.heard) apart));
 }
 
--- the element after a front, and none after the whole
+-- the element after a prefix, and none after the whole
 pub at_front : {A : Type 0} (xs ys : List A) (x : A) → slice_get (xs ++ x ∷ ys) (length xs) ≡ Some x
 at_front [] ys x = refl
 at_front (z ∷ xs) ys x = at_front xs ys x

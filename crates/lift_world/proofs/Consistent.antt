@@ -54,7 +54,7 @@ pub record Holds (building : Plan) (base : RegisterState) (accepted : List Entry
 abbrev pub IsConsistent : World → Type 0
 IsConsistent w = Holds w.building w.base w.accepted w.safe (acknowledged w) w.flight w.phase w.queue w.taken w.due
 
--- a longer front has what a shorter one has
+-- a longer prefix has what a shorter one has
 front_more : (xs : List Entry) (n m : ℕ) → n ≤ m → m ≤ length xs → (e : Entry) → Contains (take n xs) e → Contains (take m xs) e
 front_more xs n m le in_range e h =
     let whole : take n (take m xs) ≡ take n xs = sym (take-append-le n (take m xs) (drop m xs) (let l = length-take-le m xs in_range in omega arith)) ∙ ap (take n) (take-append-drop m xs) in

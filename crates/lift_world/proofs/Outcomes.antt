@@ -45,7 +45,7 @@ writing_closed (Writing m) n h = refl
 writing_closed Synced n h = refl
 writing_closed GateWritten n h = cc
 
--- a front of what was accepted up to some place, whatever comes after it
+-- a prefix of what was accepted up to some place, whatever comes after it
 front_kept : (n m : ℕ) (xs ys : List Entry) → n ≤ m → m ≤ length xs → take n (take m xs ++ ys) ≡ take n xs
 front_kept n m xs ys le in_range =
     let l = length-take-le m xs in_range in

@@ -32,7 +32,7 @@ answers_map : (cs : List Taken) → events_of_answers cs ≡ terminals_of cs
 answers_map [] = refl
 answers_map (c ∷ cs) = ap (λ (es : List Event). Answering c.terminal ∷ es) (answers_map cs)
 
--- a front of commands that are apart
+-- a prefix of commands that are apart
 others_front : (terminal : ℕ) (xs ys : List Taken) → AllByRecursion (λ (d : Taken). d.terminal ≢ terminal) (xs ++ ys) → AllByRecursion (λ (d : Taken). d.terminal ≢ terminal) xs
 others_front terminal [] ys h = tt
 others_front terminal (x ∷ xs) ys h = (h.0, others_front terminal xs ys h.1)

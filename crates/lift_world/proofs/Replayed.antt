@@ -23,7 +23,7 @@ fits_later building base before (e ∷ entries) (suc i) d below h =
 pub fits_at : (building : Plan) (base : RegisterState) (entries : List Entry) (i : ℕ) (d : Entry) → i < length entries → FitAfter building base [] entries → Fits building (register_of base (take i entries)) (get_or entries i d)
 fits_at building base entries i d below h = fits_later building base [] entries i d below h
 
--- a front fits too
+-- a prefix fits too
 pub fits_front : (building : Plan) (base : RegisterState) (before xs : List Entry) (n : ℕ) → FitAfter building base before xs → FitAfter building base before (take n xs)
 fits_front building base before [] zero h = tt
 fits_front building base before [] (suc n) h = tt
@@ -43,6 +43,6 @@ unanswered_any p w =
     ∙ ap (λ (x : Bool). x || list_any p (flat_map (λ (b : SealedBatch). b.commands) w.queue)) (list_any-append p w.due w.flight.commands)
     ∙ ap (λ (x : Bool). (list_any p w.due || list_any p w.flight.commands) || x) (flat_any p w.queue))
 
--- the front that a recovery with the batch gives
+-- the prefix that a recovery with the batch gives
 pub batch_front : (xs : List Entry) (s u n : ℕ) → n ≡ s + (u - s) → take n xs ≡ take s xs ++ take (u - s) (drop s xs)
 batch_front xs s u n e = ap (λ (m : ℕ). take m xs) e ∙ take-add s (u - s) xs

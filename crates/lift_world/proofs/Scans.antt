@@ -47,7 +47,7 @@ all_found_still w command d [] apart found = tt
 all_found_still w command d (other ∷ others) apart found =
     (found_still w command d other found.0 apart.0, found.1, all_found_still w command d others apart.1 found.2)
 
--- the front that is sealed stays
+-- the prefix that is sealed stays
 front_stays : (xs ys : List Entry) (n : ℕ) → n ≤ length xs → take n (take n xs ++ ys) ≡ take n xs
 front_stays xs ys n le =
     let l = length-take-le n xs le in

@@ -1,4 +1,4 @@
--- What is sealed is a front of what is accepted.
+-- What is sealed is a prefix of what is accepted.
 use Rattle.std.proofs.Common.{◌+◌, Bool, true, false, not, ◌&&◌, cond, eqb, ltb, List, [], ◌∷◌, ◌++◌, map, take, arith}
 use Rattle.std.specs.Prelude.{unwrap_or, option_and_then, option_map, find, reverse}
 use Rattle.std.proofs.lemmas.List.{length-append, length-take-le}

@@ -114,7 +114,7 @@ HearsInOrder w = (terminal : ℕ)
     → (rest : List Answer) × (filter (is_answer_to terminal) w.heard ++ rest
     ≡ filter (is_answer_to terminal) w.answered)
 
--- what is sealed is a front of what is accepted
+-- what is sealed is a prefix of what is accepted
 abbrev pub SealsAccepted : World → Type 0
 SealsAccepted w = w.sealed ≤ length w.accepted
 

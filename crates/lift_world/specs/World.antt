@@ -28,6 +28,7 @@ pub record SealedBatch : Type 0 where
   pub commands : List Taken
   pub upto : ℕ
 
+-- what is known between two events
 pub record World : Type 0 where
   pub building : Plan
   pub base : RegisterState  -- what the journal held before the first of these entries
@@ -49,7 +50,7 @@ pub record World : Type 0 where
 abbrev pub no_batch : SealedBatch
 no_batch = record { commands = []; upto = 0 }
 
--- no car has told its position
+-- no car has reported its position
 abbrev pub unplaced : List (Option Position)
 unplaced = replicate 16 None
 
@@ -159,7 +160,7 @@ abbrev pub outcome : World → Kept → List Entry
 outcome w Safe = safe_list w
 outcome w WithBatch = safe_list w ++ batch_in_flight w
 
--- the entry that a reply tells of
+-- the entry that a reply acknowledges
 abbrev pub told_by : Plan → ℕ → ℕ → Body → Reply → List Entry
 told_by building terminal number (Call to party) (Car car) =
     Allot terminal number (kiosk_floor building terminal) to car party ∷ []
@@ -169,6 +170,6 @@ told_by building terminal number _ _ = []
 abbrev pub told_in : Plan → Taken → List Entry
 told_in building c = told_by building c.terminal c.number c.body c.reply
 
--- the entries that a stored `Car` or `Stopped`, new or repeated, has told of
+-- the entries that a stored `Car` or `Stopped`, new or repeated, acknowledges
 abbrev pub acknowledged : World → List Entry
 acknowledged w = flat_map (told_in w.building) w.given

@@ -60,7 +60,7 @@ use lift_policy::Policy;
 /// it was answered, in order and each once. At most five batches are queued, and where asks are of
 /// the 63 terminals none of more than 63 commands, nor, while running, of more entries; between
 /// batches none is in flight, and a reopening while nothing failed unplaces the cars alone; a cut
-/// leaves no command on its way; and what is sealed is a front of what is accepted, which a scan's
+/// leaves no command on its way; and what is sealed is a prefix of what is accepted, which a scan's
 /// law asks for.
 pub fn every_run()
     ensures prefix { (building : Plan) (base : RegisterState) (events : List Event)
@@ -114,8 +114,8 @@ pub fn turns_end_at_rest()
     ensures ends { (w : World) → AllEndAtRest w }
 {}
 
-/// When replies are told. A command is due once its batch is safe, or else with Unknown, where a
-/// device call failed: then Unknown alone is told of each command that wasn't due, in flight,
+/// When replies are given. A command is due once its batch is safe, or else with Unknown, where a
+/// device call failed: then Unknown alone is given to each command that wasn't due, in flight,
 /// queued, in hand or taken later, also by the reopening that ends it.
 pub fn replies_are_safe()
     ensures { (w : World) → RepliesAreSafe w }

@@ -96,7 +96,7 @@ impl<'b> Model for World<'b> {
     ghost invariant = { λ w. IsTight w.building.now empty w.register w.accepted.items };
 }
 
-/// No car has told its position.
+/// No car has reported its position.
 fn unplaced() -> [Option<Position>; MOST_CARS]
     ensures { result ≡ unplaced }
 {

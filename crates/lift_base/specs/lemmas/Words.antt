@@ -20,7 +20,7 @@ cut_at text place byte here =
     take place text ++ behind) text place 0 (slice_get_within text place byte here)
     ∙ ap (λ b. take place text ++ b ∷ drop (place + 1) text) read
 
--- two texts that go to the first space alike are alike behind it
+-- two texts that go to the first space alike are alike after it
 pub first_space : (xs ys a b : List ℕ) → HasNoSpace xs → HasNoSpace ys
     → xs ++ (32 ∷ a) ≡ ys ++ (32 ∷ b) → (xs ≡ ys) × (a ≡ b)
 first_space [] [] a b p q e = (refl, cc)

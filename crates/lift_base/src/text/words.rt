@@ -23,7 +23,7 @@ fn place_of(bytes: &[u8], byte: u8) -> Option<usize>
     None
 }
 
-/// The text before the first such byte and the text behind it, none where there is no such byte.
+/// The text before the first such byte and the text after it, none where there is no such byte.
 /// The byte is a whole character: below 128.
 pub fn split_at_byte(text: &str, byte: u8) -> Option<(&str, &str)>
     requires { byte < 128 }

@@ -63,7 +63,7 @@ said_last plan register (DoneRecord count ∷ later) sound long said fit =
     said_last plan (with_record register (DoneRecord count)) later sound long said fit.1
 said_last plan register (EntryRecord entry ∷ later) sound count said fit = absurd fit.0.1
 
--- the entries behind it
+-- the entries after it
 abbrev IsSaid : Plan → Entry → Type 0
 IsSaid plan entry = IsPossibleLast plan (terminal_of entry) (kept_of entry).content
 

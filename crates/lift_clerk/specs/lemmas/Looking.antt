@@ -12,7 +12,7 @@ length-looked places [] = refl
 length-looked [] (u ∷ visits) = refl
 length-looked (p ∷ places) (u ∷ visits) = ap suc (length-looked places visits)
 
--- the places behind these looks are as they were
+-- the places after these looks are as they were
 untouched : (places : List ClerkPlace) (visits : List Visit) (n : ℕ) (d : ClerkPlace)
     → length visits ≤ n → get_or (looked_at places visits) n d ≡ get_or places n d
 untouched places [] n d h = refl
@@ -20,7 +20,7 @@ untouched [] (u ∷ visits) n d h = refl
 untouched (p ∷ places) (u ∷ visits) zero d h = absurd (omega arith)
 untouched (p ∷ places) (u ∷ visits) (suc n) d h = untouched places visits n d (omega arith)
 
--- a look behind those that were made
+-- a look after those that were made
 looked-more : (places : List ClerkPlace) (visits : List Visit) (n : ℕ) (v : Visit)
     → n ≡ length visits → n < length places
     → clerk_with (looked_at places visits) n

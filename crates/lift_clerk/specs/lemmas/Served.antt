@@ -121,7 +121,7 @@ first_isnt t c rest reply replies apart = (
       ∷ given_to t rest replies) (given_to t rest replies)) (ne_eqb c.terminal t apart),
 )
 
--- what is known of a terminal behind a look, of those behind it
+-- what is known of a terminal after a look, of those after it
 abbrev Later : List ClerkPlace → List Visit → ℕ → Type 0
 Later places visits first = (replies : List Reply) (k t : ℕ) → t ≡ first + k
     → length replies ≡ length (commands_of first visits)

@@ -26,7 +26,7 @@ commands-more first n (u ∷ visits) v e =
     ∙ sym (append_assoc (command_at first u.found) (commands_of (suc first) visits)
     (command_at n v.found))
 
--- the seats behind these looks, where nothing is stored yet
+-- the seats after these looks, where nothing is stored yet
 none_stored : (p : ClerkPlace) (places : List ClerkPlace) (word : ℕ) (found : Option Ask)
     (visits : List Visit) → served places visits [] ≡ looked_at places visits
     → served (p ∷ places) (record { word = word; found = found } ∷ visits) []
@@ -93,7 +93,7 @@ answered-first first p places word ask visits reply terminal finds at =
           is ∙ ap (λ m. with_answer view (reply_word (length view.taken) m reply)) number);
     }
 
--- the next one is behind this place
+-- the next one is after this place
 answered-behind : (first : ℕ) (p : ClerkPlace) (places : List ClerkPlace) (u : Visit)
     (visits : List Visit) (replies rest : List Reply) (reply : Reply) (terminal : ℕ)
     → replies_behind u.found replies ≡ rest

@@ -119,7 +119,7 @@ fn reopen<D: Failing>(clerk: &mut Clerk<D, Etd>, armed: u32) -> Result<(), Keepe
 }
 
 /// Just what is in is there, and is answered again, and so is the letter that was heard before; what
-/// isn't in is answered once car A has told where it is.
+/// isn't in is answered once car A has reported where it is.
 fn go_on<D: Failing>(
     tally: &mut Tally,
     group: &mut Terminals,

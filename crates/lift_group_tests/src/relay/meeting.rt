@@ -137,7 +137,7 @@ where
     (relay, fault)
 }
 
-/// A clerk whom both cars have told where they stand.
+/// A clerk to whom both cars have reported where they stand.
 fn placed<'a>(
     clerk: Clerk<'a, 'a, MemDisk, Etd>,
     terminals: &mut Terminals,
@@ -152,7 +152,7 @@ fn placed<'a>(
     clerk
 }
 
-/// The seats of both kiosks, and a clerk that both cars have told where they stand.
+/// The seats of both kiosks, and a clerk to whom both cars have reported where they stand.
 fn begin<'a>(
     rt: &impl Abort,
     alloc: Global,

@@ -38,7 +38,7 @@ enum Course {
     Turns,
     /// By a run through a gate that is closed.
     Run,
-    /// The same, behind a telling.
+    /// The same, after a telling.
     Told,
     /// By a run whose gate is open until its witness is told that the device failed.
     Watched,
@@ -234,7 +234,7 @@ fn drains<R: Threads + Wait + Abort + Sync>(rt: &R, alloc: Global, drain: &Drain
 
 /// Five batches wait, the fifth in hand until the flusher has received one. A batch without entries
 /// is no call of the device, and each of the three calls is five. What was safe is answered, and all
-/// batches behind a fault are Unknown. A run through a gate that is closed turns nothing, and drains
+/// batches after a fault are Unknown. A run through a gate that is closed turns nothing, and drains
 /// what is in hand and in the line; what the parts tell each other before it changes nothing. After a
 /// fault it goes on, tells the first one, and its witness is told of that once, and at once.
 #[test]

@@ -82,7 +82,7 @@ late_step : (wants : List ℕ → Wanted → Type 0) (keeps : LastLetter → ℕ
 late_step wants keeps limits calls before after step =
     not_answered limits.looks before.port step.1 after.port step.2.exchange.port
 
--- a session that ends late behind its opening awaits an answer
+-- a session that ends late after its opening awaits an answer
 pub late_lines : (wants : List ℕ → Wanted → Type 0) (keeps : LastLetter → ℕ → Reply
     → LastLetter) (limits : Limits) (calls : ℕ) (end : End) (opening : Opening) (first : PortView)
     (before after : Standing)
@@ -159,7 +159,7 @@ unwritten_lines wants keeps limits calls end before after lines failed =
           LastStep wants keeps limits calls e lines.answered after) failed step.1 in last.4.failed)
     ]
 
--- what lines behind a greeting tell of the whole session
+-- what lines after a greeting tell of the whole session
 pub behind_greeting : (wants : List ℕ → Wanted → Type 0) (keeps : LastLetter → ℕ → Reply
     → LastLetter) (limits : Limits) (end : End) (opening : Opening)
     (before greeted after : Standing)

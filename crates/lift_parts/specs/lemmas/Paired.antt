@@ -28,7 +28,7 @@ pub turns_more : {P : Type 0} (chooses : P
 turns_more {P} chooses first old new counts same before turn =
     OneMore before (subst (λ (p : P). IsAllocation (chooses p) old new counts) same turn)
 
--- one list of turns behind another
+-- one list of turns after another
 pub turns_joined : {P : Type 0} (choice : Choice) (a b c : AllocatorState P)
     → AllocatorTurns choice a b → AllocatorTurns choice b c → AllocatorTurns choice a c
 turns_joined choice a b c before NoMore = before

@@ -84,7 +84,7 @@ rows_within plan register car lawful belongs k d inside =
       (serves_within plan car _ lawful call.served_to).1,
     )
 
--- a car's schedule made from nothing, where it has told its position
+-- a car's schedule made from nothing, where it has reported its position
 abbrev pub made_at : RegisterState → ℕ → Option Position → Option ScheduleState
 made_at register car position =
     option_map (λ (p : Position). record { position = p; rows = rows_of register car }) position

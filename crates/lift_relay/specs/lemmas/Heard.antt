@@ -1,4 +1,4 @@
--- What a witness heard, over several turns.
+-- Of what a witness was notified, over several turns.
 use Rattle.std.proofs.Common.{◌≡◌, Bool, true, false, Option, Result, refl, ap, ◌∙◌, subst, sym}
 use Rattle.lift_disk.specs.Disk.{DiskState}
 use Rattle.lift_keeper.specs.declared.fault.KeeperFault.{KeeperFault}
@@ -8,7 +8,7 @@ use Rattle.lift_parts.specs.Flusher.{FlusherState}
 use Rattle.lift_parts.specs.Turns.{FlusherTurns, NoFlush, OneFlush, IsFlush}
 use Rattle.lift_relay.specs.Heard.{FailureHeard}
 
--- of a writer that stays as it is nothing is heard
+-- of a writer that stays as it is nobody is notified
 pub heard_none : {V : Type 0} (hears : V → V → Type 0) (b : Bool) (v : V) → FailureHeard hears b b v v
 heard_none hears false v = refl
 heard_none hears true v = refl
@@ -16,7 +16,7 @@ heard_none hears true v = refl
 pub heard_same : {V : Type 0} (hears : V → V → Type 0) (a b : Bool) (v : V) → b ≡ a → FailureHeard hears a b v v
 heard_same hears a b v is = subst (λ c. FailureHeard hears a c v v) (sym is) (heard_none hears a v)
 
--- A writer that is broken stays so: it is heard of once.
+-- A writer that is broken stays so: the witness is notified once.
 pub heard_on : {V : Type 0} (hears : V → V → Type 0) (a b c : Bool) (u v w : V) → (a ≡ true → b ≡ true) → (b ≡ true → c ≡ true)
     → FailureHeard hears a b u v → FailureHeard hears b c v w → FailureHeard hears a c u w
 heard_on hears false false false u v w first_stays stays first then = then ∙ first

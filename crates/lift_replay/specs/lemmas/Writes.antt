@@ -45,7 +45,7 @@ took_of gives (suc calls) written bytes before after (between, earlier, count, w
 pub takes_of : {W : Type 0} (gives : W → List ℕ → Option ℕ → W → Type 0) (bytes : List ℕ) (before after : W) → (calls : ℕ) × WroteAll gives bytes 0 calls before after → TakesSomeEachCall gives before after
 takes_of gives bytes before after (calls, (made, wrote, count)) = (made, took_of gives made (length bytes) bytes before after wrote)
 
--- or a front of them
+-- or a prefix of them
 pub fails_of : {W : Type 0} (gives : W → List ℕ → Option ℕ → W → Type 0) (bytes : List ℕ) (before after : W) (fault : WriteFault) → fault.written < length bytes
     → (calls : ℕ) × WroteUpToFault gives bytes fault.written 0 calls before after → FailsAtLast gives before after
 fails_of gives bytes before after fault within (calls, (made, between, wrote, fails, count)) =

@@ -1,4 +1,4 @@
--- What was safe and answered before a recovery is kept by it, and by the serving behind it.
+-- What was safe and answered before a recovery is kept by it, and by the serving after it.
 use Rattle.std.proofs.Common.{◌≡◌, inl, inr, false, List, [], ◌++◌, refl, sym, ap}
 use Rattle.std.proofs.Common.{subst, ◌∙◌, append_assoc}
 use Rattle.std.proofs.lemmas.List.{append-nil}
@@ -39,7 +39,7 @@ keeps_first {D} plan other base safe batch given now left same front (inl keeps)
 keeps_first {D} plan other base safe batch given now left same front (inr keeps) =
     (safe ++ batch, now, front, subst (λ (p : Plan). ImageKeeps D p base (safe ++ batch) now left) same keeps)
 
--- Behind these turns, all that was given at the opening has been kept since.
+-- After these turns all that was given at the opening has been kept since.
 record Always {D : Type 0} (state : D → DiskState) (plan : Plan) (base : RegisterState) (first : DiskState)
     (g : FlusherState D) (given now : List Taken) : Type 0 where
   own : g.writer.plan ≡ plan
@@ -71,8 +71,8 @@ always_on {D} state plan base first f h safe end given later own before
           keeps_first plan g.writer.plan base mid s.batch given now left k.own k.front kept) s.stands);
     }
 
--- Keeper::open has opened this device, and what it found keeps a front of what was accepted, and all
--- that was given.
+-- Keeper::open has opened this device, and what it found keeps a prefix of what was accepted, and
+-- all that was given.
 module _ {D P : Type 0} (chooses : P → Choice) (state : D → DiskState) (plan : Plan) (opened : D) (keeper : KeeperView D)
     (reopens : Reopens plan (state opened) (state keeper.writer.device) keeper.writer.register keeper.writer.half keeper.writer.is_second keeper.writer.used)
     (starts : keeper.state ≡ starting keeper.writer.register) (whole : keeper.writer.is_broken ≡ false)

@@ -96,7 +96,7 @@ impl ServingEnd {
 }
 
 /// The first shortage of a serving, if it had one. Each serving begins with one. Only `note` adds
-/// to it. It can't be let go: how the serving ends is told by it.
+/// to it. It can't be let go: how the serving ends is said by it.
 pub struct Shortages {
     first: Option<ServeFault>,
     ghost begun: { first ≢ Some ServeFault.Network },
@@ -274,7 +274,7 @@ pub(crate) fn part<'d, 'b, D: Disk, P: Policy + Drop, K: Drop>(
 ) -> Result<(Allocator<'d, 'b, P>, Flusher<'d, 'b, D, K>), (HeldClerk<'d, 'b, D, P, K>, Shortage)>
     ensures parts { IfOk result (λ parts. AreParts clerk.entry parts.0 parts.1) }
     ensures flusher { IfOk result (λ parts. IsFlusher parts.1) }
-    // What has happened to the clerk's group goes on behind the flusher.
+    // The history of the clerk's group goes on as that of the flusher's.
     ensures history { IfOk result (λ parts. (base : RegisterState) (entries : List Entry)
         (given : List Taken) → History base (group_of clerk.entry) entries given
         → History base (group_behind parts.1) entries given) }

@@ -28,7 +28,7 @@ use Rattle.lift_world.specs.Next.{may_pull, may_write, may_sync, may_fail, may_r
 use Rattle.lift_world.specs.Headline.{HearsInOrder}
 use Rattle.lift_world.specs.lemmas.Moves.{hold_when, hold_if, hold_then, hold_map}
 
--- the element after a front
+-- the element after a prefix
 after_front : {A : Type 0} (xs ys : List A) (x : A) → slice_get (xs ++ ys) (length xs) ≡ Some x
     → (rest : List A) × (ys ≡ x ∷ rest)
 after_front [] [] x h = cc

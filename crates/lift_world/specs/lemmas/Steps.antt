@@ -301,7 +301,7 @@ steps_go_on building choice base prefix s terminal number body reply next k h =
     step_on building choice base prefix s terminal number body reply next
     (first_cause building s terminal number body) k h
 
--- what stands after a front
+-- what stands after a prefix
 after_front : (xs ys : List Entry) (n : ℕ) → n ≤ length xs → drop n (take n xs ++ ys) ≡ ys
 after_front xs ys n le =
     let l = Rattle.std.proofs.lemmas.List.length-take-le n xs le in

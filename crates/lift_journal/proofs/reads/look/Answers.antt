@@ -19,7 +19,7 @@ on_ok : {T E : Type 0} (r : Result T E) (P : Type 0) (Q : T → Type 0) → ((x 
 on_ok (Ok x) P Q then is = then x is
 on_ok (Err e) P Q then is = tt
 
--- the gate is open, and this stands behind it
+-- the gate is open, and this stands after it
 shows_at : (image : Image) (gate end number : ℕ) (at : AtGate) → IsOpen (sector_at image gate)
     → ShowsBody image gate end number at → ShowsAt image gate end number at
 shows_at image gate end number Closed opened shows = absurd shows

@@ -7,7 +7,7 @@ use Rattle.lift_base.specs.declared.text.output.WriteFault.{WriteFault}
 use Rattle.lift_program.proofs.Flushing.{put_failed, takes_put}
 use Rattle.lift_program.proofs.help.write_text.Goals as goal
 
--- the front that a writer took before it failed
+-- the prefix that a writer took before it failed
 put_front : (before after : Option (List ℕ)) (bytes : List ℕ) (result : Result Unit WriteFault) → is_err result ≡ true → IfErr result (λ fault. Appends before after (take fault.written bytes))
     → (count : ℕ) × Appends before after (take count bytes)
 put_front before after bytes (Ok done) failed told = absurd (false≢true failed)

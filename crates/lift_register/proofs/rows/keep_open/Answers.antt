@@ -19,7 +19,7 @@ loop-index-init c =
       within = limit;
     }
 
--- what is behind a place of a list, as a slice has it
+-- what is after a place of a list, as a slice has it
 rest_of : (rows lent : List Row) (i : ℕ) → lent ≡ rows → take (length lent - i) (drop i lent) ≡ drop i rows
 rest_of rows lent i is = rw is (take_all (length rows - i) (drop i rows) (omega (arith, length-drop i rows)))
 
