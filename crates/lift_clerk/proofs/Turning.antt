@@ -68,7 +68,7 @@ pub same_keeper : {D : Type 0} (k l : KeeperView D) → k.state ≡ l.state → 
 same_keeper k l states writers = λ i. record { state = states i; writer = writers i }
 
 pub nothing_waits : (batch : List Entry) (is_broken : Bool) → (batch ≡ []) ⊎ (is_broken ≡ true) → is_broken ≡ false → batch ≡ []
-nothing_waits batch is_broken settled whole = ⊎_elim (λ none. none) (λ broken. absurd (cc)) settled
+nothing_waits batch is_broken empty_batch whole = ⊎_elim (λ none. none) (λ broken. absurd (cc)) empty_batch
 
 pub failed_turn : {D P : Type 0} (desk : List TableId) (choice : Choice) (old new : ClerkState D P) (seat : List ClerkPlace) (decided : State) (answers : List Answer)
     → IsClerkOf desk old.seat
@@ -81,7 +81,7 @@ pub failed_turn : {D P : Type 0} (desk : List TableId) (choice : Choice) (old ne
     → new.keeper.writer.doubt ≡ decided.batch
     → decided.register ≡ register_of old.keeper.writer.register decided.batch
     → IsFailedTurn choice old new
-failed_turn desk choice old new seat decided answers seated scans stored in_range same_desk settled whole same some doubt register =
+failed_turn desk choice old new seat decided answers seated scans stored in_range same_desk empty_batch whole same some doubt register =
     let commands = commands_of 0 scans.visits in
     let many = many-commands answers commands scans.scanned.terminals in
     record {
@@ -89,7 +89,7 @@ failed_turn desk choice old new seat decided answers seated scans stored in_rang
       decided_so = replies_in answers;
       desk = same_desk;
       serves = subst (LooksAndAnswers old.seat new.seat scans.visits) (told_unknown answers commands many) (serves_all desk old.seat seat new.seat scans.visits answers false scans.count seated scans.scanned stored in_range);
-      begins = nothing_waits old.keeper.state.batch old.keeper.writer.is_broken settled whole;
+      begins = nothing_waits old.keeper.state.batch old.keeper.writer.is_broken empty_batch whole;
       run = subst (Run old.keeper.writer.plan choice old.keeper.state commands (replies_in answers)) (sym same)
           (run_of choice old.keeper.writer.plan old.keeper.writer.is_broken old.keeper.state decided commands (replies_in answers) whole scans.decides);
       some = subst (λ (s : State). 0 < length s.batch) (sym same) (not_empty decided.batch some);

@@ -19,7 +19,7 @@ pub record IsClerk (desk : List TableId) (seat : List ClerkPlace) (batch : List 
     (is_broken : Bool) : Type 0 where
   pub seated : IsClerkOf desk seat
   pub answered : OwesNothing seat
-  pub settled : (batch ≡ []) ⊎ (is_broken ≡ true)
+  pub empty_batch : (batch ≡ []) ⊎ (is_broken ≡ true)
 
 -- The clerk was told that these words were asked at a terminal, and nothing else changed.
 abbrev pub IsToldAt : {D P : Type 0} → ClerkState D P → ClerkState D P → ℕ → List ℕ → Type 0

@@ -13,7 +13,7 @@ use Rattle.lift_world.specs.declared.event.Taken.{Taken}
 use Rattle.lift_world.specs.Turns.{with_replies}
 use Rattle.lift_clerk.specs.Answered.{AreApart, Answers}
 use Rattle.lift_clerk.specs.Clerk.{ClerkState}
-use Rattle.lift_clerk.specs.Turn.{settled}
+use Rattle.lift_clerk.specs.Turn.{without_batch}
 
 -- a clerk, whatever its policy is
 abbrev pub GroupState : Type 0 → Type 0
@@ -43,7 +43,7 @@ pub record TurnMakesSafe {D P : Type 0} (old new : ClerkState D P) : Type 0 wher
   pub desk : new.desk ≡ old.desk
   pub decides : DecidesOn old.keeper commands replies decided
   pub answers : Answers old.seat new.seat commands replies
-  pub state : new.keeper.state ≡ settled decided
+  pub state : new.keeper.state ≡ without_batch decided
   pub safe : new.keeper.writer.register ≡ decided.register
   pub is_whole : new.keeper.writer.is_broken ≡ false
   pub no_doubt : new.keeper.writer.doubt ≡ []

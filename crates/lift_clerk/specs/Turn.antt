@@ -12,8 +12,8 @@ use Rattle.lift_clerk.specs.Visits.{Visit, commands_of, LooksAndAnswers}
 use Rattle.lift_clerk.specs.Clerk.{ClerkState}
 
 -- the state with nothing left to make safe
-abbrev pub settled : State → State
-settled state = record state { batch = [] }
+abbrev pub without_batch : State → State
+without_batch state = record state { batch = [] }
 
 -- A turn that answers Ok: its commands and replies are a run of the rules from the state before to
 -- the state after, whose batch was made safe.
@@ -27,7 +27,7 @@ pub record IsTurn {D P : Type 0} (choice : Choice) (old new : ClerkState D P)
   pub begins : old.keeper.state.batch ≡ []
   pub run : Run old.keeper.writer.plan choice old.keeper.state
       (commands_of 0 visits) replies decided
-  pub after : new.keeper.state ≡ settled decided
+  pub after : new.keeper.state ≡ without_batch decided
   pub safe : decided.register ≡ register_of old.keeper.writer.register decided.batch
   pub taken : counts.taken ≡ length (commands_of 0 visits)
   pub accepted : counts.accepted ≡ length decided.batch

@@ -53,7 +53,7 @@ impl<'d, 'b, D: Disk, P: Policy + Drop> Clerk<'d, 'b, D, P> {
     pub fn new(desk: &'d Desk, seat: ClerkSeat, keeper: Keeper<'b, D>, policy: P) -> Self
         requires seated { IsClerkOf desk.now seat }
         requires answered { OwesNothing seat }
-        requires settled { (keeper.state.batch ≡ []) ⊎ (keeper.writer.is_broken ≡ true) }
+        requires empty_batch { (keeper.state.batch ≡ []) ⊎ (keeper.writer.is_broken ≡ true) }
         ensures { result ≡ record {
           desk = desk.now;
           seat = seat;
@@ -80,7 +80,7 @@ impl<'d, 'b, D: Disk, P: Policy + Drop> Clerk<'d, 'b, D, P> {
     /// Its keeper, to be read.
     pub fn keeper(&self) -> &Keeper<'b, D>
         ensures value { result.now ≡ self.now.keeper }
-        ensures settled { (result.now.state.batch ≡ []) ⊎ (result.now.writer.is_broken ≡ true) }
+        ensures empty_batch { (result.now.state.batch ≡ []) ⊎ (result.now.writer.is_broken ≡ true) }
     {
         &self.keeper
     }
@@ -176,7 +176,7 @@ impl<'d, 'b, D: Disk, P: Policy + Drop> Clerk<'d, 'b, D, P> {
         ensures policy { result.2 ≡ self.entry.policy }
         ensures seated { IsClerkOf self.entry.desk result.0 }
         ensures answered { OwesNothing result.0 }
-        ensures settled { (result.1.state.batch ≡ []) ⊎ (result.1.writer.is_broken ≡ true) }
+        ensures empty_batch { (result.1.state.batch ≡ []) ⊎ (result.1.writer.is_broken ≡ true) }
     {
         (self.seat, self.keeper, self.policy)
     }

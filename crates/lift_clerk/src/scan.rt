@@ -105,7 +105,7 @@ pub fn scan<D: Disk, P: Policy>(
     answers: &mut ArrayVec<Answer, MOST_ENTRIES>,
 )
     requires seated { IsClerkOf desk.now seat.old }
-    requires settled { keeper.old.writer.is_broken ≡ false → keeper.old.state.batch ≡ [] }
+    requires empty_batch { keeper.old.writer.is_broken ≡ false → keeper.old.state.batch ≡ [] }
     ensures scans { Scans (P.chooses policy.now) keeper.old.writer.plan keeper.old.writer.is_broken
         seat.old seat.new
         keeper.old.state keeper.new.state answers.new.items (length desk.now) }

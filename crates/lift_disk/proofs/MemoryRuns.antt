@@ -118,6 +118,6 @@ module _ (first : Image) (calls : List Call) (now synced : Image) (loose : List 
         };
       })
 
-pub run_settles : (now : Image) (from : ℕ) (run : List (List ℕ)) (i : ℕ) (bytes : List ℕ) → from + length run ≤ length now → from ≤ i → slice_get run (i - from) ≡ Some bytes → slice_get (with_run from run now) i ≡ Some bytes
-run_settles now from run i bytes fits late is =
+pub run_written : (now : Image) (from : ℕ) (run : List (List ℕ)) (i : ℕ) (bytes : List ℕ) → from + length run ≤ length now → from ≤ i → slice_get run (i - from) ≡ Some bytes → slice_get (with_run from run now) i ≡ Some bytes
+run_written now from run i bytes fits late is =
     run_inside run from now i (late, omega (arith, late, slice_get_within run (i - from) bytes is)) fits ∙ is

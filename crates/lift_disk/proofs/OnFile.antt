@@ -9,8 +9,8 @@ use Rattle.lift_disk.specs.FileCalls.{LeadsBy}
 use Rattle.lift_disk.specs.declared.told.ToldFile.{Ghosts as Told}
 use Rattle.lift_disk.specs.declared.sectors.SectorFile.{SectorFile}
 use Rattle.lift_disk.specs.Trace.{Access}
-use Rattle.lift_disk.specs.Disk.{DiskState, Image, ChangesWithin, Elapses, GoesOn, Settles, Touches, TouchesNothing, StaysLoose, IsSteadyAt}
-use Rattle.lift_disk.specs.Runs.{HoldsRun, Rests, SettlesRun, with_run}
+use Rattle.lift_disk.specs.Disk.{DiskState, Image, ChangesWithin, Elapses, GoesOn, SectorIsWritten, Touches, TouchesNothing, StaysLoose, IsSteadyAt}
+use Rattle.lift_disk.specs.Runs.{HoldsRun, Rests, RunIsWritten, with_run}
 use Rattle.lift_disk.specs.Holding.{IsSameFile, OpensSector, WasAnnounced, on_file, sectors_in}
 use Rattle.lift_disk.specs.lemmas.Moments.{changes_more, changes_both}
 
@@ -59,8 +59,8 @@ module _ (old new : DiskState) (sectors failures failures2 calls calls2 writes w
   pub file_rests : TouchesNothing old new → TouchesNothing before behind
   file_rests t = record { loose = t.loose; within = t.within }
 
-  pub file_settles : (sector : ℕ) (run : List (List ℕ)) → SettlesRun sector run old new → SettlesRun sector run before behind
-  file_settles sector run s = record { here = s.here; others = s.others }
+  pub file_written : (sector : ℕ) (run : List (List ℕ)) → RunIsWritten sector run old new → RunIsWritten sector run before behind
+  file_written sector run s = record { here = s.here; others = s.others }
 
   pub file_steady : (image : Image) → IsSteadyAt image new → IsSteadyAt image behind
   file_steady image s = record { steady = s.steady; same = s.same }
@@ -80,10 +80,10 @@ module _ (old new : DiskState) (sectors failures failures2 calls calls2 writes w
       let honest2 = opens.same.honest.1 honest in
       elapses_then old mid new (opens.time honest within) (rests.time honest2) (rests.touched honest2) (rests.loose honest2)
 
-  pub opened_settles : (mid : DiskState) (sector : ℕ) (bytes : List ℕ) → OpensSector sector old mid → SettlesRun sector (bytes ∷ []) mid new → Settles sector bytes before behind
-  opened_settles mid sector bytes opens settles = record {
-    here = settles.here sector bytes (omega arith) (ap (λ n. slice_get (bytes ∷ []) n) (let none : sector - sector ≡ 0 = omega arith in none));
-    others = λ i other not was. settles.others i other (λ inside. not (omega (arith, inside.0, inside.1))) (opens.settles i other was);
+  pub opened_written : (mid : DiskState) (sector : ℕ) (bytes : List ℕ) → OpensSector sector old mid → RunIsWritten sector (bytes ∷ []) mid new → SectorIsWritten sector bytes before behind
+  opened_written mid sector bytes opens written = record {
+    here = written.here sector bytes (omega arith) (ap (λ n. slice_get (bytes ∷ []) n) (let none : sector - sector ≡ 0 = omega arith in none));
+    others = λ i other not was. written.others i other (λ inside. not (omega (arith, inside.0, inside.1))) (opens.written i other was);
   }
 
   pub opened_steady : (mid : DiskState) (sector : ℕ) (bytes : List ℕ) → OpensSector sector old mid → (mid.is_steady → IsSteadyAt (with_run sector (bytes ∷ []) mid.image) new) → old.is_steady → IsSteadyAt (slice_set old.image sector bytes) behind

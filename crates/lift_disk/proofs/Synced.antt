@@ -48,7 +48,7 @@ safe_behind old mid new counts honest rests keeps safe =
         keeps = λ since left le was. second.keeps since left (omega (arith, le, first.later)) (first.keeps since left le was);
       };
       saves = record {
-        settled = λ i bytes was. safe.saves.settled i bytes (keeps.written honest i bytes was);
+        as_written = λ i bytes was. safe.saves.as_written i bytes (keeps.written honest i bytes was);
         touched = touches_nothing_then old mid new touched safe.saves.touched;
         synced = safe.saves.synced;
         steady = λ was.

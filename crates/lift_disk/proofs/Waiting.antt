@@ -3,7 +3,7 @@ use Rattle.std.proofs.Common.{◌≡◌, ◌≢◌, ◌⊎◌, ◌↔◌, ◌<�
 use Rattle.std.proofs.lemmas.Option.{slice_get-get_or}
 use Rattle.std.proofs.lemmas.List.{length-set}
 use Rattle.lift_disk.specs.Trace.{Access}
-use Rattle.lift_disk.specs.Disk.{DiskState, Image, ChangesWithin, Elapses, GoesOn, Settles, ReadsAsWritten, Touches, TouchesNothing, LeavesAsBefore, IsSteadyAt, KeepsWrites}
+use Rattle.lift_disk.specs.Disk.{DiskState, Image, ChangesWithin, Elapses, GoesOn, SectorIsWritten, ReadsAsWritten, Touches, TouchesNothing, LeavesAsBefore, IsSteadyAt, KeepsWrites}
 use Rattle.lift_disk.specs.Runs.{IsInRun, with_run, Announces, buffered, waiting, Rests, Loosens, run_outside, run_loose, left_with}
 use Rattle.lift_disk.specs.lemmas.History.{set_here}
 use Rattle.lift_disk.specs.lemmas.Moments.{changes_nothing, changes_more, changes_twice, changes_both}
@@ -190,12 +190,12 @@ module _ (old new : DiskState) (from from2 sector : ℕ) (pending pending2 : Lis
     within = changes_twice new.is_loose (image_of old from pending) (image_of new from2 pending2) (image_of new from2 more) (opens.touched honest).within (pushed (opens.honest.1 honest));
   }
 
-  pub push_settles : old.is_honest → Settles sector bytes before behind
-  push_settles honest = record {
+  pub push_written : old.is_honest → SectorIsWritten sector bytes before behind
+  push_written honest = record {
     here = inl (omega (arith, next), ap (λ k. slice_get more k) (let place : sector - from2 ≡ length pending2 = omega (arith, next) in place) ∙ get_behind pending2 bytes);
     others = λ i other not was. ⊎_elim
         (λ (held : (from2 ≤ i) × (slice_get pending2 (i - from2) ≡ Some other)). inl (held.0, get_before pending2 bytes other (i - from2) held.1))
-        (λ (stood : ¬ IsInRun from2 (length pending2) i × new.settles i other). inr (
+        (λ (stood : ¬ IsInRun from2 (length pending2) i × new.written i other). inr (
           (λ inside. stood.0 (
             inside.0,
             (let longer : length more ≡ length pending2 + 1 = length-append pending2 (bytes ∷ []) in omega (arith, inside.1, longer, next, not)),
@@ -218,9 +218,9 @@ none_found : (k : ℕ) (bytes : List ℕ) → slice_get no_run k ≡ Some bytes 
 none_found k bytes is = cc is
 
 -- what was written before a sync is read after it
-pub sync_settles : (old mid new : DiskState) (from from2 from3 : ℕ) (pending pending2 : List (List ℕ)) → pending2 ≡ [] → KeepsWrites (waiting old from pending) (waiting mid from2 pending2) → (old.is_honest → mid.is_honest) → (mid.is_honest → ReadsAsWritten mid new)
-    → old.is_honest → (i : ℕ) (bytes : List ℕ) → ((from ≤ i) × (slice_get pending (i - from) ≡ Some bytes)) ⊎ (¬ IsInRun from (length pending) i × old.settles i bytes) → slice_get (with_run from3 pending2 new.image) i ≡ Some bytes
-sync_settles old mid new from from2 from3 pending (first ∷ pending2) none keeps same reads honest i bytes was = absurd (cc none)
-sync_settles old mid new from from2 from3 pending [] none keeps same reads honest i bytes was =
+pub sync_written : (old mid new : DiskState) (from from2 from3 : ℕ) (pending pending2 : List (List ℕ)) → pending2 ≡ [] → KeepsWrites (waiting old from pending) (waiting mid from2 pending2) → (old.is_honest → mid.is_honest) → (mid.is_honest → ReadsAsWritten mid new)
+    → old.is_honest → (i : ℕ) (bytes : List ℕ) → ((from ≤ i) × (slice_get pending (i - from) ≡ Some bytes)) ⊎ (¬ IsInRun from (length pending) i × old.written i bytes) → slice_get (with_run from3 pending2 new.image) i ≡ Some bytes
+sync_written old mid new from from2 from3 pending (first ∷ pending2) none keeps same reads honest i bytes was = absurd (cc none)
+sync_written old mid new from from2 from3 pending [] none keeps same reads honest i bytes was =
     ⊎_elim (λ (held : (from2 ≤ i) × (slice_get no_run (i - from2) ≡ Some bytes)). absurd (none_found (i - from2) bytes held.1))
-    (λ (stood : ¬ IsInRun from2 0 i × mid.settles i bytes). reads (same honest) i bytes stood.1) (keeps.written honest i bytes was)
+    (λ (stood : ¬ IsInRun from2 0 i × mid.written i bytes). reads (same honest) i bytes stood.1) (keeps.written honest i bytes was)

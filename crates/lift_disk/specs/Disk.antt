@@ -35,7 +35,7 @@ pub record DiskState : Type 1 where
   pub is_steady : Type 0
   -- The sector was written with these bytes, and no call has failed since: they are read once a
   -- sync succeeds, if none fails before it.
-  pub settles : ℕ → List ℕ → Type 0
+  pub written : ℕ → List ℕ → Type 0
   -- a growth inside the device was refused, now or earlier
   pub is_short : Bool
   -- of the calls to come, counted as calls is, this one was told to fail
@@ -172,17 +172,17 @@ StaysLoose old new = (i : ℕ) → old.is_loose i → new.is_loose i
 
 -- what was written and has stood since still does
 abbrev pub StaysWritten : DiskState → DiskState → Type 0
-StaysWritten old new = old.is_honest → (i : ℕ) (bytes : List ℕ) → old.settles i bytes
-    → new.settles i bytes
+StaysWritten old new = old.is_honest → (i : ℕ) (bytes : List ℕ) → old.written i bytes
+    → new.written i bytes
 
 -- these bytes are written in the sector, and what was written in others still stands
-pub record Settles (sector : ℕ) (bytes : List ℕ) (old new : DiskState) : Type 0 where
-  pub here : new.settles sector bytes
-  pub others : (i : ℕ) (other : List ℕ) → ¬ (i ≡ sector) → old.settles i other → new.settles i other
+pub record SectorIsWritten (sector : ℕ) (bytes : List ℕ) (old new : DiskState) : Type 0 where
+  pub here : new.written sector bytes
+  pub others : (i : ℕ) (other : List ℕ) → ¬ (i ≡ sector) → old.written i other → new.written i other
 
 -- what was written is read
 abbrev pub ReadsAsWritten : DiskState → DiskState → Type 0
-ReadsAsWritten old new = (i : ℕ) (bytes : List ℕ) → old.settles i bytes
+ReadsAsWritten old new = (i : ℕ) (bytes : List ℕ) → old.written i bytes
     → slice_get new.image i ≡ Some bytes
 
 -- the image of the last sync is the same
@@ -223,13 +223,13 @@ pub record KeepsWrites (old new : DiskState) : Type 0 where
 -- These bytes are written in the sector: they are read at once where no call has failed, and once a
 -- sync succeeds if none fails before it.
 pub record StoresSector (sector : ℕ) (bytes : List ℕ) (old new : DiskState) : Type 0 where
-  pub settles : old.is_honest → Settles sector bytes old new
+  pub written : old.is_honest → SectorIsWritten sector bytes old new
   pub steady : old.is_honest → old.is_steady → IsSteadyAt (slice_set old.image sector bytes) new
   pub image : SetsSector sector bytes old new
 
 -- What was written is read, and from now on a crash leaves what is read.
 pub record SavesAll (old new : DiskState) : Type 0 where
-  pub settled : ReadsAsWritten old new
+  pub as_written : ReadsAsWritten old new
   pub touched : TouchesNothing old new
   pub synced : IsSynced new
   pub steady : old.is_steady → IsSteadyAt old.image new
@@ -249,7 +249,7 @@ pub record IsUnchanged (old new : DiskState) : Type 0 where
   pub synced : new.synced ≡ old.synced
   pub loose : (i : ℕ) → new.is_loose i ↔ old.is_loose i
   pub steady : new.is_steady ↔ old.is_steady
-  pub settles : (i : ℕ) (bytes : List ℕ) → new.settles i bytes ↔ old.settles i bytes
+  pub written : (i : ℕ) (bytes : List ℕ) → new.written i bytes ↔ old.written i bytes
   pub moment : new.moment ≡ old.moment
   pub left_since : (t : ℕ) (left : Image) → new.left_since t left ↔ old.left_since t left
 

@@ -9,7 +9,7 @@ use Rattle.lift_disk.specs.Traced.{making_calls, making_of, traced_calls, failur
 use Rattle.lift_disk.specs.Traced.{IsMadeOf}
 use Rattle.lift_disk.specs.Disk.{DiskState}
 use Rattle.lift_disk.specs.declared.file.FileFault.{FileFault}
-use Rattle.lift_disk.specs.declared.file.FileFault.TheVariants.{Untold, NotAFile, Unopened, Stopped}
+use Rattle.lift_disk.specs.declared.file.FileFault.TheVariants.{Untold, NotAFile, Unopened, Failed}
 use Rattle.lift_disk.specs.declared.sectors.SectorFile.{SectorFile}
 use Rattle.lift_disk.specs.declared.told.ToldFile.{Ghosts as Told}
 
@@ -95,18 +95,18 @@ pub record IsMadeDevice {F : Type 0} {told : Told F} (opens : Option F → Type 
   pub made : IsMadeOf opens names gives holds sectors (file_below d)
   pub honest : (sector_file_state_of holds d).is_honest ↔ (holds made.file).is_honest
 
--- How an opening stops that makes these calls and then asks for the length: one of them failed,
+-- How an opening fails that makes these calls and then asks for the length: one of them failed,
 -- whatever length it would have answered, and none was made after it.
-abbrev pub stops_opening : {F : Type 0} → (gives fails : F → FileCall → F → Type 0)
+abbrev pub fails_opening : {F : Type 0} → (gives fails : F → FileCall → F → Type 0)
     → (first : List FileCall) → (opened left : F) → Type 0
-stops_opening gives fails first opened left =
+fails_opening gives fails first opened left =
     (bytes : ℕ) → FailsIn gives fails (first ++ GetLength bytes ∷ []) opened left
 
--- How a making stops of a file of this many sectors of zeros: one of its calls failed, and none was
+-- How a making fails of a file of this many sectors of zeros: one of its calls failed, and none was
 -- made after it; or all were made, and the folder couldn't be made safe.
-abbrev pub stops_making : {F : Type 0} → (unnamed : F → Type 0)
+abbrev pub fails_making : {F : Type 0} → (unnamed : F → Type 0)
     → (gives fails : F → FileCall → F → Type 0) → (sectors : ℕ) → (opened left : F) → Type 0
-stops_making unnamed gives fails sectors opened left =
+fails_making unnamed gives fails sectors opened left =
     FailsIn gives fails (making_calls sectors) opened left
     ⊎ (LeadsBy gives (making_calls sectors) opened left × unnamed left)
 
@@ -116,11 +116,11 @@ stands_in_the_way stands told = stands told × (told ≡ Some false)
 
 -- Why there is no device of what stands at a path. The system didn't say what stands there, or no
 -- plain file does: then nothing was opened, and what was to open it comes back. Or the system
--- didn't open it; or a file was opened, and stopped so.
+-- didn't open it; or a file was opened, and failed so.
 abbrev pub IsRefused : {F O : Type 0} → (opener : O) → (stands : Option Bool → Type 0)
-    → (opens : Option F → Type 0) → (stops : F → F → Type 0) → FileFault F O → Type 0
-IsRefused opener stands opens stops (Untold error back) = stands None × (back ≡ opener)
-IsRefused opener stands opens stops (NotAFile back) = stands (Some false) × (back ≡ opener)
-IsRefused opener stands opens stops (Unopened error) = opens None
-IsRefused {F} opener stands opens stops (Stopped stopped) =
-    (file : F) × opens (Some file) × stops file stopped.file
+    → (opens : Option F → Type 0) → (fails : F → F → Type 0) → FileFault F O → Type 0
+IsRefused opener stands opens fails (Untold error back) = stands None × (back ≡ opener)
+IsRefused opener stands opens fails (NotAFile back) = stands (Some false) × (back ≡ opener)
+IsRefused opener stands opens fails (Unopened error) = opens None
+IsRefused {F} opener stands opens fails (Failed failed) =
+    (file : F) × opens (Some file) × fails file failed.file

@@ -2,7 +2,7 @@
 use Rattle.std.specs.Prelude.{◌≡◌, ◌↔◌, ◌⊎◌, ◌≤◌, ◌<◌, ◌+◌, ◌*◌, ◌/◌, ℕ, List, [], length, false}
 use Rattle.std.specs.Prelude.{if◌then◌else◌, nat_lt, Result, OnOk, OnErr}
 use Rattle.lift_disk.specs.Disk.{DiskState, Elapses, IsSteadyAt, KeepsWrites, SavesAll}
-use Rattle.lift_disk.specs.Runs.{HoldsRun, IsInRun, Rests, SettlesRun, with_run}
+use Rattle.lift_disk.specs.Runs.{HoldsRun, IsInRun, Rests, RunIsWritten, with_run}
 use Rattle.lift_disk.specs.Trace.{Access}
 
 -- the whole sectors of this many bytes, as many of them as can be numbered
@@ -23,7 +23,7 @@ nothing_known = record {
   synced = [];
   is_loose = λ _. ⊥;
   is_steady = ⊥;
-  settles = λ _ _. ⊥;
+  written = λ _ _. ⊥;
   is_short = false;
   fails_at = λ _. ⊥;
   moment = 0;
@@ -45,7 +45,7 @@ on_file held sectors failures calls writes trace = record {
   synced = held.synced;
   is_loose = held.is_loose;
   is_steady = held.is_steady;
-  settles = held.settles;
+  written = held.written;
   is_short = false;
   fails_at = λ _. ⊥;
   moment = held.moment;
@@ -70,7 +70,7 @@ WasAnnounced sector count held = (i : ℕ) → ¬ held.is_loose i → ¬ IsInRun
 -- These sectors were written, from that one on.
 pub record WritesRun (sector : ℕ) (run : List (List ℕ)) (old new : DiskState) : Type 0 where
   pub rests : Rests old new
-  pub settles : SettlesRun sector run old new
+  pub written : RunIsWritten sector run old new
   pub steady : old.is_steady → IsSteadyAt (with_run sector run old.image) new
 
 -- What was written was made safe: a crash leaves what is read.
@@ -124,7 +124,7 @@ pub record OpensSector (sector : ℕ) (old new : DiskState) : Type 0 where
   pub same : IsSameFile old new
   pub image : new.image ≡ old.image
   pub synced : new.synced ≡ old.synced
-  pub settles : (i : ℕ) (bytes : List ℕ) → old.settles i bytes → new.settles i bytes
+  pub written : (i : ℕ) (bytes : List ℕ) → old.written i bytes → new.written i bytes
   pub steady : old.is_steady → new.is_steady
   pub loose : old.is_honest → sector < old.size → (i : ℕ)
       → new.is_loose i ↔ (old.is_loose i ⊎ (i ≡ sector))

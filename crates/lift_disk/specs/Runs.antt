@@ -39,15 +39,15 @@ GivesRun has_given from count run = (i : ℕ) (bytes : List ℕ) → IsInRun fro
     → slice_get run (i - from) ≡ Some bytes → ∥ has_given i bytes ∥₁
 
 -- these sectors are written from that one on, and what was written in others still stands
-pub record SettlesRun (from : ℕ) (run : List (List ℕ)) (old new : DiskState) : Type 0 where
+pub record RunIsWritten (from : ℕ) (run : List (List ℕ)) (old new : DiskState) : Type 0 where
   pub here : (i : ℕ) (bytes : List ℕ) → from ≤ i → slice_get run (i - from) ≡ Some bytes
-      → new.settles i bytes
-  pub others : (i : ℕ) (other : List ℕ) → ¬ IsInRun from (length run) i → old.settles i other
-      → new.settles i other
+      → new.written i bytes
+  pub others : (i : ℕ) (other : List ℕ) → ¬ IsInRun from (length run) i → old.written i other
+      → new.written i other
 
 -- The same, and they are read at once where no call has failed.
 pub record StoresRun (from : ℕ) (run : List (List ℕ)) (old new : DiskState) : Type 0 where
-  pub settles : old.is_honest → SettlesRun from run old new
+  pub written : old.is_honest → RunIsWritten from run old new
   pub steady : old.is_honest → old.is_steady → IsSteadyAt (with_run from run old.image) new
 
 -- One sector more is loose. It is no call, and changes nothing else that is said of the device.
@@ -64,7 +64,7 @@ pub record Announces (sector : ℕ) (old new : DiskState) : Type 0 where
   pub image : new.image ≡ old.image
   pub synced : new.synced ≡ old.synced
   pub loose : old.is_honest → (i : ℕ) → new.is_loose i ↔ (old.is_loose i ⊎ (i ≡ sector))
-  pub settles : (i : ℕ) (bytes : List ℕ) → old.settles i bytes → new.settles i bytes
+  pub written : (i : ℕ) (bytes : List ℕ) → old.written i bytes → new.written i bytes
   pub steady : old.is_steady → new.is_steady
   pub time : old.is_honest → Elapses old new
 
@@ -84,8 +84,8 @@ buffered disk from pending calls writes trace = record {
   synced = disk.synced;
   is_loose = disk.is_loose;
   is_steady = disk.is_steady;
-  settles = λ i bytes. ((from ≤ i) × (slice_get pending (i - from) ≡ Some bytes))
-      ⊎ (¬ IsInRun from (length pending) i × disk.settles i bytes);
+  written = λ i bytes. ((from ≤ i) × (slice_get pending (i - from) ≡ Some bytes))
+      ⊎ (¬ IsInRun from (length pending) i × disk.written i bytes);
   is_short = false;
   fails_at = λ _. ⊥;
   moment = disk.moment;

@@ -14,7 +14,7 @@ use std::io;
 /// A file that was opened, and of which a call then failed by which it was to become a device. It
 /// is as that call left it.
 #[derive(Drop)]
-pub struct StoppedFile<F: Drop> {
+pub struct FailedFile<F: Drop> {
     pub error: io::Error,
     pub file: F,
 }
@@ -29,7 +29,7 @@ pub enum FileFault<F: Drop, O: Drop> {
     /// The system refused to open it.
     Unopened(io::Error),
     /// It was opened, and then a call of it failed, or its folder couldn't be made safe.
-    Stopped(StoppedFile<F>),
+    Failed(FailedFile<F>),
 }
 
 /// How many whole sectors a file of this many bytes has, 4,294,967,295 at most.
@@ -49,7 +49,8 @@ pub type BufferedFile<F> = Buffered<SectorFile<F>>;
 
 impl<F: ToldFile + Drop> SectorFile<F> {
     ghost use Rattle.lift_disk.specs.Files.{IsMeasured, IsMadeDevice, sector_file_state_of};
-    ghost use Rattle.lift_disk.specs.Files.{IsRefused, stands_in_the_way, stops_making, stops_opening};
+    ghost use Rattle.lift_disk.specs.Files.{IsRefused, stands_in_the_way, fails_making};
+    ghost use Rattle.lift_disk.specs.Files.{fails_opening};
     ghost use Rattle.lift_disk.specs.Files.{calls_below, making_below};
     ghost use Rattle.lift_disk.specs.Traced.{making_calls, to_be_made, to_be_read, to_be_used};
 
@@ -63,7 +64,7 @@ impl<F: ToldFile + Drop> SectorFile<F> {
         ensures measured { IfOk result (λ disk. IsMeasured (O.opens opener to_be_used path.now)
             F.gives F.holds (Lock ∷ []) disk) }
         ensures refused { IfErr result (IsRefused opener (O.stands opener path.now)
-            (O.opens opener to_be_used path.now) (stops_opening F.gives F.fails (Lock ∷ []))) }
+            (O.opens opener to_be_used path.now) (fails_opening F.gives F.fails (Lock ∷ []))) }
         ensures uncalled { IfOk result (λ disk. calls_below disk ≡ []) }
         ensures failures { IfOk result (λ disk. (sector_file_state_of F.holds disk).failures ≡ 0) }
         ensures calls { IfOk result (λ disk. (sector_file_state_of F.holds disk).calls ≡ 0) }
@@ -81,7 +82,7 @@ impl<F: ToldFile + Drop> SectorFile<F> {
         };
         match TracedFile::locked(file) {
             Ok((traced, bytes)) => Ok(SectorFile::over(traced, whole_sectors(bytes))),
-            Err(stopped) => Err(FileFault::Stopped(stopped)),
+            Err(failed) => Err(FileFault::Failed(failed)),
         }
     }
 
@@ -93,7 +94,7 @@ impl<F: ToldFile + Drop> SectorFile<F> {
         ensures measured { IfOk result (λ disk. IsMeasured (O.opens opener to_be_read path.now)
             F.gives F.holds [] disk) }
         ensures refused { IfErr result (IsRefused opener (O.stands opener path.now)
-            (O.opens opener to_be_read path.now) (stops_opening F.gives F.fails [])) }
+            (O.opens opener to_be_read path.now) (fails_opening F.gives F.fails [])) }
         ensures uncalled { IfOk result (λ disk. calls_below disk ≡ []) }
         ensures failures { IfOk result (λ disk. (sector_file_state_of F.holds disk).failures ≡ 0) }
         ensures calls { IfOk result (λ disk. (sector_file_state_of F.holds disk).calls ≡ 0) }
@@ -111,7 +112,7 @@ impl<F: ToldFile + Drop> SectorFile<F> {
         };
         match TracedFile::measured(file) {
             Ok((looked_at, bytes)) => Ok(SectorFile::over(looked_at, whole_sectors(bytes))),
-            Err(stopped) => Err(FileFault::Stopped(stopped)),
+            Err(failed) => Err(FileFault::Failed(failed)),
         }
     }
 
@@ -127,7 +128,7 @@ impl<F: ToldFile + Drop> SectorFile<F> {
             (O.names opener path.now) F.gives F.holds sectors disk) }
         ensures refused { IfErr result (IsRefused opener
             (stands_in_the_way (O.stands opener path.now)) (O.opens opener to_be_made path.now)
-            (stops_making (O.unnamed opener path.now) F.gives F.fails sectors)) }
+            (fails_making (O.unnamed opener path.now) F.gives F.fails sectors)) }
         ensures making { IfOk result (λ disk. making_below disk ≡ making_calls sectors) }
         ensures uncalled { IfOk result (λ disk. calls_below disk ≡ []) }
         ensures size { IfOk result (λ disk. (sector_file_state_of F.holds disk).size ≡ sectors) }
@@ -147,11 +148,11 @@ impl<F: ToldFile + Drop> SectorFile<F> {
         };
         let made = match TracedFile::zeroed(file, sectors) {
             Ok(made) => made,
-            Err(stopped) => return Err(FileFault::Stopped(stopped)),
+            Err(failed) => return Err(FileFault::Failed(failed)),
         };
         match made.named::<O>(folder, path) {
             Ok(named) => Ok(SectorFile::over(named, sectors)),
-            Err(stopped) => Err(FileFault::Stopped(stopped)),
+            Err(failed) => Err(FileFault::Failed(failed)),
         }
     }
 }

@@ -22,7 +22,7 @@ mod traced;
 pub use buffered::Buffered;
 pub use disk::{Arm, Disk, DiskFault};
 pub use failing::{FailingDisk, FlakyDisk, FuseDisk};
-pub use file::{BufferedFile, FileDisk, FileFault, StoppedFile};
+pub use file::{BufferedFile, FailedFile, FileDisk, FileFault};
 pub use memory::MemDisk;
 pub use opener::{FileOpener, SystemFolder, SystemOpener};
 pub use outcome::Outcome;

@@ -10,7 +10,7 @@ ghost use Rattle.lift_disk.specs.FileCalls.FileCall.{Read, ReadSectors, Write, S
 ghost use Rattle.lift_disk.specs.FileCalls.FileCall.{GetLength, Lock, SetLength, SyncAll};
 
 use crate::DiskFault;
-use crate::file::StoppedFile;
+use crate::file::FailedFile;
 use crate::file_calls::{Called, ProofFileCalls};
 use crate::opener::FileOpener;
 use crate::told::ToldFile;
@@ -138,7 +138,7 @@ impl<F: ToldFile + Drop> TracedFile<F> {
     /// A file that was opened to be read and written, made into one of this many sectors of zeros,
     /// where its lock is free. Each is written, so that the file has its room. Where a call
     /// fails none is made after it, and the file comes back as it was left.
-    pub fn zeroed(file: F, sectors: u32) -> Result<TracedFile<F>, StoppedFile<F>>
+    pub fn zeroed(file: F, sectors: u32) -> Result<TracedFile<F>, FailedFile<F>>
         ensures led { IfOk result (λ made.
             LeadsBy F.gives (making_calls sectors) file (file_of made)) }
         ensures honest { IfOk result (λ made.
@@ -148,13 +148,13 @@ impl<F: ToldFile + Drop> TracedFile<F> {
         ensures making { IfOk result (λ made. making_of made ≡ making_calls sectors) }
         ensures calls { IfOk result (λ made. traced_calls made ≡ []) }
         ensures failures { IfOk result (λ made. failures_of made ≡ 0) }
-        ensures stopped { IfErr result (λ stopped.
-            FailsIn F.gives F.fails (making_calls sectors) file stopped.file) }
+        ensures failed { IfErr result (λ failed.
+            FailsIn F.gives F.fails (making_calls sectors) file failed.file) }
     {
         let mut traced = TracedFile::over(file);
         match traced.make(sectors) {
             Ok(()) => Ok(traced),
-            Err(error) => Err(traced.stopped(error)),
+            Err(error) => Err(traced.failed(error)),
         }
     }
 
@@ -189,30 +189,30 @@ impl<F: ToldFile + Drop> TracedFile<F> {
 
     /// A file that was opened to be read and written, once its lock was taken, and its length in
     /// bytes. Where a call fails none is made after it, and the file comes back as it was left.
-    pub fn locked(file: F) -> Result<(TracedFile<F>, u64), StoppedFile<F>>
+    pub fn locked(file: F) -> Result<(TracedFile<F>, u64), FailedFile<F>>
         ensures told { IfOk result (λ opened. IsOpenedBy F.gives F.holds
             (Lock ∷ GetLength opened.1 ∷ []) file opened.1 opened.0) }
-        ensures stopped { IfErr result (λ stopped. (bytes : ℕ)
-            → FailsIn F.gives F.fails (Lock ∷ GetLength bytes ∷ []) file stopped.file) }
+        ensures failed { IfErr result (λ failed. (bytes : ℕ)
+            → FailsIn F.gives F.fails (Lock ∷ GetLength bytes ∷ []) file failed.file) }
     {
         let mut traced = TracedFile::over(file);
         match traced.lock_and_measure() {
             Ok(bytes) => Ok((traced, bytes)),
-            Err(error) => Err(traced.stopped(error)),
+            Err(error) => Err(traced.failed(error)),
         }
     }
 
     /// A file that was opened to be read, and its length in bytes, likewise.
-    pub fn measured(file: F) -> Result<(TracedFile<F>, u64), StoppedFile<F>>
+    pub fn measured(file: F) -> Result<(TracedFile<F>, u64), FailedFile<F>>
         ensures told { IfOk result (λ opened. IsOpenedBy F.gives F.holds
             (GetLength opened.1 ∷ []) file opened.1 opened.0) }
-        ensures stopped { IfErr result (λ stopped. (bytes : ℕ)
-            → FailsIn F.gives F.fails (GetLength bytes ∷ []) file stopped.file) }
+        ensures failed { IfErr result (λ failed. (bytes : ℕ)
+            → FailsIn F.gives F.fails (GetLength bytes ∷ []) file failed.file) }
     {
         let mut traced = TracedFile::over(file);
         match traced.measure() {
             Ok(bytes) => Ok((traced, bytes)),
-            Err(error) => Err(traced.stopped(error)),
+            Err(error) => Err(traced.failed(error)),
         }
     }
 
@@ -221,25 +221,25 @@ impl<F: ToldFile + Drop> TracedFile<F> {
         self,
         folder: O::Folder,
         path: &str,
-    ) -> Result<TracedFile<F>, StoppedFile<F>>
+    ) -> Result<TracedFile<F>, FailedFile<F>>
         ensures same { IfOk result (λ named. named ≡ self) }
         ensures named { IfOk result (λ named.
             O.names (O.opener_of folder) path.now (file_of named)) }
-        ensures stopped { IfErr result (λ stopped. stopped.file ≡ file_of self) }
-        ensures unnamed { IfErr result (λ stopped.
-            O.unnamed (O.opener_of folder) path.now stopped.file) }
+        ensures failed { IfErr result (λ failed. failed.file ≡ file_of self) }
+        ensures unnamed { IfErr result (λ failed.
+            O.unnamed (O.opener_of folder) path.now failed.file) }
     {
         match O::sync_folder_told(folder, path, &self.file) {
             Ok(()) => Ok(self),
-            Err(error) => Err(self.stopped(error)),
+            Err(error) => Err(self.failed(error)),
         }
     }
 
     /// The file itself, of which a call failed.
-    fn stopped(self, error: io::Error) -> StoppedFile<F>
+    fn failed(self, error: io::Error) -> FailedFile<F>
         ensures { result.file ≡ file_of self }
     {
-        StoppedFile {
+        FailedFile {
             error,
             file: self.file,
         }

@@ -16,7 +16,7 @@ opens_none from disk = record {
   same = record { size = refl; honest = (λ h. h, λ h. h) };
   image = refl;
   synced = refl;
-  settles = λ i bytes was. was;
+  written = λ i bytes was. was;
   steady = λ steady. steady;
   loose = λ i. (λ is. inl is, λ either. ⊎_elim (λ is. is) (λ inside. absurd (omega (arith, inside.0, inside.1))) either);
   time = record { later = omega arith; nothing_else = λ t left le was. inl was; keeps = λ t left le was. was };
@@ -28,7 +28,7 @@ opens_more from count sector old mid new here opens announced honest =
       same = record { size = announced.size ∙ opens.same.size; honest = (λ h. opens.same.honest.0 (announced.honest.0 h), λ h. announced.honest.1 (opens.same.honest.1 h)) };
       image = announced.image ∙ opens.image;
       synced = announced.synced ∙ opens.synced;
-      settles = λ i bytes was. announced.settles i bytes (opens.settles i bytes was);
+      written = λ i bytes was. announced.written i bytes (opens.written i bytes was);
       steady = λ steady. announced.steady (opens.steady steady);
       loose = λ i.
           let more = announced.loose honest i in (

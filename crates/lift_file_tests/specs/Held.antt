@@ -16,7 +16,7 @@ pub record OpensRun (from count : ℕ) (old new : DiskState) : Type 0 where
   pub same : IsSameFile old new
   pub image : new.image ≡ old.image
   pub synced : new.synced ≡ old.synced
-  pub settles : (i : ℕ) (bytes : List ℕ) → old.settles i bytes → new.settles i bytes
+  pub written : (i : ℕ) (bytes : List ℕ) → old.written i bytes → new.written i bytes
   pub steady : old.is_steady → new.is_steady
   pub loose : (i : ℕ) → new.is_loose i ↔ (old.is_loose i ⊎ IsInRun from count i)
   pub time : Elapses old new

@@ -22,7 +22,7 @@ use Rattle.lift_journal.specs.Checkpoint.{in_batches, batch_count, checkpoint_of
 use Rattle.lift_journal.specs.Told.{NoneFails}
 use Rattle.lift_disk.specs.Trace.{Access}
 use Rattle.lift_disk.specs.Trace.Access.{Write}
-use Rattle.lift_journal.specs.Calls.{batch_body, draft_calls, writes_from, StopsIn}
+use Rattle.lift_journal.specs.Calls.{batch_body, draft_calls, writes_from, MakesFront}
 use Rattle.lift_journal.proofs.Following.{all_then, front_then, front_more}
 use Rattle.lift_journal.specs.lemmas.Telling.{none_made, passes_then}
 use Rattle.lift_journal.proofs.Appends.{overwritten_there, length-overwritten, sector_set}
@@ -193,17 +193,17 @@ draft_next start gate count records tail body at is =
     ∙ ap (λ (b : Image). done ++ ((writes_from (gate + 1) b ++ Write gate marked ∷ []) ++ draft_calls (gate + (1 + size_of batch)) (count + 1 + 1) tail)) (sym is)
 
 -- the calls of all batches, where one of the next fails
-pub draft_stops : (old now new : DiskState) (start gate count end : ℕ) (records : List Record) (body : Image) → gate ≡ start + used (in_batches count records) → body ≡ batch_body (count + 1) (batch_at count records)
-    → count < end → now.trace ≡ old.trace ++ draft_calls start 1 (in_batches count records) → StopsIn (writes_from (gate + 1) body ++ Write gate marked ∷ []) now new
-    → StopsIn (draft_calls start 1 (in_batches end records)) old new
-draft_stops old now new start gate count end records body at is below was front =
+pub draft_makes_front : (old now new : DiskState) (start gate count end : ℕ) (records : List Record) (body : Image) → gate ≡ start + used (in_batches count records) → body ≡ batch_body (count + 1) (batch_at count records)
+    → count < end → now.trace ≡ old.trace ++ draft_calls start 1 (in_batches count records) → MakesFront (writes_from (gate + 1) body ++ Write gate marked ∷ []) now new
+    → MakesFront (draft_calls start 1 (in_batches end records)) old new
+draft_makes_front old now new start gate count end records body at is below was front =
     let calls = writes_from (gate + 1) body ++ Write gate marked ∷ [] in
     let done = draft_calls start 1 (in_batches count records) in
     let tail = in_batches (end - count - 1) (drop 63 (drop (63 * count) records)) in
     let rest = draft_calls (gate + (1 + size_of (batch_at count records))) (count + 1 + 1) tail in
     let whole : in_batches end records ≡ in_batches count records ++ batch_at count records ∷ tail =
     ap (λ n. in_batches n records) (let sum : end ≡ count + suc (end - count - 1) = omega (arith, below) in sum) ∙ batches_split count (suc (end - count - 1)) records in
-    subst (λ (l : List Access). StopsIn l old new) (sym (ap (draft_calls start 1) whole ∙ draft_next start gate count records tail body at is))
+    subst (λ (l : List Access). MakesFront l old new) (sym (ap (draft_calls start 1) whole ∙ draft_next start gate count records tail body at is))
     (front_then old now new done (calls ++ rest) was (front_more now new calls rest front))
 
 -- From the start on this many batches of a checkpoint are written.

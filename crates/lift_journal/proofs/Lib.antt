@@ -11,7 +11,7 @@ pub mod Seeing
 pub mod Refusing
 pub mod Refusals
 pub mod Standing
-pub mod Stopping
+pub mod FailedAppends
 pub mod Formats
 pub mod Cursors
 pub mod Bases

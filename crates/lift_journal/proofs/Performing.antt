@@ -13,7 +13,7 @@ use Rattle.lift_journal.specs.Layout.{body_size}
 use Rattle.lift_journal.specs.Calls.{CallsDevice}
 use Rattle.lift_journal.specs.Journal.{JournalView}
 use Rattle.lift_journal.specs.Told.{FailsBy}
-use Rattle.lift_journal.specs.lemmas.Telling.{access_stops, stops_then, err_stops}
+use Rattle.lift_journal.specs.lemmas.Telling.{access_ends, ends_then, err_ends}
 use Rattle.lift_journal.proofs.Seeing.{bodies_few}
 use Rattle.lift_journal.proofs.Following.{one_follows, follows_then, front_more, err_follows}
 
@@ -22,7 +22,7 @@ pub performs_call : {T E : Type 0} (r : Result T E) (call : Access) (old new : D
 performs_call r call old new access = record {
   runs = runs_call old new access.goes_on;
   cause = cause_of r old new access.fault;
-  told = access_stops r call old new access;
+  told = access_ends r call old new access;
   made = record {
     calls = always r access.goes_on.calls;
     writes = always r access.writes;
@@ -42,7 +42,7 @@ pub performs_then : {T E U F : Type 0} {x : T} (r : Result U F) (old mid new : D
 performs_then (Ok y) old mid new first second n m w v was is = record {
   runs = runs_then old mid new was.runs is.runs;
   cause = record { ok = is.cause.ok ∙ was.cause.ok; err = tt };
-  told = stops_then old mid new was.runs was.told.ok (Ok y) is.told;
+  told = ends_then old mid new was.runs was.told.ok (Ok y) is.told;
   made = record {
     calls = omega (arith, was.made.calls, is.made.calls);
     writes = omega (arith, was.made.writes, is.made.writes);
@@ -54,7 +54,7 @@ performs_then (Ok y) old mid new first second n m w v was is = record {
 performs_then (Err e) old mid new first second n m w v was is = record {
   runs = runs_then old mid new was.runs is.runs;
   cause = record { ok = tt; err = omega (arith, was.cause.ok, is.cause.err) };
-  told = stops_then old mid new was.runs was.told.ok (Err e) is.told;
+  told = ends_then old mid new was.runs was.told.ok (Err e) is.told;
   made = record {
     calls = tt;
     writes = tt;
@@ -72,7 +72,7 @@ err_performs Q r old new first second n m w v is was calls writes =
     record {
       runs = was.runs;
       cause = record { ok = rw fault.1 tt; err = rw fault.1 was.cause.err };
-      told = err_stops Q r old new is was.told.err;
+      told = err_ends Q r old new is was.told.err;
       made = record {
         calls = rw fault.1 tt;
         writes = rw fault.1 tt;
@@ -104,7 +104,7 @@ err_performed Q r old new calls n w is was =
     record {
       runs = was.runs;
       cause = record { ok = rw fault.1 tt; err = rw fault.1 was.cause.err };
-      told = err_stops Q r old new is was.told.err;
+      told = err_ends Q r old new is was.told.err;
       made = record { calls = rw fault.1 tt; writes = rw fault.1 tt; most_calls = was.made.most_calls; most_writes = was.made.most_writes };
       follows = err_follows Q r old new calls is was.follows.front;
     }

@@ -114,7 +114,7 @@ refused_at fault old new only refused settled cause behind = record {
     image = only.image;
     saved = only.saved;
     cause = refused;
-    settled = settled;
+    fixed = settled;
     told = cause_told fault old new cause;
     good = good_refusal fault old new refused;
   };

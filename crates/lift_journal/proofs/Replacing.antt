@@ -10,12 +10,12 @@ use Rattle.lift_journal.specs.Layout.{is_marked, sector_at, start_of, Holds, Hol
 use Rattle.lift_journal.specs.Steps.{IsInRange}
 use Rattle.lift_journal.specs.Journal.{HasNextPlace, StandsAt, JournalHolds}
 use Rattle.lift_journal.specs.Checkpoint.{batch_count, checkpoint_of, sectors_for}
-use Rattle.lift_journal.specs.Stops.{StopsCheckpoint}
-use Rattle.lift_journal.specs.Switch.{IsOtherHalf, HasWritten, StopsWriting}
+use Rattle.lift_journal.specs.Failed.{IsFailedCheckpoint}
+use Rattle.lift_journal.specs.Switch.{IsOtherHalf, HasWritten, IsFailedWriting}
 use Rattle.lift_journal.proofs.Checkpoints.{checkpoint_sound}
 use Rattle.lift_journal.specs.lemmas.Folding.{length_batches, used_checkpoint}
 use Rattle.lift_journal.proofs.Seeing.{bodies_few}
-use Rattle.lift_journal.proofs.Picking.{checkpoint_in, checkpoint_stops}
+use Rattle.lift_journal.proofs.Picking.{checkpoint_in, checkpoint_fails}
 use Rattle.lift_journal.proofs.Standing.{stands_in, stands_seen}
 use Rattle.lift_journal.proofs.Switching.{switched}
 
@@ -70,11 +70,11 @@ module _ (shape : Shape) (start gate number other : ℕ) (pick : List ℕ) (old 
       ⊎_elim (λ a. ap is_marked a.2 ∙ sym (let there : nat_lt 2 other ≡ true = grind (arith, half, a.1) in there)) (λ b. ap is_marked b.2 ∙ sym (ap (nat_lt 2) b.1)) is_other
 
   -- by the number of calls, what a cut then leaves
-  pub replace_stops : (new : DiskState) (stands : StandsAt shape start gate number old)
-      → StopsWriting other (other + shape.half) (checkpoint_of (base_records register)) (sectors_for (length (base_records register))) pick old new
-      → StopsCheckpoint shape (nat_lt 2 start) stands.batches (checkpoint_of (base_records register)) (sectors_for (length (base_records register))) old new
-  replace_stops new stands stops =
-      checkpoint_stops shape (nat_lt 2 start) stands.batches (checkpoint_of (base_records register)) other old stands.holds (halves stands) (checkpoint_sound register formed)
+  pub replace_fails : (new : DiskState) (stands : StandsAt shape start gate number old)
+      → IsFailedWriting other (other + shape.half) (checkpoint_of (base_records register)) (sectors_for (length (base_records register))) pick old new
+      → IsFailedCheckpoint shape (nat_lt 2 start) stands.batches (checkpoint_of (base_records register)) (sectors_for (length (base_records register))) old new
+  replace_fails new stands stops =
+      checkpoint_fails shape (nat_lt 2 start) stands.batches (checkpoint_of (base_records register)) other old stands.holds (halves stands) (checkpoint_sound register formed)
       (stands_in shape start gate number old stands) new (sectors_for (length (base_records register))) pick (replace_pick ∙ replace_second) stops
 
   module _ (image : Image) (stands : StandsAt shape start gate number old) (written : HasWritten other (other + shape.half) (checkpoint_of (base_records register)) old.image image) (picked : sector_at image 0 ≡ pick) where
@@ -101,12 +101,12 @@ module _ (shape : Shape) (start gate number other : ℕ) (pick : List ℕ) (old 
         counts = omega (arith, length_batches (batch_count (length records)) records);
       }
 
-  pub replace_seen : {D : Type 0} (state : D → DiskState) (device : D) (count last : ℕ) (is_broken : Bool) (opened : ℕ) → IsSynced (state device) → (stands : StandsAt shape start gate number old)
+  pub replace_seen : {D : Type 0} (state : D → DiskState) (device : D) (count last : ℕ) (is_broken : Bool) (failures_at_opening : ℕ) → IsSynced (state device) → (stands : StandsAt shape start gate number old)
       → HasWritten other (other + shape.half) (checkpoint_of (base_records register)) old.image (state device).image → sector_at (state device).image 0 ≡ pick → 1 ≤ length (base_records register)
       → last ≡ other + sectors_for (length (base_records register)) → count ≡ batch_count (length (base_records register))
-      → JournalHolds state (record { device = device; shape = shape; is_second = nat_lt 2 other; used = last - other; number = count + 1; opened = opened; is_broken = is_broken }) (checkpoint_of (base_records register))
+      → JournalHolds state (record { device = device; shape = shape; is_in_second_half = nat_lt 2 other; used = last - other; number = count + 1; failures_at_opening = failures_at_opening; is_broken = is_broken }) (checkpoint_of (base_records register))
   unfolding replace_stands
-  replace_seen {D} state device count last is_broken opened synced stands written picked some at counted =
-      subst (λ n. JournalHolds state (record { device = device; shape = shape; is_second = nat_lt 2 other; used = last - other; number = n + 1; opened = opened; is_broken = is_broken }) (checkpoint_of (base_records register)))
+  replace_seen {D} state device count last is_broken failures_at_opening synced stands written picked some at counted =
+      subst (λ n. JournalHolds state (record { device = device; shape = shape; is_in_second_half = nat_lt 2 other; used = last - other; number = n + 1; failures_at_opening = failures_at_opening; is_broken = is_broken }) (checkpoint_of (base_records register)))
       (sym counted)
-      (stands_seen state device shape other last (batch_count (length (base_records register)) + 1) is_broken opened (replace_stands (state device) last synced stands written picked some at))
+      (stands_seen state device shape other last (batch_count (length (base_records register)) + 1) is_broken failures_at_opening (replace_stands (state device) last synced stands written picked some at))

@@ -31,9 +31,9 @@ stands_in shape start gate number disk at =
     sym (second_is shape.half start (picks_second disk.image) (omega (arith, at.holds.stamped.within.half.0)) at.starts)
 
 -- what a caller sees of a journal that stands there
-pub stands_seen : {D : Type 0} (state : D → DiskState) (device : D) (shape : Shape) (start gate number : ℕ) (is_broken : Bool) (opened : ℕ) (stands : StandsAt shape start gate number (state device))
-    → JournalHolds state (record { device = device; shape = shape; is_second = nat_lt 2 start; used = gate - start; number = number; opened = opened; is_broken = is_broken }) stands.batches
-stands_seen state device shape start gate number is_broken opened stands = record {
+pub stands_seen : {D : Type 0} (state : D → DiskState) (device : D) (shape : Shape) (start gate number : ℕ) (is_broken : Bool) (failures_at_opening : ℕ) (stands : StandsAt shape start gate number (state device))
+    → JournalHolds state (record { device = device; shape = shape; is_in_second_half = nat_lt 2 start; used = gate - start; number = number; failures_at_opening = failures_at_opening; is_broken = is_broken }) stands.batches
+stands_seen state device shape start gate number is_broken failures_at_opening stands = record {
   safe = stands.synced;
   holds = record { holds = stands.holds; picks = stands_in shape start gate number (state device) stands };
   taken = omega (arith, stands.at, stands.starts);
@@ -41,9 +41,9 @@ stands_seen state device shape start gate number is_broken opened stands = recor
 }
 
 -- images of these batches or of those, in the half that stays picked
-pub leaves_in : (old new : DiskState) (shape : Shape) (is_second : Bool) (batches more : List Batch) → LeavesOnly old new (λ left. Holds shape batches left ⊎ Holds shape more left) → LeavesOnly old new (Picks is_second)
-    → LeavesOnly old new (λ left. HoldsIn shape is_second batches left ⊎ HoldsIn shape is_second more left)
-leaves_in old new shape is_second batches more holds picks = record {
+pub leaves_in : (old new : DiskState) (shape : Shape) (is_in_second_half : Bool) (batches more : List Batch) → LeavesOnly old new (λ left. Holds shape batches left ⊎ Holds shape more left) → LeavesOnly old new (Picks is_in_second_half)
+    → LeavesOnly old new (λ left. HoldsIn shape is_in_second_half batches left ⊎ HoldsIn shape is_in_second_half more left)
+leaves_in old new shape is_in_second_half batches more holds picks = record {
   honest = holds.honest;
   later = holds.later;
   each = λ honest left is. both left (holds.each honest left is) (picks.each honest left is);
@@ -51,20 +51,20 @@ leaves_in old new shape is_second batches more holds picks = record {
       ⊎_elim (λ was. inl was) (λ has. ⊎_elim (λ was. inl was) (λ picked. inr (both left has picked)) (picks.before honest t left le is)) (holds.before honest t left le is);
 }
   where
-    both : (left : Image) → Holds shape batches left ⊎ Holds shape more left → Picks is_second left → HoldsIn shape is_second batches left ⊎ HoldsIn shape is_second more left
+    both : (left : Image) → Holds shape batches left ⊎ Holds shape more left → Picks is_in_second_half left → HoldsIn shape is_in_second_half batches left ⊎ HoldsIn shape is_in_second_half more left
     both left has picked = ⊎_elim (λ was. inl (record { holds = was; picks = picked })) (λ now. inr (record { holds = now; picks = picked })) has
 
 -- nothing becomes of them
-pub becomes_none : {D T : Type 0} (state : D → DiskState) (journal : JournalView D) (is_second : Bool) (change : List Batch → List Batch) (fault : JournalFault) (batches : List Batch) → JournalHolds state journal batches
-    → LeavesNoOther (state journal.device) → Becomes {T = T} state journal is_second change journal (Err fault)
-becomes_none state journal is_second change fault batches held only_now = record {
+pub becomes_none : {D T : Type 0} (state : D → DiskState) (journal : JournalView D) (is_in_second_half : Bool) (change : List Batch → List Batch) (fault : JournalFault) (batches : List Batch) → JournalHolds state journal batches
+    → LeavesNoOther (state journal.device) → Becomes {T = T} state journal is_in_second_half change journal (Err fault)
+becomes_none state journal is_in_second_half change fault batches held only_now = record {
   batches = batches;
   held = held;
   any_moment = leaves_none (state journal.device) _ only_now (λ _ left leaves. inl (held_left state journal batches held left leaves));
   done = tt;
 }
 
--- a settled device leaves it picked
+-- a synced device leaves it picked
 pub picks_synced : (shape : Shape) (start gate number : ℕ) (disk : DiskState) → (disk.is_honest → StandsAt shape start gate number disk) → LeavesNow disk (Picks (nat_lt 2 start))
 picks_synced shape start gate number disk stands honest left leaves =
     let at = stands honest in
@@ -96,13 +96,13 @@ holds_reads shape batches image parts holds = record {
   are_entries = All-from_recursion IsEntry parts.entries parts.are_entries;
 }
 
--- a settled device stands for what it is read as
+-- a synced device stands for what it is read as
 pub stands_synced : (shape : Shape) (base entries : List Record) (disk : DiskState) → (disk.is_honest → IsSynced disk) → (disk.is_honest → ReadsAs shape base entries disk.image) → StandsFor shape base entries disk
 stands_synced shape base entries disk synced reads honest left leaves =
     let same : left ≡ disk.image = all_same disk.is_loose disk.image left (synced honest).none_loose leaves in
     subst (ReadsAs shape base entries) (sym same) (reads honest)
 
--- a settled device leaves what it holds
+-- a synced device leaves what it holds
 pub holds_synced : (shape : Shape) (batches : List Batch) (disk : DiskState) → (disk.is_honest → IsSynced disk) → (disk.is_honest → Holds shape batches disk.image) → LeavesNow disk (Holds shape batches)
 holds_synced shape batches disk synced holds honest left leaves =
     let same : left ≡ disk.image = all_same disk.is_loose disk.image left (synced honest).none_loose leaves in
@@ -177,27 +177,27 @@ stands_then shape start gate number n old new batch stands is settled = record {
   counts = omega (arith, stands.counts, length-append stands.batches (batch ∷ []));
 }
 
-pub seen_then : {D : Type 0} (state : D → DiskState) (device : D) (shape : Shape) (start gate number n : ℕ) (is_broken : Bool) (opened : ℕ) (old : DiskState) (batch : Batch) (stands : StandsAt shape start gate number old)
+pub seen_then : {D : Type 0} (state : D → DiskState) (device : D) (shape : Shape) (start gate number n : ℕ) (is_broken : Bool) (failures_at_opening : ℕ) (old : DiskState) (batch : Batch) (stands : StandsAt shape start gate number old)
     → n ≡ size_of batch → HoldsSafely shape (stands.batches ++ batch ∷ []) (start_of shape.half old.image) (state device)
-    → JournalHolds state (record { device = device; shape = shape; is_second = nat_lt 2 start; used = gate + (n + 1) - start; number = number + 1; opened = opened; is_broken = is_broken }) (stands.batches ++ batch ∷ [])
+    → JournalHolds state (record { device = device; shape = shape; is_in_second_half = nat_lt 2 start; used = gate + (n + 1) - start; number = number + 1; failures_at_opening = failures_at_opening; is_broken = is_broken }) (stands.batches ++ batch ∷ [])
 unfolding stands_then
-seen_then state device shape start gate number n is_broken opened old batch stands is settled =
-    stands_seen state device shape start (gate + (n + 1)) (number + 1) is_broken opened (stands_then shape start gate number n old (state device) batch stands is settled)
+seen_then state device shape start gate number n is_broken failures_at_opening old batch stands is settled =
+    stands_seen state device shape start (gate + (n + 1)) (number + 1) is_broken failures_at_opening (stands_then shape start gate number n old (state device) batch stands is settled)
 
 -- Where it stood before calls that wrote nothing, none of which failed or of which it is told, it stands still.
-pub stands_again : (at : Place) (now_broken before_broken is_broken : Bool) (opened : ℕ) (old new : DiskState)
-    → IsJournal at before_broken opened old → ReadsOnly old new
+pub stands_again : (at : Place) (now_broken before_broken is_broken : Bool) (failures_at_opening : ℕ) (old new : DiskState)
+    → IsJournal at before_broken failures_at_opening old → ReadsOnly old new
     → (now_broken ≡ false → new.is_honest → IsSynced new) → (now_broken ≡ true → old.failures < new.failures)
     → (now_broken ≡ true → is_broken ≡ true) → (now_broken ≡ false → is_broken ≡ before_broken)
-    → IsJournal at is_broken opened new
-stands_again at now_broken before_broken is_broken opened old new was only safe failed breaks stays = record {
+    → IsJournal at is_broken failures_at_opening new
+stands_again at now_broken before_broken is_broken failures_at_opening old new was only safe failed breaks stays = record {
   place = subst (λ n. HasNextPlace n at.shape at.start at.gate at.number) (sym only.runs.size) was.place;
   counted = omega (arith, was.counted, only.runs.failures);
   failed = by_state now_broken refl;
   stands = λ whole honest_new. still now_broken refl whole honest_new;
 }
   where
-    by_state : (b : Bool) → now_broken ≡ b → is_broken ≡ true → opened < new.failures
+    by_state : (b : Bool) → now_broken ≡ b → is_broken ≡ true → failures_at_opening < new.failures
     by_state true is broken = omega (arith, was.counted, failed is)
     by_state false is broken = omega (arith, was.failed (sym (stays is) ∙ broken), only.runs.failures)
 

@@ -8,7 +8,7 @@ use Rattle.lift_disk.specs.lemmas.History.{set_other}
 use Rattle.lift_journal.specs.Layout.{Batch, is_marked, IsClosed, IsChain, sector_at, start_of, IsStamped, IsSound, Holds}
 use Rattle.lift_journal.specs.Steps.{IsInRange, unmarked}
 use Rattle.lift_journal.specs.Walk.{Reaches}
-use Rattle.lift_journal.specs.Switch.{HasWritten, StopsSwitch, StopsWriting}
+use Rattle.lift_journal.specs.Switch.{HasWritten, IsFailedSwitch, IsFailedWriting}
 use Rattle.lift_journal.proofs.Appends.{sector_set}
 use Rattle.lift_journal.proofs.Checkpoints.{reaches_same}
 use Rattle.lift_journal.proofs.Halves.{HalfHolds, half_same, stamped_else, holds_elsewhere}
@@ -70,10 +70,10 @@ written_pick start end batches old mid left low written change = record {
 }
 
 -- a switch that failed after the batches
-pub writing_stops : (old mid new : DiskState) (start end gate sectors : ℕ) (batches : List Batch) (pick : List ℕ) → 2 ≤ start → start + 64 ≤ end → end ≤ length mid.image → gate < start + 64
+pub writing_fails : (old mid new : DiskState) (start end gate sectors : ℕ) (batches : List Batch) (pick : List ℕ) → 2 ≤ start → start + 64 ≤ end → end ≤ length mid.image → gate < start + 64
     → ChangesWithin (IsInRange start (start + 64)) old.image mid.image → Reaches mid.image start end gate batches → mid.calls ≡ old.calls + sectors
-    → StopsSwitch start (start + 64) gate pick mid new → StopsWriting start end batches sectors pick old new
-writing_stops old mid new start end gate sectors batches pick low high whole below before reached calls stops = record {
+    → IsFailedSwitch start (start + 64) gate pick mid new → IsFailedWriting start end batches sectors pick old new
+writing_fails old mid new start end gate sectors batches pick low high whole below before reached calls stops = record {
   early = λ few honest left leaves.
       changes_twice (IsInRange start (start + 64)) old.image mid.image left before (stops.early (omega (arith, few, calls)) honest left leaves);
   late = λ more.

@@ -15,11 +15,11 @@ pub record OpensAs {D : Type 0} (state : D → DiskState) (old : DiskState)
     (journal : JournalView D) : Type 0 where
   pub opens : Opens old (state journal.device) journal.shape journal.used
   pub whole : journal.is_broken ≡ false
-  pub opened : journal.opened ≡ (state journal.device).failures
-  pub half : LeavesNow (state journal.device) (Picks journal.is_second)
+  pub failures_at_opening : journal.failures_at_opening ≡ (state journal.device).failures
+  pub half : LeavesNow (state journal.device) (Picks journal.is_in_second_half)
   -- a sync, the stamp, the pick, and the picked half up to its closing gate, sector by sector
   pub calls : (state journal.device).trace
-      ≡ old.trace ++ opening_of journal.shape.half journal.is_second journal.used
+      ≡ old.trace ++ opening_of journal.shape.half journal.is_in_second_half journal.used
 
 -- It was refused for this fault, and read up to the sector that refuses it.
 pub record RefusesAt (old new : DiskState) (fault : JournalFault) : Type 0 where
@@ -35,8 +35,8 @@ pub record JournalReopens {D T : Type 0} (state : D → DiskState) (old new : Jo
   pub breaks : IsErrOf result Disk → new.is_broken ≡ true
   pub stays : IfErr result (λ fault. (fault ≡ Disk) ⊎ (new.is_broken ≡ old.is_broken))
   pub same : OnErr result ((new.shape ≡ old.shape) × (new.used ≡ old.used)
-      × (new.opened ≡ old.opened))
-  pub second : OnErr result (new.is_second ≡ old.is_second)
+      × (new.failures_at_opening ≡ old.failures_at_opening))
+  pub second : OnErr result (new.is_in_second_half ≡ old.is_in_second_half)
   pub number : OnErr result (new.number ≡ old.number)
 
 -- A call of a journal breaks it just where a call of the device fails. A broken one makes no call
@@ -50,4 +50,4 @@ pub record BreaksByFault {D T : Type 0} (state : D → DiskState) (old new : Jou
   pub broken : IsErrOf result Broken ↔ (old.is_broken ≡ true)
   pub rests : IsErrOf result Broken → new ≡ old
   pub shape : new.shape ≡ old.shape
-  pub opened : new.opened ≡ old.opened
+  pub failures_at_opening : new.failures_at_opening ≡ old.failures_at_opening

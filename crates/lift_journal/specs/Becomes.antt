@@ -8,7 +8,8 @@ use Rattle.lift_journal.specs.Layout.{Batch, HoldsIn, body_size}
 use Rattle.lift_journal.specs.Journal.{JournalView, JournalHolds}
 
 -- The batches that a journal holds become others, in this half.
-pub record Becomes {D T : Type 0} (state : D → DiskState) (old : JournalView D) (is_second : Bool)
+pub record Becomes {D T : Type 0} (state : D
+    → DiskState) (old : JournalView D) (is_in_second_half : Bool)
     (change : List Batch → List Batch) (new : JournalView D)
     (result : Result T JournalFault) : Type 0 where
   -- those from before
@@ -17,19 +18,20 @@ pub record Becomes {D T : Type 0} (state : D → DiskState) (old : JournalView D
   -- a crash at any moment of the call leaves just these in their half, or just the others in that
   -- one
   pub any_moment : LeavesOnly (state old.device) (state new.device)
-      (λ left. HoldsIn old.shape old.is_second batches left
-      ⊎ HoldsIn old.shape is_second (change batches) left)
+      (λ left. HoldsIn old.shape old.is_in_second_half batches left
+      ⊎ HoldsIn old.shape is_in_second_half (change batches) left)
   -- at Ok the journal holds the others
   pub done : OnOk result (JournalHolds state new (change batches))
 
 -- The next batch goes into this half, after this many sectors, with this number; where the call
 -- fails, it goes where it would have gone.
-pub record MovesOnOk {D T : Type 0} (old : JournalView D) (is_second : Bool) (sectors next : ℕ)
+pub record MovesOnOk {D T : Type 0} (old : JournalView D) (is_in_second_half : Bool)
+    (sectors next : ℕ)
     (new : JournalView D) (result : Result T JournalFault) : Type 0 where
-  pub second : OnOk result (new.is_second ≡ is_second)
+  pub second : OnOk result (new.is_in_second_half ≡ is_in_second_half)
   pub used : OnOk result (new.used ≡ sectors)
   pub number : OnOk result (new.number ≡ next)
-  pub kept : OnErr result ((new.is_second ≡ old.is_second) × (new.used ≡ old.used)
+  pub kept : OnErr result ((new.is_in_second_half ≡ old.is_in_second_half) × (new.used ≡ old.used)
       × (new.number ≡ old.number))
 
 -- A batch of this many records is Full just where it has no room and the journal isn't broken, and

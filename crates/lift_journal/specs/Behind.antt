@@ -10,7 +10,7 @@ use Rattle.lift_journal.specs.declared.fault.JournalFault.TheVariants.{Disk, Not
 use Rattle.lift_journal.specs.declared.fault.JournalFault.TheVariants.{Full, Broken}
 use Rattle.lift_journal.specs.Layout.{Batch}
 use Rattle.lift_journal.specs.Walk.{Reaches, IsDamagedAt}
-use Rattle.lift_journal.specs.Calls.{reads_from, StopsIn}
+use Rattle.lift_journal.specs.Calls.{reads_from, MakesFront}
 
 -- a half of a device of this many sectors, for some shape, from its first sector to its end
 pub record IsHalfOf (size start end : ℕ) : Type 0 where
@@ -71,7 +71,7 @@ StampBehind Broken old new = ⊥
 -- Which calls an opening has made that was refused: the sync, the stamp and the pick, and then a
 -- half up to the sector that refuses it, each of them as far as it came.
 abbrev pub RefusedBehind : JournalFault → DiskState → DiskState → Type 0
-RefusedBehind Disk old new = StopsIn (Sync ∷ Read 1 ∷ Read 0 ∷ []) old new
+RefusedBehind Disk old new = MakesFront (Sync ∷ Read 1 ∷ Read 0 ∷ []) old new
     ⊎ EndsInHalf Disk (Sync ∷ Read 1 ∷ Read 0 ∷ []) old.is_honest new.image old new
 RefusedBehind NotFormatted old new =
     (old.size < 2) × (new.trace ≡ old.trace ++ Sync ∷ [])

@@ -9,11 +9,11 @@ use Rattle.lift_journal.specs.declared.fault.JournalFault.{JournalFault}
 use Rattle.lift_journal.specs.declared.fault.JournalFault.TheVariants.{Disk}
 use Rattle.lift_journal.specs.Layout.{Batch, batch_bytes, size_of, used, filled, stamp_bytes}
 use Rattle.lift_journal.specs.Steps.{Makes, marked, unmarked}
-use Rattle.lift_journal.specs.Told.{StopsAsTold, AnswersAsTold}
+use Rattle.lift_journal.specs.Told.{EndsAtFirstFailure, AnswersAsTold}
 
 -- the first sector of a half
 abbrev pub half_start : Bool → ℕ → ℕ
-half_start is_second half = if is_second then half + 2 else 2
+half_start is_in_second_half half = if is_in_second_half then half + 2 else 2
 
 -- these sectors are written in a row
 abbrev pub writes_from : ℕ → Image → List Access
@@ -55,7 +55,7 @@ draft_calls gate number (batch ∷ batches) =
 
 -- what is written to pick a half
 abbrev pub pick_of : Bool → List ℕ
-pick_of is_second = if is_second then marked else unmarked
+pick_of is_in_second_half = if is_in_second_half then marked else unmarked
 
 -- From this sector on the batches of a checkpoint are written, and after them a closed gate is
 -- made safe; then the pick.
@@ -64,7 +64,7 @@ checkpoint_calls start pick batches =
     draft_calls start 1 batches ++ (puts (start + used batches) unmarked ++ puts 0 pick)
 
 -- Some of these calls were made, from the first on, and not all.
-pub record StopsIn (calls : List Access) (old new : DiskState) : Type 0 where
+pub record MakesFront (calls : List Access) (old new : DiskState) : Type 0 where
   pub count : ℕ
   pub some_left : count < length calls
   pub made : new.trace ≡ old.trace ++ take count calls
@@ -73,7 +73,7 @@ pub record StopsIn (calls : List Access) (old new : DiskState) : Type 0 where
 pub record Follows {T E : Type 0} (result : Result T E) (calls : List Access)
     (old new : DiskState) : Type 0 where
   pub all : OnOk result (new.trace ≡ old.trace ++ calls)
-  pub front : OnErr result (StopsIn calls old new)
+  pub front : OnErr result (MakesFront calls old new)
 
 -- A step of the journal: these calls, this many in all, this many of them writes. It stops at the
 -- first that fails.
@@ -81,7 +81,7 @@ pub record Performs {T E : Type 0} (result : Result T E) (calls : List Access) (
     (old new : DiskState) : Type 0 where
   pub runs : RunsOn old new
   pub cause : HasCause result old new
-  pub told : StopsAsTold result old new
+  pub told : EndsAtFirstFailure result old new
   pub made : Makes result count writes old new
   pub follows : Follows result calls old new
 
@@ -92,7 +92,7 @@ pub record CallsDevice {T : Type 0} (result : Result T JournalFault) (calls : Li
   pub runs : RunsOn old new
   pub made : Makes result count writes old new
   pub all : OnOk result (new.trace ≡ old.trace ++ calls)
-  pub front : IsErrOf result Disk → StopsIn calls old new
+  pub front : IsErrOf result Disk → MakesFront calls old new
   -- which of them fails
   pub told : AnswersAsTold result old new
 
@@ -114,4 +114,5 @@ opening_calls start count = Sync ∷ Read 1 ∷ Read 0 ∷ reads_from start coun
 
 -- the same by the size of a half, which one is picked, and how many of its sectors are used
 abbrev pub opening_of : (half : ℕ) → Bool → (taken : ℕ) → List Access
-opening_of half is_second taken = opening_calls (half_start is_second half) (taken + 1)
+opening_of half is_in_second_half taken = opening_calls (half_start is_in_second_half half)
+    (taken + 1)

@@ -27,25 +27,25 @@ pub record JournalView (D : Type 0) : Type 0 where
   pub device : D
   pub shape : Shape
   -- the second half is picked
-  pub is_second : Bool
+  pub is_in_second_half : Bool
   -- the sectors of the picked half before its closing gate
   pub used : ℕ
   -- the number of the next batch
   pub number : ℕ
   -- how many calls of the device had failed when it was last opened
-  pub opened : ℕ
+  pub failures_at_opening : ℕ
   -- a call of the device has failed, and no reopening has succeeded since
   pub is_broken : Bool
 
 -- a journal over this device that stands at this place
 abbrev pub view_from : {D : Type 0} → D → Place → Bool → ℕ → JournalView D
-view_from device place is_broken opened = record {
+view_from device place is_broken failures_at_opening = record {
   device = device;
   shape = place.shape;
-  is_second = nat_lt 2 place.start;
+  is_in_second_half = nat_lt 2 place.start;
   used = place.gate - place.start;
   number = place.number;
-  opened = opened;
+  failures_at_opening = failures_at_opening;
   is_broken = is_broken;
 }
 
@@ -54,7 +54,7 @@ view_from device place is_broken opened = record {
 pub record JournalHolds {D : Type 0} (state : D → DiskState) (journal : JournalView D)
     (batches : List Batch) : Type 0 where
   pub safe : IsSynced (state journal.device)
-  pub holds : HoldsIn journal.shape journal.is_second batches (state journal.device).image
+  pub holds : HoldsIn journal.shape journal.is_in_second_half batches (state journal.device).image
   pub taken : journal.used ≡ used batches
   pub next : journal.number ≡ 1 + length batches
 
@@ -78,10 +78,11 @@ pub record StandsAt (shape : Shape) (start gate number : ℕ) (disk : DiskState)
   pub counts : number ≡ 1 + length batches
 
 -- what is true of every journal: its place is right, until a call of its device fails
-pub record IsJournal (at : Place) (is_broken : Bool) (opened : ℕ) (disk : DiskState) : Type 0 where
+pub record IsJournal (at : Place) (is_broken : Bool) (failures_at_opening : ℕ) (disk : DiskState)
+    : Type 0 where
   pub place : HasNextPlace disk.size at.shape at.start at.gate at.number
-  pub counted : opened ≤ disk.failures
-  pub failed : is_broken ≡ true → opened < disk.failures
+  pub counted : failures_at_opening ≤ disk.failures
+  pub failed : is_broken ≡ true → failures_at_opening < disk.failures
   pub stands : is_broken ≡ false → disk.is_honest
       → StandsAt at.shape at.start at.gate at.number disk
 

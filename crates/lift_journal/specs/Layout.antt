@@ -99,7 +99,7 @@ picks_second image = is_marked (sector_at image 0)
 
 -- this half is picked
 abbrev pub Picks : Bool → Image → Type 0
-Picks is_second image = picks_second image ≡ is_second
+Picks is_in_second_half image = picks_second image ≡ is_in_second_half
 
 -- the first sector of the half that is picked
 abbrev pub start_of : ℕ → Image → ℕ
@@ -131,10 +131,10 @@ pub record Holds (shape : Shape) (batches : List Batch) (image : Image) : Type 0
   pub sound : IsSound batches
 
 -- the image holds these batches, in this half
-pub record HoldsIn (shape : Shape) (is_second : Bool) (batches : List Batch)
+pub record HoldsIn (shape : Shape) (is_in_second_half : Bool) (batches : List Batch)
     (image : Image) : Type 0 where
   pub holds : Holds shape batches image
-  pub picks : Picks is_second image
+  pub picks : Picks is_in_second_half image
 
 -- after this gate
 abbrev pub IsBehind : ℕ → ℕ → Type 0

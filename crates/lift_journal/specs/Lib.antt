@@ -3,7 +3,7 @@ pub mod Layout
 pub mod Told
 pub mod Steps
 pub mod Calls
-pub mod Stops
+pub mod Failed
 pub mod Journal
 pub mod Laws
 pub mod Walk

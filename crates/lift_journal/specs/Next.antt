@@ -32,7 +32,8 @@ pub record MovesCursor {D : Type 0} (old : JournalView D) (from : CursorView) (n
   -- and it always is there, so that nothing is read after the closing gate
   pub behind : old.is_broken ≡ false → old.used ≤ from.skipped → result ≡ Ok None
   pub refused : OnErr result (to ≡ from)
-  pub stays : (new.is_second ≡ old.is_second) × (new.used ≡ old.used) × (new.number ≡ old.number)
+  pub stays : (new.is_in_second_half ≡ old.is_in_second_half) × (new.used ≡ old.used)
+      × (new.number ≡ old.number)
   -- damage breaks nothing
   pub whole : (sector : ℕ) → IsErrOf result (Damaged sector) → new.is_broken ≡ false
 
@@ -44,15 +45,15 @@ pub record NextCalls {D : Type 0} (state : D → DiskState) (old : JournalView D
   pub told : AnswersAsTold result (state old.device) (state new.device)
   pub all : IfOk result (λ found. IfSome found (λ records.
       (state new.device).trace ≡ (state old.device).trace
-      ++ reads_from (half_start old.is_second old.shape.half + from.skipped)
+      ++ reads_from (half_start old.is_in_second_half old.shape.half + from.skipped)
       (1 + body_size (length records.items))))
   pub failed : IsErrOf result Disk
-      → HasRead (half_start old.is_second old.shape.half + from.skipped) 2
-      (half_start old.is_second old.shape.half + old.shape.half) (state old.device)
+      → HasRead (half_start old.is_in_second_half old.shape.half + from.skipped) 2
+      (half_start old.is_in_second_half old.shape.half + old.shape.half) (state old.device)
       (state new.device)
   -- damage is reported of the cursor's own gate, and no call has failed
   pub damaged : (sector : ℕ) → IsErrOf result (Damaged sector)
-      → (sector ≡ half_start old.is_second old.shape.half + from.skipped)
+      → (sector ≡ half_start old.is_in_second_half old.shape.half + from.skipped)
       × ((state new.device).failures ≡ (state old.device).failures)
-      × HasReadAt sector (half_start old.is_second old.shape.half + old.shape.half)
+      × HasReadAt sector (half_start old.is_in_second_half old.shape.half + old.shape.half)
       (state old.device) (state new.device)

@@ -68,7 +68,7 @@ pub record Refuses (old new : DiskState) (fault : JournalFault) : Type 0 where
   pub saved : SavesAsRead old new
   pub cause : RefusedFor fault old new
   -- its sync failed, so that no call succeeded; or no crash gives another image any more
-  pub settled : (new.trace ≡ old.trace) ⊎ (old.is_honest → FixesImage old new)
+  pub fixed : (new.trace ≡ old.trace) ⊎ (old.is_honest → FixesImage old new)
   pub told : FailsBy fault old new
   -- an image that holds batches is refused for a failed call alone
   pub good : old.is_honest → (shape : Shape) (batches : List Batch) → Holds shape batches new.image

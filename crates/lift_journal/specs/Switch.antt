@@ -29,14 +29,14 @@ pub record MissesPick (earlier : ℕ) (pick : List ℕ) (safe : Image)
 
 -- The closing gate was to be made safe, and then the pick; a call has failed. Before the pick's
 -- write nothing but the sectors from low to high is in doubt.
-pub record StopsSwitch (low high gate : ℕ) (pick : List ℕ) (old new : DiskState) : Type 0 where
+pub record IsFailedSwitch (low high gate : ℕ) (pick : List ℕ) (old new : DiskState) : Type 0 where
   pub early : new.calls ≤ old.calls + 2
       → LeavesNow new (ChangesWithin (IsInRange low high) old.image)
   pub late : old.calls + 2 < new.calls
       → MissesPick 2 pick (slice_set old.image gate unmarked) old new
 
 -- The same of all that a checkpoint writes.
-pub record StopsWriting (start end : ℕ) (batches : List Batch) (sectors : ℕ) (pick : List ℕ)
+pub record IsFailedWriting (start end : ℕ) (batches : List Batch) (sectors : ℕ) (pick : List ℕ)
     (old new : DiskState) : Type 0 where
   pub early : new.calls ≤ old.calls + (sectors + 2)
       → LeavesNow new (ChangesWithin (IsInRange start (start + 64)) old.image)

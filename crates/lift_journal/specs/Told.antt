@@ -21,7 +21,8 @@ pub record LastFails (old new : DiskState) : Type 0 where
   pub short : old.is_short ≡ true → new.is_short ≡ true
 
 -- a run that stops at the first call that fails
-pub record StopsAsTold {T E : Type 0} (result : Result T E) (old new : DiskState) : Type 0 where
+pub record EndsAtFirstFailure {T E : Type 0} (result : Result T E) (old new : DiskState)
+    : Type 0 where
   pub ok : OnOk result (NoneFails old new)
   pub err : OnErr result (LastFails old new)
 

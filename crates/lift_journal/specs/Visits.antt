@@ -10,7 +10,7 @@ use Rattle.lift_journal.specs.declared.fault.JournalFault.TheVariants.{Disk, Not
 use Rattle.lift_journal.specs.declared.fault.JournalFault.TheVariants.{Full, Broken}
 use Rattle.lift_journal.specs.Layout.{Batch, size_of, used, start_of, IsStamped}
 use Rattle.lift_journal.specs.Walk.{IsSoundFront, IsBatchAt, Reaches}
-use Rattle.lift_journal.specs.Calls.{reads_from, StopsIn}
+use Rattle.lift_journal.specs.Calls.{reads_from, MakesFront}
 
 -- Each of these batches has made of the visitor what its records may make of it, in this order.
 abbrev pub TakesAll : {V : Type 0} → (V → List Record → V → Type 0) → V → List Batch → V → Type 0
@@ -69,7 +69,7 @@ TakesInHalf takes fault was is old new = was.is_honest → (shape : Shape) × Is
 abbrev pub ShownBefore : {V : Type 0} → (V → List Record → V → Type 0) → JournalFault → DiskState
     → DiskState → V → V → Type 0
 ShownBefore takes Disk was is old new =
-    StopsIn (Sync ∷ Read 1 ∷ Read 0 ∷ []) was is × (new ≡ old)
+    MakesFront (Sync ∷ Read 1 ∷ Read 0 ∷ []) was is × (new ≡ old)
     ⊎ TakesInHalf takes Disk was is old new
 ShownBefore takes NotFormatted was is old new = new ≡ old
 ShownBefore takes (Damaged sector) was is old new =

@@ -10,9 +10,10 @@ ghost use Rattle.lift_journal.specs.Steps.{Makes, overwritten, IsInRange, IsSync
 ghost use Rattle.lift_journal.specs.Steps.{unmarked};
 ghost use Rattle.lift_journal.specs.Walk.{Reaches};
 ghost use Rattle.lift_journal.specs.Checkpoint.{batch_count, checkpoint_of, sectors_for};
-ghost use Rattle.lift_journal.specs.Switch.{IsOtherHalf, HasWritten, StopsSwitch, StopsWriting};
-ghost use Rattle.lift_journal.specs.Stops.{Misses};
-ghost use Rattle.lift_journal.specs.Told.{StopsAsTold};
+ghost use Rattle.lift_journal.specs.Switch.{IsOtherHalf, HasWritten, IsFailedSwitch};
+ghost use Rattle.lift_journal.specs.Switch.{IsFailedWriting};
+ghost use Rattle.lift_journal.specs.Failed.{Misses};
+ghost use Rattle.lift_journal.specs.Told.{EndsAtFirstFailure};
 ghost use Rattle.lift_disk.specs.Trace.Access.{Write};
 ghost use Rattle.lift_journal.specs.Calls.{Follows, Performs, writes_from, puts, draft_calls};
 ghost use Rattle.lift_journal.specs.Calls.{checkpoint_calls};
@@ -80,7 +81,7 @@ fn write_open_batch<D: Disk>(disk: &mut D, gate: u32, body: &[[u8; 512]]) -> Res
     ensures cause { HasCause result (D.state disk.old) (D.state disk.new) }
     ensures follows { Follows result (writes_from (gate + 1) body.now ++ Write gate marked ∷ [])
         (D.state disk.old) (D.state disk.new) }
-    ensures told { StopsAsTold result (D.state disk.old) (D.state disk.new) }
+    ensures told { EndsAtFirstFailure result (D.state disk.old) (D.state disk.new) }
     ensures touched { (low high : ℕ) → low ≤ gate → gate + 1 + length body.now ≤ high
         → LooseWithin (IsInRange low high) (D.state disk.old)
         → TouchesOnly (IsInRange low high) (D.state disk.old) (D.state disk.new) }
@@ -161,10 +162,10 @@ fn switch_half<D: Disk>(disk: &mut D, gate: u32, pick: &[u8; 512]) -> Result<(),
     ensures picked { OnOk result ((D.state disk.old).is_honest → (D.state disk.old).is_steady
         → IsSyncedAt (slice_set (slice_set (D.state disk.old).image gate unmarked) 0 pick.now)
         (D.state disk.new)) }
-    ensures stops { OnErr result ((low high : ℕ) → low ≤ gate → gate < high
+    ensures fails { OnErr result ((low high : ℕ) → low ≤ gate → gate < high
         → LooseWithin (IsInRange low high) (D.state disk.old)
         → (D.state disk.old).is_honest → (D.state disk.old).is_inert → (D.state disk.old).is_steady
-        → StopsSwitch low high gate pick.now (D.state disk.old) (D.state disk.new)) }
+        → IsFailedSwitch low high gate pick.now (D.state disk.old) (D.state disk.new)) }
 {
     put_sector(disk, gate, &[0; 512])?;
     put_sector(disk, 0, pick)
@@ -202,9 +203,9 @@ pub fn write_checkpoint<D: Disk>(
         → (D.state disk.old).is_honest → IsSynced (D.state disk.old)
         → HasWritten start end (checkpoint_of (base_records register.now)) (D.state disk.old).image
         (D.state disk.new).image) }
-    ensures stops { OnErr result ((end : ℕ) → start + 64 ≤ end → end ≤ (D.state disk.old).size
+    ensures fails { OnErr result ((end : ℕ) → start + 64 ≤ end → end ≤ (D.state disk.old).size
         → (D.state disk.old).is_honest → (D.state disk.old).is_inert → IsSynced (D.state disk.old)
-        → StopsWriting start end (checkpoint_of (base_records register.now))
+        → IsFailedWriting start end (checkpoint_of (base_records register.now))
         (sectors_for (length (base_records register.now))) pick.now (D.state disk.old)
         (D.state disk.new)) }
 {

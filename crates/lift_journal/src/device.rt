@@ -5,7 +5,7 @@ ghost use Rattle.lift_disk.specs.Disk.{LooseWithin, TouchesOnly, IsSteadyAt, Lea
 ghost use Rattle.lift_journal.specs.Layout.{Batch, Holds, start_of};
 ghost use Rattle.lift_journal.specs.Steps.{overwritten, IsInRange, marked, unmarked};
 ghost use Rattle.lift_journal.specs.Steps.{IsReady, HoldsSafely, IsSyncedAt};
-ghost use Rattle.lift_journal.specs.Stops.{Misses, StopsAppend};
+ghost use Rattle.lift_journal.specs.Failed.{Misses, IsFailedAppend};
 ghost use Rattle.lift_disk.specs.Trace.Access.{Write, Sync};
 ghost use Rattle.lift_journal.specs.Calls.{Performs, writes_from, puts, append_calls};
 ghost use Rattle.lift_base.specs.declared.history.Shape.{Shape};
@@ -103,10 +103,11 @@ pub fn write_batch<D: Disk>(disk: &mut D, gate: u32, body: &[[u8; 512]]) -> Resu
         → IsReady shape batches batch gate body.now (D.state disk.old)
         → HoldsSafely shape (batches ++ batch ∷ []) (start_of shape.half (D.state disk.old).image)
         (D.state disk.new)) }
-    ensures stops { OnErr result ((shape : Shape) (batches : List Batch) (batch : Batch)
+    ensures fails { OnErr result ((shape : Shape) (batches : List Batch) (batch : Batch)
         → (D.state disk.old).is_honest → (D.state disk.old).is_inert
         → IsReady shape batches batch gate body.now (D.state disk.old)
-        → StopsAppend shape batches batch (length body.now) (D.state disk.old) (D.state disk.new)) }
+        → IsFailedAppend shape batches batch (length body.now) (D.state disk.old)
+        (D.state disk.new)) }
 {
     store_behind(disk, gate, body)?;
     open_gate(disk, gate)

@@ -10,7 +10,7 @@ ghost use Rattle.lift_journal.specs.Checkpoint.{batch_count, checkpoint_of, sect
 ghost use Rattle.lift_journal.specs.Layout.{body_size, Batch, new_batch, Holds};
 ghost use Rattle.lift_journal.specs.Order.{IsEntry};
 ghost use Rattle.lift_journal.specs.Steps.{ReadsOnly, IsSyncedAt};
-ghost use Rattle.lift_journal.specs.Stops.{StopsAppend, StopsCheckpoint};
+ghost use Rattle.lift_journal.specs.Failed.{IsFailedAppend, IsFailedCheckpoint};
 ghost use Rattle.lift_journal.specs.Calls.{half_start, append_calls, batch_body, pick_of};
 ghost use Rattle.lift_journal.specs.Calls.{checkpoint_calls, CallsDevice};
 ghost use Rattle.lift_journal.specs.Fronts.{IsOfCursor};
@@ -40,7 +40,7 @@ pub struct Journal<D: Disk> {
     place: Place,
     is_broken: bool,
     /// The device when it was last opened.
-    opened: Snapshot<D>,
+    at_opening: Snapshot<D>,
 }
 
 impl<D: Disk> Model for Journal<D> {
@@ -48,10 +48,11 @@ impl<D: Disk> Model for Journal<D> {
 
     ghost Value = { JournalView D };
 
-    ghost view = { λ j. view_from j.device j.place j.is_broken (D.state j.opened.value).failures };
+    ghost view = { λ j. view_from j.device j.place j.is_broken
+        (D.state j.at_opening.value).failures };
 
     ghost invariant = { λ j.
-        IsJournal j.place j.is_broken (D.state j.opened.value).failures (D.state j.device) };
+        IsJournal j.place j.is_broken (D.state j.at_opening.value).failures (D.state j.device) };
 }
 
 /// A place in the list of batches, for [`Journal::next`].
@@ -80,7 +81,7 @@ impl Model for Cursor {
 pub struct FormerPlace<D: Disk> {
     place: Place,
     is_broken: bool,
-    opened: Snapshot<D>,
+    at_opening: Snapshot<D>,
     device: Snapshot<D>,
 }
 
@@ -90,10 +91,11 @@ impl<D: Disk> Model for FormerPlace<D> {
     ghost Value = { JournalView D };
 
     ghost view = { λ f.
-        view_from f.device.value f.place f.is_broken (D.state f.opened.value).failures };
+        view_from f.device.value f.place f.is_broken (D.state f.at_opening.value).failures };
 
     ghost invariant = { λ f.
-        IsJournal f.place f.is_broken (D.state f.opened.value).failures (D.state f.device.value) };
+        IsJournal f.place f.is_broken (D.state f.at_opening.value).failures
+        (D.state f.device.value) };
 }
 
 impl<D: Disk> Journal<D> {
@@ -156,12 +158,12 @@ impl<D: Disk> Journal<D> {
         let mut device = disk;
         match find_place(&mut device, visitor) {
             Ok(place) => {
-                let opened = Snapshot::of(&device);
+                let at_opening = Snapshot::of(&device);
                 Ok(Journal {
                     device,
                     place,
                     is_broken: false,
-                    opened,
+                    at_opening,
                 })
             }
             Err(fault) => Err((device, fault)),
@@ -176,10 +178,10 @@ impl<D: Disk> Journal<D> {
         requires entries { All IsEntry batch.now.items }
         // It becomes the batches from before and this one, in the same half.
         ensures becomes { self.old.is_broken ≡ false → (D.state self.old.device).is_honest
-            → Becomes D.state self.old self.old.is_second
+            → Becomes D.state self.old self.old.is_in_second_half
             (λ batches. batches ++ new_batch batch.now.items ∷ []) self.new result }
         // At Ok the next batch goes after this one, else where this one would have gone.
-        ensures goes { MovesOnOk self.old self.old.is_second
+        ensures goes { MovesOnOk self.old self.old.is_in_second_half
             (self.old.used + body_size (length batch.now.items) + 1) (self.old.number + 1) self.new
             result }
         // A call of the device that fails breaks it; a broken journal makes none and stays as it
@@ -189,15 +191,16 @@ impl<D: Disk> Journal<D> {
         ensures refuses { RefusesForRoom self.old (length batch.now.items) self.new result }
         // The body and the next gate, a sync, the gate, a sync.
         ensures calls { CallsDevice result
-            (append_calls (half_start self.old.is_second self.old.shape.half + self.old.used)
+            (append_calls
+            (half_start self.old.is_in_second_half self.old.shape.half + self.old.used)
             (batch_body self.old.number (new_batch batch.now.items)))
             (body_size (length batch.now.items) + 4) (body_size (length batch.now.items) + 2)
             (D.state self.old.device) (D.state self.new.device) }
-        // Where it stopped says what a cut leaves.
-        ensures stops { IsErrOf result JournalFault.Disk → (D.state self.old.device).is_honest
+        // Where it failed says what a cut leaves.
+        ensures fails { IsErrOf result JournalFault.Disk → (D.state self.old.device).is_honest
             → (D.state self.old.device).is_inert → (batches : List Batch)
             → LeavesNow (D.state self.old.device) (Holds self.old.shape batches)
-            → StopsAppend self.old.shape batches (new_batch batch.now.items)
+            → IsFailedAppend self.old.shape batches (new_batch batch.now.items)
             (body_size (length batch.now.items)) (D.state self.old.device)
             (D.state self.new.device) }
     {
@@ -226,9 +229,9 @@ impl<D: Disk> Journal<D> {
     pub fn replace(&mut self, register: &Register) -> Result<(), JournalFault>
         // It becomes the checkpoint alone, in the other half.
         ensures becomes { self.old.is_broken ≡ false → (D.state self.old.device).is_honest
-            → Becomes D.state self.old (not self.old.is_second)
+            → Becomes D.state self.old (not self.old.is_in_second_half)
             (λ _. checkpoint_of (base_records register.now)) self.new result }
-        ensures goes { MovesOnOk self.old (not self.old.is_second)
+        ensures goes { MovesOnOk self.old (not self.old.is_in_second_half)
             (sectors_for (length (base_records register.now)))
             (batch_count (length (base_records register.now)) + 1) self.new result }
         // After a checkpoint any batch has room.
@@ -239,16 +242,16 @@ impl<D: Disk> Journal<D> {
             ⊎ (fault ≡ JournalFault.Broken)) }
         // In that half each batch and its gate, a closed gate, a sync, the pick, a sync.
         ensures calls { CallsDevice result
-            (checkpoint_calls (half_start (not self.old.is_second) self.old.shape.half)
-            (pick_of (not self.old.is_second)) (checkpoint_of (base_records register.now)))
+            (checkpoint_calls (half_start (not self.old.is_in_second_half) self.old.shape.half)
+            (pick_of (not self.old.is_in_second_half)) (checkpoint_of (base_records register.now)))
             (sectors_for (length (base_records register.now)) + 4)
             (sectors_for (length (base_records register.now)) + 2) (D.state self.old.device)
             (D.state self.new.device) }
-        // Where it stopped says which half a cut leaves picked.
-        ensures stops { IsErrOf result JournalFault.Disk → (D.state self.old.device).is_honest
+        // Where it failed says which half a cut leaves picked.
+        ensures fails { IsErrOf result JournalFault.Disk → (D.state self.old.device).is_honest
             → (D.state self.old.device).is_inert → (batches : List Batch)
             → LeavesNow (D.state self.old.device) (Holds self.old.shape batches)
-            → StopsCheckpoint self.old.shape self.old.is_second batches
+            → IsFailedCheckpoint self.old.shape self.old.is_in_second_half batches
             (checkpoint_of (base_records register.now))
             (sectors_for (length (base_records register.now)))
             (D.state self.old.device) (D.state self.new.device) }
@@ -362,7 +365,7 @@ impl<D: Disk> Journal<D> {
                 let former = FormerPlace {
                     place: self.place,
                     is_broken: self.is_broken,
-                    opened: replace(&mut self.opened, Snapshot::of(&self.device)),
+                    at_opening: replace(&mut self.at_opening, Snapshot::of(&self.device)),
                     device,
                 };
                 self.place = place;
@@ -388,15 +391,15 @@ impl<D: Disk> Journal<D> {
             → (D.state former.device).failures < (D.state self.old.device).failures }
         ensures device { self.new.device ≡ self.old.device }
         ensures same { (self.new.shape ≡ former.shape) × (self.new.used ≡ former.used)
-            × (self.new.opened ≡ former.opened) }
-        ensures second { self.new.is_second ≡ former.is_second }
+            × (self.new.failures_at_opening ≡ former.failures_at_opening) }
+        ensures second { self.new.is_in_second_half ≡ former.is_in_second_half }
         ensures number { self.new.number ≡ former.number }
         ensures breaks { self.old.is_broken ≡ true → self.new.is_broken ≡ true }
         ensures stays { self.old.is_broken ≡ false → self.new.is_broken ≡ former.is_broken }
     {
         self.place = former.place;
         self.is_broken = self.is_broken || former.is_broken;
-        self.opened = former.opened;
+        self.at_opening = former.at_opening;
     }
 }
 
@@ -409,8 +412,9 @@ impl<D: Arm> Journal<D> {
         ensures told { IsArmedWith (D.fails_by calls (D.state self.old.device).calls)
             (D.state self.new.device) }
         ensures rest { (self.new.shape ≡ self.old.shape) × (self.new.used ≡ self.old.used)
-            × (self.new.opened ≡ self.old.opened) × (self.new.is_broken ≡ self.old.is_broken) }
-        ensures second { self.new.is_second ≡ self.old.is_second }
+            × (self.new.failures_at_opening ≡ self.old.failures_at_opening)
+            × (self.new.is_broken ≡ self.old.is_broken) }
+        ensures second { self.new.is_in_second_half ≡ self.old.is_in_second_half }
         ensures number { self.new.number ≡ self.old.number }
     {
         self.device.arm(calls);

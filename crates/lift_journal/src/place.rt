@@ -17,7 +17,7 @@ ghost use Rattle.lift_journal.specs.Calls.{reads_from};
 ghost use Rattle.lift_journal.specs.Behind.{StampBehind, EndsInHalf, RefusedBehind};
 
 use crate::fault::JournalFault;
-use crate::reads::{read_mark, read_sector, settle};
+use crate::reads::{read_mark, read_sector, sync_device};
 use crate::stamp::read_stamp;
 use crate::visitor::Visitor;
 use crate::walk::walk;
@@ -36,7 +36,7 @@ pub struct Place {
     pub number: u32,
 }
 
-/// The shape of a settled device.
+/// The shape of a synced device.
 fn read_shape<D: Disk>(disk: &mut D) -> Result<Shape, JournalFault>
     ensures examines { Examines result (D.state disk.old) (D.state disk.new) }
     ensures causes { IfErr result (λ fault. IsOfStamp fault) }
@@ -64,7 +64,7 @@ fn read_shape<D: Disk>(disk: &mut D) -> Result<Shape, JournalFault>
     }
 }
 
-/// The place of a settled device of this shape. Each batch is shown to the visitor.
+/// The place of a synced device of this shape. Each batch is shown to the visitor.
 fn place_of<D: Disk, V: Visitor>(
     disk: &mut D,
     shape: Shape,
@@ -104,10 +104,10 @@ fn place_of<D: Disk, V: Visitor>(
         (start_of shape.half (D.state disk.old).image + shape.half) (D.state disk.old).image
         (D.state disk.old) (D.state disk.new) visitor.old visitor.new)) }
 {
-    let Ok(is_second) = read_mark(disk, 0) else {
+    let Ok(is_in_second_half) = read_mark(disk, 0) else {
         return Err(JournalFault::Disk);
     };
-    let start = if is_second { shape.half + 2 } else { 2 };
+    let start = if is_in_second_half { shape.half + 2 } else { 2 };
     match walk(disk, start, start + shape.half, visitor) {
         Ok(front) => Ok(Place {
             shape,
@@ -119,7 +119,7 @@ fn place_of<D: Disk, V: Visitor>(
     }
 }
 
-/// Settles a device and finds its place. Each batch before it is shown to the visitor.
+/// Syncs a device and finds its place. Each batch before it is shown to the visitor.
 pub fn find_place<D: Disk, V: Visitor>(disk: &mut D, visitor: &mut V) -> Result<Place, JournalFault>
     ensures examines { Examines result (D.state disk.old) (D.state disk.new) }
     ensures finds { IfOk result (λ place. FindsPlace place (D.state disk.old) (D.state disk.new)) }
@@ -136,7 +136,7 @@ pub fn find_place<D: Disk, V: Visitor>(disk: &mut D, visitor: &mut V) -> Result<
     ensures shown_before { IfErr result (λ fault. ShownBefore V.takes fault
         (D.state disk.old) (D.state disk.new) visitor.old visitor.new) }
 {
-    if settle(disk).is_err() {
+    if sync_device(disk).is_err() {
         return Err(JournalFault::Disk);
     }
     let shape = match read_shape(disk) {

@@ -27,7 +27,7 @@ pub enum AtGate {
 }
 
 /// Begins an opening: from here on a crash leaves what is read.
-pub fn settle<D: Disk>(disk: &mut D) -> Result<(), DiskFault>
+pub fn sync_device<D: Disk>(disk: &mut D) -> Result<(), DiskFault>
     ensures looks { Looks result (D.state disk.old) (D.state disk.new) }
     ensures synced { OnOk result ((D.state disk.old).is_honest → IsSynced (D.state disk.new)) }
     ensures recorded { Records result Sync (D.state disk.old).trace (D.state disk.new).trace }
@@ -35,7 +35,7 @@ pub fn settle<D: Disk>(disk: &mut D) -> Result<(), DiskFault>
     disk.sync()
 }
 
-/// Reads a sector of a settled device.
+/// Reads a sector of a synced device.
 pub fn read_sector<D: Disk>(disk: &mut D, sector: u32) -> Result<[u8; 512], DiskFault>
     requires { sector < (D.state disk.old).size }
     ensures looks { Looks result (D.state disk.old) (D.state disk.new) }

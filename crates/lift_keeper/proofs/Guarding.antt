@@ -29,14 +29,14 @@ use Rattle.lift_journal.specs.lemmas.Telling.{passes_then, fault_then}
 use Rattle.lift_journal.specs.Checkpoint.{sectors_for}
 use Rattle.lift_journal.specs.Layout.{Batch, new_batch, records_of, size_of, body_size, used, Holds, HoldsIn, Picks}
 use Rattle.lift_journal.specs.Order.{IsEntry, IsOfBase}
-use Rattle.lift_journal.specs.Stops.{StopsAppend, StopsCheckpoint}
+use Rattle.lift_journal.specs.Failed.{IsFailedAppend, IsFailedCheckpoint}
 use Rattle.lift_keeper.specs.Images.{IsImageOf, IsImageIn, IsInDoubt}
 use Rattle.lift_keeper.specs.Recovery.{entries_of, IsRegisterOf}
-use Rattle.lift_keeper.specs.Writer.{Keeps, Guards, StopsFolding, StopsAdding, StopsCommit, room_call_count, room_used, room_second}
+use Rattle.lift_keeper.specs.Writer.{Keeps, Guards, FailsInCheckpoint, FailsInAppend, IsFailedCommit, room_call_count, room_used, room_second}
 
 -- the register in the other half, as a checkpoint alone
 abbrev IsFolded : Plan → ℕ → Bool → RegisterState → Image → Type 0
-IsFolded plan half is_second register image = IsImageIn plan half (not is_second) (sectors_for (length (base_records register))) register image
+IsFolded plan half is_in_second_half register image = IsImageIn plan half (not is_in_second_half) (sectors_for (length (base_records register))) register image
 
 -- clauses of an answer, weakened together
 pub ok_five : {T E : Type 0} (r : Result T E) (P Q S U V R : Type 0) → (P → Q → S → U → V → R) → OnOk r P → OnOk r Q → OnOk r S → OnOk r U → OnOk r V → OnOk r R
@@ -76,19 +76,19 @@ image_from plan shape register base entries image of_building is reads = record 
   is = is;
 }
 
-pub keeps_image : (plan : Plan) (shape : Shape) (is_second : Bool) (taken : ℕ) (register : RegisterState) (disk : DiskState) → disk.is_honest → Keeps plan shape is_second taken register disk
+pub keeps_image : (plan : Plan) (shape : Shape) (is_in_second_half : Bool) (taken : ℕ) (register : RegisterState) (disk : DiskState) → disk.is_honest → Keeps plan shape is_in_second_half taken register disk
     → (left : Image) → MayLeave disk left → IsImageOf plan register left
-keeps_image plan shape is_second taken register disk honest keeps left leaves =
+keeps_image plan shape is_in_second_half taken register disk honest keeps left leaves =
     image_from plan shape register keeps.base keeps.entries left keeps.of_building keeps.is (keeps.stands honest left leaves)
 
-pub keeps_safe : (plan : Plan) (shape : Shape) (is_second : Bool) (taken : ℕ) (register : RegisterState) (disk : DiskState) → (disk.is_honest → Keeps plan shape is_second taken register disk) → LeavesNow disk (IsImageOf plan register)
-keeps_safe plan shape is_second taken register disk keeps honest left leaves = keeps_image plan shape is_second taken register disk honest (keeps honest) left leaves
+pub keeps_safe : (plan : Plan) (shape : Shape) (is_in_second_half : Bool) (taken : ℕ) (register : RegisterState) (disk : DiskState) → (disk.is_honest → Keeps plan shape is_in_second_half taken register disk) → LeavesNow disk (IsImageOf plan register)
+keeps_safe plan shape is_in_second_half taken register disk keeps honest left leaves = keeps_image plan shape is_in_second_half taken register disk honest (keeps honest) left leaves
 
 -- an image that holds these batches in this half
-pub image_in : (plan : Plan) (shape : Shape) (is_second : Bool) (taken : ℕ) (register : RegisterState) (batches : List Batch) (base entries : List Record) (image : Image) → shape ≡ shape_of plan shape.half
-    → Holds shape batches image → records_of batches ≡ base ++ entries → All IsOfBase base → All IsEntry entries → IsRegisterOf plan base entries register → Picks is_second image → taken ≡ used batches
-    → IsImageIn plan shape.half is_second taken register image
-image_in plan shape is_second taken register batches base entries image of_building holds joined is_base are_entries is picks counts = record {
+pub image_in : (plan : Plan) (shape : Shape) (is_in_second_half : Bool) (taken : ℕ) (register : RegisterState) (batches : List Batch) (base entries : List Record) (image : Image) → shape ≡ shape_of plan shape.half
+    → Holds shape batches image → records_of batches ≡ base ++ entries → All IsOfBase base → All IsEntry entries → IsRegisterOf plan base entries register → Picks is_in_second_half image → taken ≡ used batches
+    → IsImageIn plan shape.half is_in_second_half taken register image
+image_in plan shape is_in_second_half taken register batches base entries image of_building holds joined is_base are_entries is picks counts = record {
   base = base;
   entries = entries;
   reads = record { batches = batches; holds = subst (λ (s : Shape). Holds s batches image) of_building holds; joined = joined; is_base = is_base; are_entries = are_entries };
@@ -98,20 +98,20 @@ image_in plan shape is_second taken register batches base entries image of_build
 }
 
 -- it reads as the register
-pub image_of : (plan : Plan) (half : ℕ) (is_second : Bool) (taken : ℕ) (register : RegisterState) (image : Image) → IsImageIn plan half is_second taken register image → IsImageOf plan register image
-image_of plan half is_second taken register image is = record { half = half; base = is.base; entries = is.entries; reads = is.reads; is = is.is }
+pub image_of : (plan : Plan) (half : ℕ) (is_in_second_half : Bool) (taken : ℕ) (register : RegisterState) (image : Image) → IsImageIn plan half is_in_second_half taken register image → IsImageOf plan register image
+image_of plan half is_in_second_half taken register image is = record { half = half; base = is.base; entries = is.entries; reads = is.reads; is = is.is }
 
 -- the records of what is kept
-keeps_reads : (plan : Plan) (shape : Shape) (is_second : Bool) (taken : ℕ) (register : RegisterState) (disk : DiskState) (keeps : Keeps plan shape is_second taken register disk) → disk.is_honest
+keeps_reads : (plan : Plan) (shape : Shape) (is_in_second_half : Bool) (taken : ℕ) (register : RegisterState) (disk : DiskState) (keeps : Keeps plan shape is_in_second_half taken register disk) → disk.is_honest
     → ReadsAs shape keeps.base keeps.entries disk.image
-keeps_reads plan shape is_second taken register disk keeps honest = keeps.stands honest disk.image (changes_nothing disk.is_loose disk.image)
+keeps_reads plan shape is_in_second_half taken register disk keeps honest = keeps.stands honest disk.image (changes_nothing disk.is_loose disk.image)
 
-pub keeps_placed : (plan : Plan) (shape : Shape) (is_second : Bool) (taken : ℕ) (register : RegisterState) (disk : DiskState) → (disk.is_honest → Keeps plan shape is_second taken register disk)
-    → LeavesNow disk (IsImageIn plan shape.half is_second taken register)
-keeps_placed plan shape is_second taken register disk keeps honest left leaves =
+pub keeps_placed : (plan : Plan) (shape : Shape) (is_in_second_half : Bool) (taken : ℕ) (register : RegisterState) (disk : DiskState) → (disk.is_honest → Keeps plan shape is_in_second_half taken register disk)
+    → LeavesNow disk (IsImageIn plan shape.half is_in_second_half taken register)
+keeps_placed plan shape is_in_second_half taken register disk keeps honest left leaves =
     let kept = keeps honest in
-    let reads = keeps_reads plan shape is_second taken register disk kept honest in
-    image_in plan shape is_second taken register kept.batches kept.base kept.entries left kept.of_building (kept.holds honest left leaves) kept.joined reads.is_base reads.are_entries kept.is
+    let reads = keeps_reads plan shape is_in_second_half taken register disk kept honest in
+    image_in plan shape is_in_second_half taken register kept.batches kept.base kept.entries left kept.of_building (kept.holds honest left leaves) kept.joined reads.is_base reads.are_entries kept.is
     (kept.picks honest left leaves) kept.counts
 
 -- what all moments leave is left now
@@ -204,9 +204,9 @@ used_push : (batches : List Batch) (batch : Batch) → used (batches ++ batch �
 used_push [] batch = omega arith
 used_push (first ∷ batches) batch = omega (arith, used_push batches batch)
 
-module _ (plan : Plan) (shape : Shape) (is_second : Bool) (taken : ℕ) (register : RegisterState) (old : DiskState) (guards : Guards plan shape is_second taken register old) where
+module _ (plan : Plan) (shape : Shape) (is_in_second_half : Bool) (taken : ℕ) (register : RegisterState) (old : DiskState) (guards : Guards plan shape is_in_second_half taken register old) where
   pub guarded : LeavesNow old (IsImageOf plan register)
-  guarded = keeps_safe plan shape is_second taken register old guards.keeps
+  guarded = keeps_safe plan shape is_in_second_half taken register old guards.keeps
 
   checkpoint_is : IsRegisterOf plan (base_records register) [] register
   checkpoint_is = base_alone plan register guards.lawful guards.belongs guards.balanced
@@ -245,38 +245,38 @@ module _ (plan : Plan) (shape : Shape) (is_second : Bool) (taken : ℕ) (registe
       }
 
   -- an image of the old batches, in this half
-  old_in : (honest : old.is_honest) (left : Image) → HoldsIn shape is_second (guards.keeps honest).batches left → IsImageIn plan shape.half is_second taken register left
+  old_in : (honest : old.is_honest) (left : Image) → HoldsIn shape is_in_second_half (guards.keeps honest).batches left → IsImageIn plan shape.half is_in_second_half taken register left
   old_in honest left held =
       let keeps = guards.keeps honest in
-      let reads = keeps_reads plan shape is_second taken register old keeps honest in
-      image_in plan shape is_second taken register keeps.batches keeps.base keeps.entries left keeps.of_building held.holds keeps.joined reads.is_base reads.are_entries keeps.is held.picks keeps.counts
+      let reads = keeps_reads plan shape is_in_second_half taken register old keeps honest in
+      image_in plan shape is_in_second_half taken register keeps.batches keeps.base keeps.entries left keeps.of_building held.holds keeps.joined reads.is_base reads.are_entries keeps.is held.picks keeps.counts
 
   -- a checkpoint that failed
   module _ (new : DiskState) (checkpoint : List Batch) (honest : old.is_honest) (joined : records_of checkpoint ≡ base_records register)
       (counted : used checkpoint ≡ sectors_for (length (base_records register))) where
-    folded_in : (left : Image) → HoldsIn shape (not is_second) checkpoint left → IsFolded plan shape.half is_second register left
+    folded_in : (left : Image) → HoldsIn shape (not is_in_second_half) checkpoint left → IsFolded plan shape.half is_in_second_half register left
     folded_in left held =
-        image_in plan shape (not is_second) (sectors_for (length (base_records register))) register checkpoint (base_records register) [] left (guards.keeps honest).of_building held.holds
+        image_in plan shape (not is_in_second_half) (sectors_for (length (base_records register))) register checkpoint (base_records register) [] left (guards.keeps honest).of_building held.holds
         (joined ∙ sym (append-nil (base_records register))) checkpoint_parts (All-nil IsEntry) checkpoint_is held.picks (sym counted)
 
-    pub replace_stops : StopsCheckpoint shape is_second (guards.keeps honest).batches checkpoint (sectors_for (length (base_records register))) old new
-        → StopsFolding plan shape.half is_second taken register old new
-    replace_stops stops = record {
+    pub replace_fails : IsFailedCheckpoint shape is_in_second_half (guards.keeps honest).batches checkpoint (sectors_for (length (base_records register))) old new
+        → FailsInCheckpoint plan shape.half is_in_second_half taken register old new
+    replace_fails stops = record {
       early = λ few honest_new left leaves. old_in honest left (stops.early few honest_new left leaves);
       keeps_old = λ calls. old_in honest new.image ((stops.late (omega (arith, calls))).keeps_old calls);
       keeps_new = λ calls. folded_in new.image ((stops.late (omega (arith, calls))).keeps_new calls);
       loses = λ many. old_in honest new.synced ((stops.late many).loses);
-      fills_mark = λ many left filled. by_mark is_second refl left ((stops.late many).fills_second left filled);
-      fills_other = λ many byte left other filled. by_other is_second refl left ((stops.late many).fills_first byte left other filled);
+      fills_mark = λ many left filled. by_mark is_in_second_half refl left ((stops.late many).fills_second left filled);
+      fills_other = λ many byte left other filled. by_other is_in_second_half refl left ((stops.late many).fills_first byte left other filled);
     }
       where
-        by_mark : (b : Bool) → b ≡ is_second → (left : Image) → HoldsIn shape true (cond b (guards.keeps honest).batches checkpoint) left
-            → MatchBool b (IsImageIn plan shape.half is_second taken register left) (IsFolded plan shape.half is_second register left)
+        by_mark : (b : Bool) → b ≡ is_in_second_half → (left : Image) → HoldsIn shape true (cond b (guards.keeps honest).batches checkpoint) left
+            → MatchBool b (IsImageIn plan shape.half is_in_second_half taken register left) (IsFolded plan shape.half is_in_second_half register left)
         by_mark true is left held = old_in honest left (subst (λ (b : Bool). HoldsIn shape b (guards.keeps honest).batches left) is held)
         by_mark false is left held = folded_in left (subst (λ (b : Bool). HoldsIn shape (not b) checkpoint left) is held)
 
-        by_other : (b : Bool) → b ≡ is_second → (left : Image) → HoldsIn shape false (cond b checkpoint (guards.keeps honest).batches) left
-            → MatchBool b (IsFolded plan shape.half is_second register left) (IsImageIn plan shape.half is_second taken register left)
+        by_other : (b : Bool) → b ≡ is_in_second_half → (left : Image) → HoldsIn shape false (cond b checkpoint (guards.keeps honest).batches) left
+            → MatchBool b (IsFolded plan shape.half is_in_second_half register left) (IsImageIn plan shape.half is_in_second_half taken register left)
         by_other true is left held = folded_in left (subst (λ (b : Bool). HoldsIn shape (not b) checkpoint left) is held)
         by_other false is left held = old_in honest left (subst (λ (b : Bool). HoldsIn shape b (guards.keeps honest).batches left) is held)
 
@@ -297,7 +297,7 @@ module _ (plan : Plan) (shape : Shape) (is_second : Bool) (taken : ℕ) (registe
     pub append_keeps : (new : DiskState) (after : Shape) (second : Bool) (count : ℕ) → (new.is_honest ↔ old.is_honest) → after ≡ shape
         → ((base entries : List Record) → StandsFor shape base entries old → StandsFor after base (entries ++ records) new)
         → ((batches : List Batch) → LeavesNow old (Holds shape batches) → LeavesNow new (Holds after (batches ++ new_batch records ∷ [])))
-        → second ≡ is_second → LeavesNow new (Picks is_second) → count ≡ taken + body_size (length records) + 1
+        → second ≡ is_in_second_half → LeavesNow new (Picks is_in_second_half) → count ≡ taken + body_size (length records) + 1
         → new.is_honest → Keeps plan after second count (register_of register batch) new
     append_keeps new after second count same is stands holds half picks counts honest_new =
         let keeps = guards.keeps (same.0 honest_new) in
@@ -315,30 +315,30 @@ module _ (plan : Plan) (shape : Shape) (is_second : Bool) (taken : ℕ) (registe
         }
 
     -- an append that failed
-    module _ (new : DiskState) (honest : old.is_honest) (honest_new : new.is_honest) (are : All IsEntry records) (picks : LeavesNow new (Picks is_second)) (may_lose : MayLose new)
-        (stops : StopsAppend shape (guards.keeps honest).batches (new_batch records) (body_size (length records)) old new) where
-      pick_at : (left : Image) → MayLeave new left → Picks is_second left
+    module _ (new : DiskState) (honest : old.is_honest) (honest_new : new.is_honest) (are : All IsEntry records) (picks : LeavesNow new (Picks is_in_second_half)) (may_lose : MayLose new)
+        (stops : IsFailedAppend shape (guards.keeps honest).batches (new_batch records) (body_size (length records)) old new) where
+      pick_at : (left : Image) → MayLeave new left → Picks is_in_second_half left
       pick_at left leaves = picks honest_new left leaves
 
       long : length records ≡ length batch
       long = ap length kept ∙ length-map batch EntryRecord
 
-      before_in : (left : Image) → MayLeave new left → Holds shape (guards.keeps honest).batches left → IsImageIn plan shape.half is_second taken register left
+      before_in : (left : Image) → MayLeave new left → Holds shape (guards.keeps honest).batches left → IsImageIn plan shape.half is_in_second_half taken register left
       before_in left leaves holds = old_in honest left (record { holds = holds; picks = pick_at left leaves })
 
       added_in : (left : Image) → MayLeave new left → Holds shape ((guards.keeps honest).batches ++ new_batch records ∷ []) left
-          → IsImageIn plan shape.half is_second (taken + (body_size (length batch) + 1)) (register_of register batch) left
+          → IsImageIn plan shape.half is_in_second_half (taken + (body_size (length batch) + 1)) (register_of register batch) left
       added_in left leaves holds =
           let keeps = guards.keeps honest in
-          let reads = keeps_reads plan shape is_second taken register old keeps honest in
-          image_in plan shape is_second (taken + (body_size (length batch) + 1)) (register_of register batch) (keeps.batches ++ new_batch records ∷ []) keeps.base (keeps.entries ++ records) left keeps.of_building holds
+          let reads = keeps_reads plan shape is_in_second_half taken register old keeps honest in
+          image_in plan shape is_in_second_half (taken + (body_size (length batch) + 1)) (register_of register batch) (keeps.batches ++ new_batch records ∷ []) keeps.base (keeps.entries ++ records) left keeps.of_building holds
           (records_push keeps.batches (new_batch records) ∙ ap (λ (l : List Record). l ++ records) keeps.joined ∙ append_assoc keeps.base keeps.entries records)
           reads.is_base (All-append IsEntry keeps.entries records reads.are_entries are) (batch_behind plan keeps.base keeps.entries register batch records keeps.is fit kept) (pick_at left leaves)
           (omega (arith, keeps.counts, used_push keeps.batches (new_batch records), ap body_size long))
 
       -- this many calls were made before
-      pub append_stops : (first : DiskState) (made : ℕ) → old.calls ≡ first.calls + made → StopsAdding plan shape.half is_second taken register batch made first new
-      append_stops first made before = record {
+      pub append_fails : (first : DiskState) (made : ℕ) → old.calls ≡ first.calls + made → FailsInAppend plan shape.half is_in_second_half taken register batch made first new
+      append_fails first made before = record {
         early = λ few _ left leaves. before_in left leaves (stops.early (omega (arith, few, before, ap body_size long)) honest_new left leaves);
         keeps_old = λ calls. before_in new.image here ((stops.late (omega (arith, calls, before, ap body_size long))).keeps_old (omega (arith, calls, before, ap body_size long)));
         keeps_new = λ calls. added_in new.image here ((stops.late (omega (arith, calls, before, ap body_size long))).keeps_new (omega (arith, calls, before, ap body_size long)));
@@ -354,9 +354,9 @@ module _ (plan : Plan) (shape : Shape) (is_second : Bool) (taken : ℕ) (registe
 pub in_doubt_of : (plan : Plan) (register : RegisterState) (batch : List Entry) (old : DiskState) → old.is_honest → (left : Image) → IsImageOf plan register left → IsInDoubt plan register batch left
 in_doubt_of plan register batch old honest left is = inl is
 
-pub guards_then : (plan : Plan) (shape after : Shape) (is_second second : Bool) (taken count : ℕ) (register : RegisterState) (old new : DiskState) → Guards plan shape is_second taken register old
+pub guards_then : (plan : Plan) (shape after : Shape) (is_in_second_half second : Bool) (taken count : ℕ) (register : RegisterState) (old new : DiskState) → Guards plan shape is_in_second_half taken register old
     → (new.is_honest → Keeps plan after second count register new) → Guards plan after second count register new
-guards_then plan shape after is_second second taken count register old new guards keeps = record { lawful = guards.lawful; belongs = guards.belongs; balanced = guards.balanced; keeps = keeps }
+guards_then plan shape after is_in_second_half second taken count register old new guards keeps = record { lawful = guards.lawful; belongs = guards.belongs; balanced = guards.balanced; keeps = keeps }
 
 -- a call of the journal after one in which none failed
 pub answers_then : {T : Type 0} (r : Result T JournalFault) (old mid new : DiskState) → RunsOn old mid → NoneFails old mid → AnswersAsTold r mid new → AnswersAsTold r old new
@@ -364,25 +364,25 @@ answers_then (Ok x) old mid new runs first second = record { ok = passes_then ol
 answers_then (Err fault) old mid new runs first second = record { ok = tt; err = fault_then old mid new runs first fault second.err }
 
 -- a commit that failed after its checkpoint
-pub adding_stops : (plan : Plan) (half : ℕ) (is_second : Bool) (taken : ℕ) (register : RegisterState) (batch : List Entry) (old mid new : DiskState) (count after : ℕ) (second : Bool) (now : ℕ)
-    → count ≡ length batch → after ≡ half → second ≡ room_second is_second taken half count → now ≡ room_used register taken half count → mid.calls ≡ old.calls + room_call_count register taken half count
-    → mid.calls < new.calls → ((first : DiskState) (made : ℕ) → mid.calls ≡ first.calls + made → StopsAdding plan after second now register batch made first new)
-    → StopsCommit plan half is_second taken register batch old new
-adding_stops plan half is_second taken register batch old mid new count after second now counted same_half same_second same_used calls more adds =
+pub adding_fails : (plan : Plan) (half : ℕ) (is_in_second_half : Bool) (taken : ℕ) (register : RegisterState) (batch : List Entry) (old mid new : DiskState) (count after : ℕ) (second : Bool) (now : ℕ)
+    → count ≡ length batch → after ≡ half → second ≡ room_second is_in_second_half taken half count → now ≡ room_used register taken half count → mid.calls ≡ old.calls + room_call_count register taken half count
+    → mid.calls < new.calls → ((first : DiskState) (made : ℕ) → mid.calls ≡ first.calls + made → FailsInAppend plan after second now register batch made first new)
+    → IsFailedCommit plan half is_in_second_half taken register batch old new
+adding_fails plan half is_in_second_half taken register batch old mid new count after second now counted same_half same_second same_used calls more adds =
     let made = adds old (room_call_count register taken half count) calls in
-    let at_half = subst (λ h. StopsAdding plan h second now register batch (room_call_count register taken half count) old new) same_half made in
-    let at_second = subst (λ (b : Bool). StopsAdding plan half b now register batch (room_call_count register taken half count) old new) same_second at_half in
-    let at_used = subst (λ n. StopsAdding plan half (room_second is_second taken half count) n register batch (room_call_count register taken half count) old new) same_used at_second in
-    let at_count = subst (λ n. StopsAdding plan half (room_second is_second taken half n) (room_used register taken half n) register batch (room_call_count register taken half n) old new) counted at_used in
+    let at_half = subst (λ h. FailsInAppend plan h second now register batch (room_call_count register taken half count) old new) same_half made in
+    let at_second = subst (λ (b : Bool). FailsInAppend plan half b now register batch (room_call_count register taken half count) old new) same_second at_half in
+    let at_used = subst (λ n. FailsInAppend plan half (room_second is_in_second_half taken half count) n register batch (room_call_count register taken half count) old new) same_used at_second in
+    let at_count = subst (λ n. FailsInAppend plan half (room_second is_in_second_half taken half n) (room_used register taken half n) register batch (room_call_count register taken half n) old new) counted at_used in
     record {
       folding = λ few. absurd (omega (arith, few, more, calls, ap (λ n. room_call_count register taken half n) counted));
       adding = λ _. at_count;
     }
 
 -- a commit that failed within it
-pub folding_stops : (plan : Plan) (half : ℕ) (is_second : Bool) (taken : ℕ) (register : RegisterState) (batch : List Entry) (old new : DiskState) (count : ℕ)
-    → count ≡ length batch → new.calls ≤ old.calls + room_call_count register taken half count → StopsFolding plan half is_second taken register old new → StopsCommit plan half is_second taken register batch old new
-folding_stops plan half is_second taken register batch old new count counted few stops = record {
+pub folding_fails : (plan : Plan) (half : ℕ) (is_in_second_half : Bool) (taken : ℕ) (register : RegisterState) (batch : List Entry) (old new : DiskState) (count : ℕ)
+    → count ≡ length batch → new.calls ≤ old.calls + room_call_count register taken half count → FailsInCheckpoint plan half is_in_second_half taken register old new → IsFailedCommit plan half is_in_second_half taken register batch old new
+folding_fails plan half is_in_second_half taken register batch old new count counted few stops = record {
   folding = λ _. stops;
   adding = λ many. absurd (omega (arith, few, many, ap (λ n. room_call_count register taken half n) counted));
 }

@@ -14,7 +14,7 @@ use Rattle.lift_journal.specs.Visits.{TakesAll}
 use Rattle.lift_journal.specs.lemmas.Chains.{used_below}
 use Rattle.lift_journal.specs.lemmas.Orders.{order_at}
 use Rattle.lift_keeper.specs.Reading.{ReadingState, ReadsBatch, reading_from, most_records}
-use Rattle.lift_keeper.specs.Recovery.{RecordFits, with_all, IsFirstMisfit, RecoveryState, beginning, AllPass, all_passed, StopsAt}
+use Rattle.lift_keeper.specs.Recovery.{RecordFits, with_all, IsFirstMisfit, RecoveryState, beginning, AllPass, all_passed, EndsAtMisfit}
 use Rattle.lift_keeper.proofs.Recoveries.{pass_then, passed_then, register_passed, taken_passed, plan_passed, open_passed, fits_passed, passes_here, ended_closed, MakesRegister, is_unended}
 
 pub not_true : (b : Bool) → (b ≡ true → ⊥) → b ≡ false
@@ -50,7 +50,7 @@ length_front [] (suc p) le = absurd (omega arith)
 length_front (x ∷ first) (suc p) le = omega (arith, length_front first p (omega arith))
 
 -- a record can't be taken in, whatever stands after it
-stops_before : (old new : RecoveryState) (first later : List Record) → StopsAt old new first → StopsAt old new (first ++ later)
+stops_before : (old new : RecoveryState) (first later : List Record) → EndsAtMisfit old new first → EndsAtMisfit old new (first ++ later)
 stops_before old new first later stops =
     let inside = slice_get_within first stops.place stops.misfit stops.there in
     let same : take stops.place (first ++ later) ≡ take stops.place first = take_front first later stops.place (omega (arith, inside)) in
@@ -64,7 +64,7 @@ stops_before old new first later stops =
     }
 
 -- and whatever was taken in before it
-stops_behind : (old mid new : RecoveryState) (first later : List Record) → AllPass old first → mid ≡ all_passed old first → StopsAt mid new later → StopsAt old new (first ++ later)
+stops_behind : (old mid new : RecoveryState) (first later : List Record) → AllPass old first → mid ≡ all_passed old first → EndsAtMisfit mid new later → EndsAtMisfit old new (first ++ later)
 stops_behind old mid new first later pass is stops =
     let front = take stops.place later in
     let same : take (length first + stops.place) (first ++ later) ≡ first ++ front = take_over first later (length first + stops.place) stops.place refl in
@@ -80,12 +80,12 @@ stops_behind old mid new first later pass is stops =
 -- what these records have made of a reading
 pub record Came (old : RecoveryState) (new : ReadingState) (records : List Record) : Type 0 where
   pub passes : new.is_over ≡ false → AllPass old records × (new.recovery ≡ all_passed old records)
-  pub stops : new.is_over ≡ true → StopsAt old new.recovery records
+  pub stops : new.is_over ≡ true → EndsAtMisfit old new.recovery records
 
-came_over : (old : RecoveryState) (next new : ReadingState) (first later : List Record) → StopsAt old next.recovery first → next.is_over ≡ true → new ≡ next → Came old new (first ++ later)
+came_over : (old : RecoveryState) (next new : ReadingState) (first later : List Record) → EndsAtMisfit old next.recovery first → next.is_over ≡ true → new ≡ next → Came old new (first ++ later)
 came_over old next new first later stops is same = record {
   passes = λ isnt. absurd (not_both new.is_over (ap (λ (s : ReadingState). s.is_over) same ∙ is) isnt);
-  stops = λ _. stops_before old new.recovery first later (subst (λ (s : ReadingState). StopsAt old s.recovery first) (sym same) stops);
+  stops = λ _. stops_before old new.recovery first later (subst (λ (s : ReadingState). EndsAtMisfit old s.recovery first) (sym same) stops);
 }
 
 came_on : (old : RecoveryState) (next new : ReadingState) (first later : List Record) → AllPass old first → next.recovery ≡ all_passed old first → Came next.recovery new later → Came old new (first ++ later)
@@ -124,7 +124,7 @@ came_all old (batch ∷ batches) new whole few small all =
           ⊎_elim
           (λ stops. came_over old.recovery all.0 new batch.records (records_of batches) stops is (rests_over all.0 batches new is all.2))
           (λ many. absurd (omega (arith, many, few)))
-          (all.1.stops whole is)
+          (all.1.ends whole is)
       | false ↦ λ is.
           let took = all.1.passes whole is in
           let count : all.0.recovery.taken ≡ old.recovery.taken + length batch.records = ap (λ (s : RecoveryState). s.taken) took.1 ∙ taken_passed old.recovery batch.records in

@@ -24,7 +24,7 @@ use Rattle.lift_journal.specs.Visits.{TakesAll}
 use Rattle.lift_journal.specs.lemmas.Chains.{all_same}
 use Rattle.lift_keeper.specs.declared.fault.KeeperFault.{KeeperFault}
 use Rattle.lift_keeper.specs.declared.fault.KeeperFault.TheVariants.{Journal, OtherBuilding, BadEntry}
-use Rattle.lift_keeper.specs.Calls.{ReadsAll, StopsOpening, FailsBy, OpeningCalls, RefusedCalls}
+use Rattle.lift_keeper.specs.Calls.{ReadsAll, ReadsUntilRefused, FailsBy, OpeningCalls, RefusedCalls}
 use Rattle.lift_keeper.specs.Images.{IsImageOf, IsImageIn}
 use Rattle.lift_keeper.specs.Reading.{ReadingState, ReadsBatch, reading_from, GivesAtEnd, GivesNone}
 use Rattle.lift_keeper.specs.Recovery.{RecordFits, with_next, with_all, AllFit, IsFirstMisfit, entries_of, IsRegisterOf}
@@ -62,12 +62,12 @@ image_fits plan register image is place misfit =
     misfit.fails (fit_at plan empty (records_of is.reads.batches) place misfit.misfit misfit.there fit)
 
 -- the calls of an opening of a journal, all of them
-module _ (plan : Plan) (old new : DiskState) (shape : Shape) (taken : ℕ) (opens : Opens old new shape taken) (is_second : Bool) (picks : LeavesNow new (Picks is_second))
-    (made : new.trace ≡ old.trace ++ opening_of shape.half is_second taken) where
-  picked : old.is_honest → Picks is_second new.image
+module _ (plan : Plan) (old new : DiskState) (shape : Shape) (taken : ℕ) (opens : Opens old new shape taken) (is_in_second_half : Bool) (picks : LeavesNow new (Picks is_in_second_half))
+    (made : new.trace ≡ old.trace ++ opening_of shape.half is_in_second_half taken) where
+  picked : old.is_honest → Picks is_in_second_half new.image
   picked honest = picks (opens.runs.honest.1 honest) new.image (changes_nothing new.is_loose new.image)
 
-  pub opening_calls : OpeningCalls plan old new shape.half is_second taken
+  pub opening_calls : OpeningCalls plan old new shape.half is_in_second_half taken
   opening_calls = record {
     runs = opens.runs;
     made = made;
@@ -85,7 +85,7 @@ module _ (plan : Plan) (old new : DiskState) (shape : Shape) (taken : ℕ) (open
   all_read : ReadsAll old new
   all_read = record {
     half = shape.half;
-    is_second = is_second;
+    is_in_second_half = is_in_second_half;
     taken = taken;
     made = made;
     picks = picked;
@@ -94,7 +94,7 @@ module _ (plan : Plan) (old new : DiskState) (shape : Shape) (taken : ℕ) (open
 
   -- where its register was refused
   module _ (reading : ReadingState) where
-    stopped : (fault : KeeperFault) → GivesNone fault plan shape reading → StopsOpening fault old new
+    stopped : (fault : KeeperFault) → GivesNone fault plan shape reading → ReadsUntilRefused fault old new
     stopped (Journal fault) none = absurd none
     stopped OtherBuilding none = all_read
     stopped (BadEntry place) none = all_read
@@ -138,7 +138,7 @@ module _ (plan : Plan) (old new : DiskState) (shape : Shape) (taken : ℕ) (open
   image_shape honest register is = (opens.found honest (shape_of plan is.half) is.reads.batches is.reads.holds).0
 
   module _ (reading : ReadingState) (shown : old.is_honest → (batches : List Batch) → Holds shape batches new.image → TakesAll ReadsBatch (reading_from plan) batches reading) where
-    module _ (register : RegisterState) (of_building : shape ≡ shape_of plan shape.half) (gives : GivesAtEnd reading register) (is_second : Bool) (picks : LeavesNow new (Picks is_second)) where
+    module _ (register : RegisterState) (of_building : shape ≡ shape_of plan shape.half) (gives : GivesAtEnd reading register) (is_in_second_half : Bool) (picks : LeavesNow new (Picks is_in_second_half)) where
       was : new.is_honest → old.is_honest
       was honest_new = opens.runs.honest.0 honest_new
 
@@ -160,7 +160,7 @@ module _ (plan : Plan) (old new : DiskState) (shape : Shape) (taken : ℕ) (open
           let found = is_read honest is.base is.entries (subst (λ (s : Shape). ReadsAs s is.base is.entries new.image) (image_shape honest other is) is.reads) in
           is.is.is ∙ sym found.is
 
-      kept : new.is_honest → Keeps plan shape is_second taken register new
+      kept : new.is_honest → Keeps plan shape is_in_second_half taken register new
       kept honest_new =
           let honest = was honest_new in
           let held = opens.holds honest in
@@ -177,7 +177,7 @@ module _ (plan : Plan) (old new : DiskState) (shape : Shape) (taken : ℕ) (open
             counts = held.2;
           }
 
-      pub guards : reading.recovery.plan ≡ plan → Guards plan shape is_second taken register new
+      pub guards : reading.recovery.plan ≡ plan → Guards plan shape is_in_second_half taken register new
       guards same_plan = record {
         lawful = gives.lawful;
         belongs = subst (λ (p : Plan). BelongsTo p register) same_plan gives.belongs;
@@ -185,16 +185,16 @@ module _ (plan : Plan) (old new : DiskState) (shape : Shape) (taken : ℕ) (open
         keeps = kept;
       }
 
-      pub reopens : Reopens plan old new register shape.half is_second taken
+      pub reopens : Reopens plan old new register shape.half is_in_second_half taken
       reopens = record {
         moments = opens.moments;
         writes = opens.writes;
         failures = opens.failures;
         synced = opens.synced;
         seen = opens.seen;
-        safe = keeps_safe plan shape is_second taken register new kept;
+        safe = keeps_safe plan shape is_in_second_half taken register new kept;
         only = only;
-        placed = keeps_placed plan shape is_second taken register new kept;
+        placed = keeps_placed plan shape is_in_second_half taken register new kept;
       }
 
     -- a journal that has opened, and gives no register
@@ -233,7 +233,7 @@ module _ (plan : Plan) (old new : DiskState) (shape : Shape) (taken : ℕ) (open
       moments = opens.moments;
       writes = opens.writes;
       cause = cause_of fault none;
-      settled = inr (λ honest. record { none_loose = (opens.synced honest).none_loose; seen = opens.seen honest });
+      fixed = inr (λ honest. record { none_loose = (opens.synced honest).none_loose; seen = opens.seen honest });
       good = good_of fault none;
     }
 
@@ -243,6 +243,6 @@ refused_journal plan old new fault refuses = record {
   moments = refuses.moments;
   writes = refuses.writes;
   cause = refuses.cause;
-  settled = refuses.settled;
+  fixed = refuses.fixed;
   good = λ honest register is. ap (λ (f : JournalFault). Journal f) (refuses.good honest (shape_of plan is.half) is.reads.batches is.reads.holds);
 }

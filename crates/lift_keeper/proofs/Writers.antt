@@ -26,9 +26,9 @@ use Rattle.lift_keeper.proofs.Guarding.{keeps_safe, keeps_placed, now_after}
 pub not_both : (b : Bool) → b ≡ true → b ≡ false → ⊥
 not_both b is isnt = cc (is, isnt)
 
-module _ {D : Type 0} (plan : Plan) (journal : JournalView D) (register : RegisterState) (doubt : List Entry) (opened : ℕ) (is_broken : Bool) (disk : DiskState) where
-  pub whole_writer : is_broken ≡ false → Guards plan journal.shape journal.is_second journal.used register disk → journal.is_broken ≡ false → doubt ≡ [] → opened ≤ disk.failures
-      → IsWriter plan journal register doubt opened is_broken disk
+module _ {D : Type 0} (plan : Plan) (journal : JournalView D) (register : RegisterState) (doubt : List Entry) (failures_at_opening : ℕ) (is_broken : Bool) (disk : DiskState) where
+  pub whole_writer : is_broken ≡ false → Guards plan journal.shape journal.is_in_second_half journal.used register disk → journal.is_broken ≡ false → doubt ≡ [] → failures_at_opening ≤ disk.failures
+      → IsWriter plan journal register doubt failures_at_opening is_broken disk
   whole_writer is guards whole settled counted = record {
     lawful = guards.lawful;
     belongs = guards.belongs;
@@ -36,13 +36,13 @@ module _ {D : Type 0} (plan : Plan) (journal : JournalView D) (register : Regist
     counted = counted;
     failed = λ broken. absurd (not_both is_broken broken is);
     whole = λ _. whole;
-    settled = λ _. settled;
+    no_doubt = λ _. settled;
     keeps = λ _. guards.keeps;
     leaves = λ broken. absurd (not_both is_broken broken is);
   }
 
-  pub broken_writer : is_broken ≡ true → IsWellFormed register → BelongsTo plan register → IsBalanced register → opened < disk.failures → LeavesNow disk (IsInDoubt plan register doubt)
-      → IsWriter plan journal register doubt opened is_broken disk
+  pub broken_writer : is_broken ≡ true → IsWellFormed register → BelongsTo plan register → IsBalanced register → failures_at_opening < disk.failures → LeavesNow disk (IsInDoubt plan register doubt)
+      → IsWriter plan journal register doubt failures_at_opening is_broken disk
   broken_writer is lawful belongs balanced failed leaves = record {
     lawful = lawful;
     belongs = belongs;
@@ -50,20 +50,20 @@ module _ {D : Type 0} (plan : Plan) (journal : JournalView D) (register : Regist
     counted = omega (arith, failed);
     failed = λ _. failed;
     whole = λ isnt. absurd (not_both is_broken is isnt);
-    settled = λ isnt. absurd (not_both is_broken is isnt);
+    no_doubt = λ isnt. absurd (not_both is_broken is isnt);
     keeps = λ isnt. absurd (not_both is_broken is isnt);
     leaves = λ _. leaves;
   }
 
-  module _ (writer : IsWriter plan journal register doubt opened is_broken disk) where
-    pub guards_of : is_broken ≡ false → Guards plan journal.shape journal.is_second journal.used register disk
+  module _ (writer : IsWriter plan journal register doubt failures_at_opening is_broken disk) where
+    pub guards_of : is_broken ≡ false → Guards plan journal.shape journal.is_in_second_half journal.used register disk
     guards_of whole = record { lawful = writer.lawful; belongs = writer.belongs; balanced = writer.balanced; keeps = writer.keeps whole }
 
     pub safe_of : is_broken ≡ false → LeavesNow disk (IsImageOf plan register)
-    safe_of whole = keeps_safe plan journal.shape journal.is_second journal.used register disk (writer.keeps whole)
+    safe_of whole = keeps_safe plan journal.shape journal.is_in_second_half journal.used register disk (writer.keeps whole)
 
-    pub placed_of : is_broken ≡ false → LeavesNow disk (IsImageIn plan journal.shape.half journal.is_second journal.used register)
-    placed_of whole = keeps_placed plan journal.shape journal.is_second journal.used register disk (writer.keeps whole)
+    pub placed_of : is_broken ≡ false → LeavesNow disk (IsImageIn plan journal.shape.half journal.is_in_second_half journal.used register)
+    placed_of whole = keeps_placed plan journal.shape journal.is_in_second_half journal.used register disk (writer.keeps whole)
 
     -- whatever has happened, a crash leaves the safe register or the one with the batch in doubt
     pub doubt_of : LeavesNow disk (IsInDoubt plan register doubt)
@@ -81,7 +81,7 @@ module _ {D : Type 0} (plan : Plan) (journal : JournalView D) (register : Regist
       still_doubt honest_new left now = doubt_of (refuses.moments.honest.0 honest_new) left (left_now honest_new left now)
 
       -- an opening at which a call failed
-      pub failed_opening : (now_broken : Bool) → now_broken ≡ true → fault ≡ Journal Disk → IsWriter plan after register doubt opened now_broken new
+      pub failed_opening : (now_broken : Bool) → now_broken ≡ true → fault ≡ Journal Disk → IsWriter plan after register doubt failures_at_opening now_broken new
       failed_opening now_broken broken is =
           let rose : disk.failures < new.failures = subst (λ (f : KeeperFault). RefusedFor f plan disk new) is refuses.cause in record {
             lawful = writer.lawful;
@@ -90,13 +90,13 @@ module _ {D : Type 0} (plan : Plan) (journal : JournalView D) (register : Regist
             counted = omega (arith, writer.counted, rose);
             failed = λ _. omega (arith, writer.counted, rose);
             whole = λ isnt. absurd (not_both now_broken broken isnt);
-            settled = λ isnt. absurd (not_both now_broken broken isnt);
+            no_doubt = λ isnt. absurd (not_both now_broken broken isnt);
             keeps = λ isnt. absurd (not_both now_broken broken isnt);
             leaves = λ _. still_doubt;
           }
 
       -- another refusal
-      pub refused_opening : fault ≢ Journal Disk → (is_broken ≡ false → after.is_broken ≡ false) → IsWriter plan after register doubt opened is_broken new
+      pub refused_opening : fault ≢ Journal Disk → (is_broken ≡ false → after.is_broken ≡ false) → IsWriter plan after register doubt failures_at_opening is_broken new
       refused_opening other whole = record {
         lawful = writer.lawful;
         belongs = writer.belongs;
@@ -104,7 +104,7 @@ module _ {D : Type 0} (plan : Plan) (journal : JournalView D) (register : Regist
         counted = omega (arith, writer.counted, runs);
         failed = λ broken. omega (arith, writer.failed broken, runs);
         whole = whole;
-        settled = writer.settled;
+        no_doubt = writer.no_doubt;
         keeps = λ sound honest_new.
             (let honest = refuses.moments.honest.0 honest_new in
             let now = left_now honest_new new.image (changes_nothing new.is_loose new.image) in
@@ -125,7 +125,7 @@ module _ {D : Type 0} (plan : Plan) (journal : JournalView D) (register : Regist
     -- after its sync a refused opening leaves one of the two registers for good
     pub settled_one : (new : DiskState) (fault : KeeperFault) → RefusesReopening plan disk new fault
         → (new.trace ≡ disk.trace) ⊎ (disk.is_honest → LeavesNow new (IsImageOf plan register) ⊎ LeavesNow new (IsImageOf plan (register_of register doubt)))
-    settled_one new fault refuses = ⊎_elim (λ same. inl same) (λ is. inr (λ honest. one_of (is honest) (doubt_of honest new.image (is honest).seen))) refuses.settled
+    settled_one new fault refuses = ⊎_elim (λ same. inl same) (λ is. inr (λ honest. one_of (is honest) (doubt_of honest new.image (is honest).seen))) refuses.fixed
       where
         each : (found : RegisterState) → FixesImage disk new → IsImageOf plan found new.image → LeavesNow new (IsImageOf plan found)
         each found settled image honest_new left now = subst (λ (l : Image). IsImageOf plan found l) (sym (all_same new.is_loose new.image left settled.none_loose now)) image
@@ -134,13 +134,13 @@ module _ {D : Type 0} (plan : Plan) (journal : JournalView D) (register : Regist
         one_of settled found = ⊎_elim (λ image. inl (each register settled image)) (λ image. inr (each (register_of register doubt) settled image)) found
 
     -- what an opening gives
-    pub reopened_one : (new : DiskState) (found : RegisterState) (half : ℕ) (is_second : Bool) (taken : ℕ) → Reopens plan disk new found half is_second taken → disk.is_honest → (found ≡ register) ⊎ (found ≡ register_of register doubt)
-    reopened_one new found half is_second taken opens honest =
+    pub reopened_one : (new : DiskState) (found : RegisterState) (half : ℕ) (is_in_second_half : Bool) (taken : ℕ) → Reopens plan disk new found half is_in_second_half taken → disk.is_honest → (found ≡ register) ⊎ (found ≡ register_of register doubt)
+    reopened_one new found half is_in_second_half taken opens honest =
         ⊎_elim (λ is. inl (sym (opens.only honest register is))) (λ is. inr (sym (opens.only honest (register_of register doubt) is))) (doubt_of honest new.image (opens.seen honest))
 
     -- a device that was told again which calls to fail
-    pub armed_writer : (after : JournalView D) (new : DiskState) → after.shape ≡ journal.shape → after.is_second ≡ journal.is_second → after.used ≡ journal.used → after.is_broken ≡ journal.is_broken → IsUnchanged disk new
-        → IsWriter plan after register doubt opened is_broken new
+    pub armed_writer : (after : JournalView D) (new : DiskState) → after.shape ≡ journal.shape → after.is_in_second_half ≡ journal.is_in_second_half → after.used ≡ journal.used → after.is_broken ≡ journal.is_broken → IsUnchanged disk new
+        → IsWriter plan after register doubt failures_at_opening is_broken new
     armed_writer after new shape second taken broken same = record {
       lawful = writer.lawful;
       belongs = writer.belongs;
@@ -148,10 +148,10 @@ module _ {D : Type 0} (plan : Plan) (journal : JournalView D) (register : Regist
       counted = omega (arith, writer.counted, same.failures);
       failed = λ is. omega (arith, writer.failed is, same.failures);
       whole = λ is. broken ∙ writer.whole is;
-      settled = writer.settled;
+      no_doubt = writer.no_doubt;
       keeps = λ is honest_new.
           (let keeps = writer.keeps is (same.honest.0 honest_new) in
-          let made : Keeps plan journal.shape journal.is_second journal.used register new = record {
+          let made : Keeps plan journal.shape journal.is_in_second_half journal.used register new = record {
             of_building = keeps.of_building;
             batches = keeps.batches;
             base = keeps.base;
@@ -160,12 +160,12 @@ module _ {D : Type 0} (plan : Plan) (journal : JournalView D) (register : Regist
             stands = unchanged_leaves disk new (ReadsAs journal.shape keeps.base keeps.entries) same keeps.stands;
             joined = keeps.joined;
             is = keeps.is;
-            picks = unchanged_leaves disk new (Picks journal.is_second) same keeps.picks;
+            picks = unchanged_leaves disk new (Picks journal.is_in_second_half) same keeps.picks;
             counts = keeps.counts;
           } in
-          subst (λ (s : Shape). Keeps plan s after.is_second after.used register new) (sym shape)
+          subst (λ (s : Shape). Keeps plan s after.is_in_second_half after.used register new) (sym shape)
           (subst (λ (b : Bool). Keeps plan journal.shape b after.used register new) (sym second)
-          (subst (λ n. Keeps plan journal.shape journal.is_second n register new) (sym taken) made)));
+          (subst (λ n. Keeps plan journal.shape journal.is_in_second_half n register new) (sym taken) made)));
       leaves = λ is. unchanged_leaves disk new (IsInDoubt plan register doubt) same (writer.leaves is);
     }
 

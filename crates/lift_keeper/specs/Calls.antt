@@ -1,4 +1,4 @@
--- Which calls of the device a commit or an opening makes, how many, and what a stopped one leaves: no
+-- Which calls of the device a commit or an opening makes, how many, and what a failed one leaves: no
 -- sector is named. Nothing of this is needed to know which register is safe.
 use Rattle.std.specs.Prelude.{◌≡◌, ◌++◌, ℕ, Bool, List, Result, Err, IfErr, OnOk}
 use Rattle.lift_base.specs.declared.history.Shape.{Shape}
@@ -15,27 +15,28 @@ use Rattle.lift_keeper.specs.declared.fault.KeeperFault.{KeeperFault}
 use Rattle.lift_keeper.specs.declared.fault.KeeperFault.TheVariants.{Journal, OtherBuilding}
 use Rattle.lift_keeper.specs.declared.fault.KeeperFault.TheVariants.{BadEntry}
 use Rattle.lift_keeper.specs.Images.{IsImageIn}
-use Rattle.lift_keeper.specs.Writer.{WriterView, StopsCommit, commit_call_count, commit_write_count}
+use Rattle.lift_keeper.specs.Writer.{WriterView, IsFailedCommit, commit_call_count}
+use Rattle.lift_keeper.specs.Writer.{commit_write_count}
 use Rattle.lift_keeper.specs.Writer.{commit_used, commit_second}
 
 -- A journal was opened and read to its end, with no other call: a half of this many sectors, which
 -- of the two it is, and how many of its sectors are used.
 pub record ReadsAll (old new : DiskState) : Type 0 where
   pub half : ℕ
-  pub is_second : Bool
+  pub is_in_second_half : Bool
   pub taken : ℕ
-  pub made : new.trace ≡ old.trace ++ opening_of half is_second taken
+  pub made : new.trace ≡ old.trace ++ opening_of half is_in_second_half taken
   -- which is the journal that is read now
-  pub picks : old.is_honest → Picks is_second new.image
+  pub picks : old.is_honest → Picks is_in_second_half new.image
   pub found : old.is_honest → (shape : Shape) (batches : List Batch) → Holds shape batches new.image
       → (half ≡ shape.half) × (taken ≡ used batches)
 
 -- Which calls a refused opening has made: those of the journal's opening, up to the sector that
 -- refused it; where the journal itself is good, all of them.
-abbrev pub StopsOpening : KeeperFault → DiskState → DiskState → Type 0
-StopsOpening (Journal fault) old new = RefusedBehind fault old new
-StopsOpening OtherBuilding old new = ReadsAll old new
-StopsOpening (BadEntry place) old new = ReadsAll old new
+abbrev pub ReadsUntilRefused : KeeperFault → DiskState → DiskState → Type 0
+ReadsUntilRefused (Journal fault) old new = RefusedBehind fault old new
+ReadsUntilRefused OtherBuilding old new = ReadsAll old new
+ReadsUntilRefused (BadEntry place) old new = ReadsAll old new
 
 -- which call has failed: the last, just where the fault is of the device
 abbrev pub FailsBy : KeeperFault → DiskState → DiskState → Type 0
@@ -51,22 +52,23 @@ pub record CommitCalls {D T : Type 0} (state : D → DiskState) (old : WriterVie
   pub made : Makes result (commit_call_count old.register old.used old.half count)
       (commit_write_count old.register old.used old.half count) (state old.device) (state new.device)
   pub used : OnOk result (new.used ≡ commit_used old.register old.used old.half count)
-  pub second : OnOk result (new.is_second ≡ commit_second old.is_second old.used old.half count)
+  pub second : OnOk result (new.is_in_second_half
+      ≡ commit_second old.is_in_second_half old.used old.half count)
   pub told_ok : OnOk result (NoneFails (state old.device) (state new.device))
   pub told : IfErr result (λ fault. FailsBy fault (state old.device) (state new.device))
-  -- where a device stopped it that changes no byte in a failed call, the number of calls says what
+  -- where a device failed it that changes no byte in a failed call, the number of calls says what
   -- each cut leaves
-  pub stops : result ≡ Err (Journal Disk) → (state old.device).is_honest
+  pub fails : result ≡ Err (Journal Disk) → (state old.device).is_honest
       → (state old.device).is_inert
-      → StopsCommit old.plan old.half old.is_second old.used old.register new.doubt
+      → IsFailedCommit old.plan old.half old.is_in_second_half old.used old.register new.doubt
       (state old.device) (state new.device)
 
 -- An opening that found a half of this many sectors, which of the two it is, and how many of its
 -- sectors are used: it makes the calls of its journal's opening, and no other.
-pub record OpeningCalls (plan : Plan) (old new : DiskState) (half : ℕ) (is_second : Bool)
+pub record OpeningCalls (plan : Plan) (old new : DiskState) (half : ℕ) (is_in_second_half : Bool)
     (taken : ℕ) : Type 0 where
   pub runs : RunsOn old new
-  pub made : new.trace ≡ old.trace ++ opening_of half is_second taken
+  pub made : new.trace ≡ old.trace ++ opening_of half is_in_second_half taken
   pub told : NoneFails old new
   -- an inert device reads as before, and what its last sync saved is what was saved before, or what
   -- is read
@@ -75,12 +77,12 @@ pub record OpeningCalls (plan : Plan) (old new : DiskState) (half : ℕ) (is_sec
   -- no register is anywhere else in the image that is read
   pub found : old.is_honest → (length : ℕ) (second : Bool) (count : ℕ) (register : RegisterState)
       → IsImageIn plan length second count register new.image
-      → (length ≡ half) × (second ≡ is_second) × (count ≡ taken)
+      → (length ≡ half) × (second ≡ is_in_second_half) × (count ≡ taken)
 
 -- one that was refused for this fault: it makes as many of these calls as that took
 pub record RefusedCalls (old new : DiskState) (fault : KeeperFault) : Type 0 where
   pub runs : RunsOn old new
-  pub made : StopsOpening fault old new
+  pub made : ReadsUntilRefused fault old new
   pub told : FailsBy fault old new
   pub image : KeepsImage old new
   pub saved : SavesAsRead old new
@@ -88,7 +90,8 @@ pub record RefusedCalls (old new : DiskState) (fault : KeeperFault) : Type 0 whe
 -- an opening of a writer
 abbrev pub OpensByCalls : {D : Type 0} → (D → DiskState) → DiskState → WriterView D → Type 0
 OpensByCalls state old writer =
-    OpeningCalls writer.plan old (state writer.device) writer.half writer.is_second writer.used
+    OpeningCalls writer.plan old
+    (state writer.device) writer.half writer.is_in_second_half writer.used
 
 -- a reopening, whatever it answers
 pub record ReopeningCalls {D T : Type 0} (state : D → DiskState) (old new : WriterView D)

@@ -42,13 +42,14 @@ pub record Commits {D T : Type 0} (state : D → DiskState) (old : WriterView D)
   pub empty : old.is_broken ≡ false → batch ≡ [] → IsOk result × (new ≡ old)
   pub breaks : OnErr result (new.is_broken ≡ true)
   -- a call has failed since the last opening that succeeded
-  pub since : OnErr result (new.opened < (state new.device).failures)
+  pub since : OnErr result (new.failures_at_opening < (state new.device).failures)
   pub doubts : result ≡ Err (Journal Disk) → new.doubt ≡ batch
   pub unmoved : OnErr result (new.register ≡ old.register)
   -- no call failed, and nothing is broken or in doubt
   pub whole : OnOk result ((state new.device).failures ≡ (state old.device).failures)
   pub stays : OnOk result ((new.is_broken ≡ false) × (new.doubt ≡ []))
-  pub same : (new.plan ≡ old.plan) × (new.half ≡ old.half) × (new.opened ≡ old.opened)
+  pub same : (new.plan ≡ old.plan) × (new.half ≡ old.half)
+      × (new.failures_at_opening ≡ old.failures_at_opening)
 
 -- It was the commit of a batch of this many entries, which lead to this register.
 pub record CommitsTo {D T : Type 0} (state : D → DiskState) (old : WriterView D) (count : ℕ)

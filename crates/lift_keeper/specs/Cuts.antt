@@ -1,11 +1,11 @@
--- What each cut leaves of a run that a device has stopped.
+-- What each cut leaves of a run that has failed.
 use Rattle.std.specs.Prelude.{◌≡◌, ◌≢◌, ◌<◌, ◌≤◌, ◌+◌, ℕ, Bool, MatchBool}
 use Rattle.lift_disk.specs.Disk.{DiskState, Image, IsFilled, LeavesNow}
 
 -- The run turns images with P into images with Q by a mark, which it writes after this many calls
 -- and then makes safe. The device has failed a call, and changed no byte in it. Until the mark's
 -- write every cut leaves P. The run may also take the mark away: then P has it.
-pub record StopsAtMark (P Q : Image → Type 0) (unmarks : Bool) (made : ℕ) (old new : DiskState)
+pub record FailsAtMark (P Q : Image → Type 0) (unmarks : Bool) (made : ℕ) (old new : DiskState)
     : Type 0 where
   pub early : new.calls ≤ old.calls + made → LeavesNow new P
   -- a cut that keeps: P where the mark's write failed, Q where its sync did

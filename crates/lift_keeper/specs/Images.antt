@@ -25,11 +25,11 @@ IsInDoubt plan register batch image = IsImageOf plan register image
 
 -- the same, with this many sectors in a half: this half is picked, and this many of its sectors are
 -- used
-pub record IsImageIn (plan : Plan) (half : ℕ) (is_second : Bool) (taken : ℕ)
+pub record IsImageIn (plan : Plan) (half : ℕ) (is_in_second_half : Bool) (taken : ℕ)
     (register : RegisterState) (image : Image) : Type 0 where
   pub base : List Record
   pub entries : List Record
   pub reads : ReadsAs (shape_of plan half) base entries image
   pub is : IsRegisterOf plan base entries register
-  pub picks : Picks is_second image
+  pub picks : Picks is_in_second_half image
   pub counts : taken ≡ used reads.batches

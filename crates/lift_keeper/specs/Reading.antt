@@ -8,7 +8,7 @@ use Rattle.lift_register.specs.Prelude.{RegisterState, BelongsTo, IsBalanced, Is
 use Rattle.lift_keeper.specs.declared.fault.KeeperFault.{KeeperFault}
 use Rattle.lift_keeper.specs.declared.fault.KeeperFault.TheVariants.{Journal, OtherBuilding}
 use Rattle.lift_keeper.specs.declared.fault.KeeperFault.TheVariants.{BadEntry}
-use Rattle.lift_keeper.specs.Recovery.{RecoveryState, beginning, AllPass, all_passed, StopsAt}
+use Rattle.lift_keeper.specs.Recovery.{RecoveryState, beginning, AllPass, all_passed, EndsAtMisfit}
 
 -- what was taken in of the batches so far
 pub record ReadingState : Type 0 where
@@ -32,8 +32,8 @@ pub record ReadsBatch (old : ReadingState) (records : List Record)
   pub rests : old.is_over ≡ true → new ≡ old
   pub passes : old.is_over ≡ false → new.is_over ≡ false
       → AllPass old.recovery records × (new.recovery ≡ all_passed old.recovery records)
-  pub stops : old.is_over ≡ false → new.is_over ≡ true
-      → StopsAt old.recovery new.recovery records ⊎ (most_records < old.recovery.taken)
+  pub ends : old.is_over ≡ false → new.is_over ≡ true
+      → EndsAtMisfit old.recovery new.recovery records ⊎ (most_records < old.recovery.taken)
 
 -- what it gives at the end of the chain: no checkpoint is open
 pub record GivesAtEnd (reading : ReadingState) (register : RegisterState) : Type 0 where

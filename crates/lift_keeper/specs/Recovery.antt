@@ -101,7 +101,7 @@ all_passed state [] = state
 all_passed state (content ∷ later) = all_passed (passed state content) later
 
 -- all of the records before this place have been taken, and the one there can't be
-pub record StopsAt (old new : RecoveryState) (records : List Record) : Type 0 where
+pub record EndsAtMisfit (old new : RecoveryState) (records : List Record) : Type 0 where
   pub place : ℕ
   pub misfit : Record
   pub there : slice_get records place ≡ Some misfit

@@ -17,7 +17,7 @@ use Rattle.lift_keeper.specs.Writer.{WriterView}
 -- It has opened: this is the register, in a half of this many sectors; this half is picked, and
 -- this many of its sectors are used.
 pub record Reopens (plan : Plan) (old new : DiskState) (register : RegisterState) (half : ℕ)
-    (is_second : Bool) (taken : ℕ) : Type 0 where
+    (is_in_second_half : Bool) (taken : ℕ) : Type 0 where
   -- a crash at any moment leaves what one before it might have left
   pub moments : LeavesOnly old new (MayLeave old)
   pub writes : new.writes ≡ old.writes
@@ -30,16 +30,16 @@ pub record Reopens (plan : Plan) (old new : DiskState) (register : RegisterState
   pub only : old.is_honest → (other : RegisterState) → IsImageOf plan other new.image
       → other ≡ register
   -- where it stands
-  pub placed : LeavesNow new (IsImageIn plan half is_second taken register)
+  pub placed : LeavesNow new (IsImageIn plan half is_in_second_half taken register)
 
 -- A writer is open over a device that was so before: whole, and with nothing in doubt.
 pub record WriterOpens {D : Type 0} (state : D → DiskState) (building : Plan) (old : DiskState)
     (writer : WriterView D) : Type 0 where
   pub reopens : Reopens building old (state writer.device) writer.register writer.half
-      writer.is_second writer.used
+      writer.is_in_second_half writer.used
   pub plan : writer.plan ≡ building
   pub whole : (writer.is_broken ≡ false) × (writer.doubt ≡ [])
-  pub opened : writer.opened ≡ (state writer.device).failures
+  pub failures_at_opening : writer.failures_at_opening ≡ (state writer.device).failures
 
 -- what is read now, which a crash might have left, and which is safe, holds these batches
 pub record ReadsNow (old new : DiskState) (shape : Shape) (batches : List Batch) : Type 0 where
@@ -65,7 +65,7 @@ pub record RefusesReopening (plan : Plan) (old new : DiskState) (fault : KeeperF
   pub writes : new.writes ≡ old.writes
   pub cause : RefusedFor fault plan old new
   -- its sync failed, so that no call succeeded; or no crash gives another image any more
-  pub settled : (new.trace ≡ old.trace) ⊎ (old.is_honest → FixesImage old new)
+  pub fixed : (new.trace ≡ old.trace) ⊎ (old.is_honest → FixesImage old new)
   -- an image of a register of the building is refused for a failed call alone
   pub good : old.is_honest → (register : RegisterState) → IsImageOf plan register new.image
       → fault ≡ Journal Disk

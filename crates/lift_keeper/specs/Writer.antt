@@ -12,7 +12,7 @@ use Rattle.lift_register.specs.Base.{base_records}
 use Rattle.lift_journal.specs.Checkpoint.{sectors_for}
 use Rattle.lift_journal.specs.Journal.{JournalView, StandsFor}
 use Rattle.lift_journal.specs.Layout.{Batch, records_of, Holds, Picks, body_size, used}
-use Rattle.lift_keeper.specs.Cuts.{StopsAtMark}
+use Rattle.lift_keeper.specs.Cuts.{FailsAtMark}
 use Rattle.lift_keeper.specs.Images.{IsImageIn, IsInDoubt}
 use Rattle.lift_keeper.specs.Recovery.{IsRegisterOf}
 
@@ -23,19 +23,19 @@ pub record WriterView (D : Type 0) : Type 0 where
   -- the sectors of a half; the second half is picked; the sectors of the picked half before its
   -- closing gate
   pub half : ℕ
-  pub is_second : Bool
+  pub is_in_second_half : Bool
   pub used : ℕ
   -- the register that is safe; of a broken writer, the one that was safe before the fault
   pub register : RegisterState
   -- the batch that the fault left in doubt; none of a writer that isn't broken
   pub doubt : List Entry
   -- how many calls of the device had failed when it was last opened
-  pub opened : ℕ
+  pub failures_at_opening : ℕ
   -- a call of the device has failed, and no reopening has succeeded since
   pub is_broken : Bool
 
 -- every crash now leaves the same batches in this half, and this is the register of their records
-pub record Keeps (plan : Plan) (shape : Shape) (is_second : Bool) (taken : ℕ)
+pub record Keeps (plan : Plan) (shape : Shape) (is_in_second_half : Bool) (taken : ℕ)
     (register : RegisterState) (disk : DiskState) : Type 0 where
   pub of_building : shape ≡ shape_of plan shape.half
   pub batches : List Batch
@@ -45,29 +45,30 @@ pub record Keeps (plan : Plan) (shape : Shape) (is_second : Bool) (taken : ℕ)
   pub stands : StandsFor shape base entries disk
   pub joined : records_of batches ≡ base ++ entries
   pub is : IsRegisterOf plan base entries register
-  pub picks : LeavesNow disk (Picks is_second)
+  pub picks : LeavesNow disk (Picks is_in_second_half)
   pub counts : taken ≡ used batches
 
 -- the register is possible in the building, and an honest device keeps it
-pub record Guards (plan : Plan) (shape : Shape) (is_second : Bool) (taken : ℕ)
+pub record Guards (plan : Plan) (shape : Shape) (is_in_second_half : Bool) (taken : ℕ)
     (register : RegisterState) (disk : DiskState) : Type 0 where
   pub lawful : IsWellFormed register
   pub belongs : BelongsTo plan register
   pub balanced : IsBalanced register
-  pub keeps : disk.is_honest → Keeps plan shape is_second taken register disk
+  pub keeps : disk.is_honest → Keeps plan shape is_in_second_half taken register disk
 
 -- what is true of every writer
 pub record IsWriter {D : Type 0} (plan : Plan) (journal : JournalView D) (register : RegisterState)
-    (doubt : List Entry) (opened : ℕ) (is_broken : Bool) (disk : DiskState) : Type 0 where
+    (doubt : List Entry) (failures_at_opening : ℕ) (is_broken : Bool) (disk : DiskState)
+    : Type 0 where
   pub lawful : IsWellFormed register
   pub belongs : BelongsTo plan register
   pub balanced : IsBalanced register
-  pub counted : opened ≤ disk.failures
-  pub failed : is_broken ≡ true → opened < disk.failures
+  pub counted : failures_at_opening ≤ disk.failures
+  pub failed : is_broken ≡ true → failures_at_opening < disk.failures
   pub whole : is_broken ≡ false → journal.is_broken ≡ false
-  pub settled : is_broken ≡ false → doubt ≡ []
+  pub no_doubt : is_broken ≡ false → doubt ≡ []
   pub keeps : is_broken ≡ false → disk.is_honest
-      → Keeps plan journal.shape journal.is_second journal.used register disk
+      → Keeps plan journal.shape journal.is_in_second_half journal.used register disk
   pub leaves : is_broken ≡ true → LeavesNow disk (IsInDoubt plan register doubt)
 
 -- a batch of this many entries has room after this many used sectors of a half
@@ -90,8 +91,8 @@ room_used register used half count =
     if has_room used half count then used else sectors_for (length (base_records register))
 
 abbrev pub room_second : Bool → (used half count : ℕ) → Bool
-room_second is_second used half count =
-    if has_room used half count then is_second else not is_second
+room_second is_in_second_half used half count =
+    if has_room used half count then is_in_second_half else not is_in_second_half
 
 -- how many device calls a commit of this many entries makes, how many of them are writes, and the
 -- sectors used after it
@@ -108,32 +109,33 @@ commit_used register used half count =
     if count == 0 then used else room_used register used half count + (body_size count + 1)
 
 abbrev pub commit_second : Bool → (used half count : ℕ) → Bool
-commit_second is_second used half count =
-    if count == 0 then is_second else room_second is_second used half count
+commit_second is_in_second_half used half count =
+    if count == 0 then is_in_second_half else room_second is_in_second_half used half count
 
 -- A checkpoint has failed: the other half has the register alone then. Which half a fill leaves picked
 -- goes by its byte, and it is the same register in both.
-abbrev pub StopsFolding : Plan → ℕ → Bool → ℕ → RegisterState → DiskState → DiskState → Type 0
-StopsFolding plan half is_second taken register old new =
-    StopsAtMark (IsImageIn plan half is_second taken register)
-    (IsImageIn plan half (not is_second) (sectors_for (length (base_records register))) register)
-    is_second (sectors_for (length (base_records register)) + 2) old new
+abbrev pub FailsInCheckpoint : Plan → ℕ → Bool → ℕ → RegisterState → DiskState → DiskState → Type 0
+FailsInCheckpoint plan half is_in_second_half taken register old new =
+    FailsAtMark (IsImageIn plan half is_in_second_half taken register)
+    (IsImageIn plan half (not is_in_second_half) (sectors_for (length
+    (base_records register))) register)
+    is_in_second_half (sectors_for (length (base_records register)) + 2) old new
 
 -- The appending of a batch has failed, this many calls after the beginning: a fill leaves the batch
 -- just where its byte is the mark.
-abbrev pub StopsAdding : Plan → ℕ → Bool → ℕ → RegisterState → List Entry → ℕ → DiskState
+abbrev pub FailsInAppend : Plan → ℕ → Bool → ℕ → RegisterState → List Entry → ℕ → DiskState
     → DiskState → Type 0
-StopsAdding plan half is_second taken register batch before old new =
-    StopsAtMark (IsImageIn plan half is_second taken register)
-    (IsImageIn plan half is_second (taken + (body_size (length batch) + 1))
+FailsInAppend plan half is_in_second_half taken register batch before old new =
+    FailsAtMark (IsImageIn plan half is_in_second_half taken register)
+    (IsImageIn plan half is_in_second_half (taken + (body_size (length batch) + 1))
     (register_of register batch)) false (before + (body_size (length batch) + 2)) old new
 
 -- A commit has failed: within its checkpoint, if it needs one, or after it.
-pub record StopsCommit (plan : Plan) (half : ℕ) (is_second : Bool) (taken : ℕ)
+pub record IsFailedCommit (plan : Plan) (half : ℕ) (is_in_second_half : Bool) (taken : ℕ)
     (register : RegisterState) (batch : List Entry) (old new : DiskState) : Type 0 where
   pub folding : new.calls ≤ old.calls + room_call_count register taken half (length batch)
-      → StopsFolding plan half is_second taken register old new
+      → FailsInCheckpoint plan half is_in_second_half taken register old new
   pub adding : old.calls + room_call_count register taken half (length batch) < new.calls
-      → StopsAdding plan half (room_second is_second taken half (length batch))
+      → FailsInAppend plan half (room_second is_in_second_half taken half (length batch))
       (room_used register taken half (length batch)) register batch
       (room_call_count register taken half (length batch)) old new

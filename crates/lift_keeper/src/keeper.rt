@@ -75,7 +75,7 @@ impl<'b, D: Disk> Keeper<'b, D> {
     pub fn is_broken(&self) -> bool
         ensures value { result ≡ self.now.writer.is_broken }
         ensures failed { self.now.writer.is_broken ≡ true
-            → self.now.writer.opened < (D.state self.now.writer.device).failures }
+            → self.now.writer.failures_at_opening < (D.state self.now.writer.device).failures }
     {
         self.writer.is_broken()
     }
@@ -116,7 +116,7 @@ impl<'b, D: Disk> Keeper<'b, D> {
             (IsInDoubt self.now.writer.plan result.now self.now.writer.doubt) }
         ensures placed { self.now.writer.is_broken ≡ false
             → LeavesNow (D.state self.now.writer.device)
-            (IsImageIn self.now.writer.plan self.now.writer.half self.now.writer.is_second
+            (IsImageIn self.now.writer.plan self.now.writer.half self.now.writer.is_in_second_half
             self.now.writer.used result.now) }
     {
         self.writer.register()
@@ -171,7 +171,7 @@ impl<'b, D: Disk> Keeper<'b, D> {
         // What a crash may leave at each moment of it, why it fails, and what stays.
         ensures commits { Commits
             D.state self.old.writer self.old.state.batch self.new.writer result }
-        // How many calls the device gets, and what a commit that it stopped leaves.
+        // How many calls the device gets, and what a commit that it failed leaves.
         ensures calls { CommitCalls
             D.state self.old.writer (length self.old.state.batch) self.new.writer result }
         // What is safe at Ok is what it shows.

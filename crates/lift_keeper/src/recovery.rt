@@ -6,7 +6,7 @@ ghost use Rattle.lift_register.specs.Prelude.{register_of, Fits, BelongsTo, IsBa
 ghost use Rattle.lift_register.specs.Prelude.{IsWellFormed};
 ghost use Rattle.lift_register.specs.Base.{BaseFits, with_record};
 ghost use Rattle.lift_keeper.specs.Recovery.{beginning, leaves_open, Passes, passed, AllPass};
-ghost use Rattle.lift_keeper.specs.Recovery.{all_passed, StopsAt};
+ghost use Rattle.lift_keeper.specs.Recovery.{all_passed, EndsAtMisfit};
 
 use lift_base::{Entry, Record};
 use lift_building::Building;
@@ -123,7 +123,7 @@ impl<'b> Recovery<'b> {
         requires room { self.old.taken + length records.now + 1 < 2 ^ 32 }
         ensures pass { IsTrue result
             → AllPass self.old records.now × (self.new ≡ all_passed self.old records.now) }
-        ensures stops { IsFalse result → StopsAt self.old self.new records.now }
+        ensures misfit { IsFalse result → EndsAtMisfit self.old self.new records.now }
         ensures plan { self.new.plan ≡ self.old.plan }
         ensures limit { self.new.taken ≤ self.old.taken + length records.now }
     {

@@ -14,7 +14,8 @@ ghost use Rattle.lift_journal.specs.Order.{IsEntry};
 ghost use Rattle.lift_journal.specs.Steps.{Makes};
 ghost use Rattle.lift_journal.specs.Told.{AnswersAsTold};
 ghost use Rattle.lift_keeper.specs.Images.{IsImageOf, IsInDoubt};
-ghost use Rattle.lift_keeper.specs.Writer.{Keeps, Guards, StopsFolding, StopsCommit, room_call_count};
+ghost use Rattle.lift_keeper.specs.Writer.{Keeps, Guards, FailsInCheckpoint, IsFailedCommit};
+ghost use Rattle.lift_keeper.specs.Writer.{room_call_count};
 ghost use Rattle.lift_keeper.specs.Writer.{room_write_count, room_used, room_second};
 
 use arrayvec::ArrayVec;
@@ -32,32 +33,33 @@ fn make_room<D: Disk>(
 ) -> Result<(), JournalFault>
     requires whole { journal.old.is_broken ≡ false }
     ensures any_moment { (plan : Plan)
-        → Guards plan journal.old.shape journal.old.is_second journal.old.used register.now
+        → Guards plan journal.old.shape journal.old.is_in_second_half journal.old.used register.now
         (D.state journal.old.device)
         → LeavesOnly (D.state journal.old.device) (D.state journal.new.device)
         (IsImageOf plan register.now) }
     ensures keeps { OnOk result ((plan : Plan)
-        → Guards plan journal.old.shape journal.old.is_second journal.old.used register.now
+        → Guards plan journal.old.shape journal.old.is_in_second_half journal.old.used register.now
         (D.state journal.old.device)
         → (D.state journal.new.device).is_honest
-        → Keeps plan journal.new.shape journal.new.is_second journal.new.used register.now
+        → Keeps plan journal.new.shape journal.new.is_in_second_half journal.new.used register.now
         (D.state journal.new.device)) }
     ensures room { OnOk result (journal.new.used + body_size count + 2 ≤ journal.new.shape.half) }
     ensures used { OnOk result (journal.new.used
         ≡ room_used register.now journal.old.used journal.old.shape.half count) }
-    ensures second { OnOk result (journal.new.is_second
-        ≡ room_second journal.old.is_second journal.old.used journal.old.shape.half count) }
+    ensures second { OnOk result (journal.new.is_in_second_half
+        ≡ room_second journal.old.is_in_second_half journal.old.used journal.old.shape.half count) }
     ensures runs { RunsOn (D.state journal.old.device) (D.state journal.new.device) }
     ensures made { Makes result
         (room_call_count register.now journal.old.used journal.old.shape.half count)
         (room_write_count register.now journal.old.used journal.old.shape.half count)
         (D.state journal.old.device) (D.state journal.new.device) }
     ensures told { AnswersAsTold result (D.state journal.old.device) (D.state journal.new.device) }
-    ensures stops { OnErr result ((plan : Plan)
-        → Guards plan journal.old.shape journal.old.is_second journal.old.used register.now
+    ensures fails { OnErr result ((plan : Plan)
+        → Guards plan journal.old.shape journal.old.is_in_second_half journal.old.used register.now
         (D.state journal.old.device)
         → (D.state journal.old.device).is_honest → (D.state journal.old.device).is_inert
-        → StopsFolding plan journal.old.shape.half journal.old.is_second journal.old.used
+        → FailsInCheckpoint plan journal.old.shape.half journal.old.is_in_second_half
+        journal.old.used
         register.now (D.state journal.old.device) (D.state journal.new.device)) }
     ensures breaks { BreaksByFault D.state journal.old journal.new result }
     ensures causes { IfErr result (λ fault. fault ≡ JournalFault.Disk) }
@@ -81,22 +83,22 @@ pub fn store<D: Disk>(
     requires entries { All IsEntry records.now.items }
     ensures any_moment { (plan : Plan) (batch : List EntryValue)
         → records.now.items ≡ map EntryRecord batch → FitFrom plan register.now batch
-        → Guards plan journal.old.shape journal.old.is_second journal.old.used register.now
+        → Guards plan journal.old.shape journal.old.is_in_second_half journal.old.used register.now
         (D.state journal.old.device)
         → LeavesOnly (D.state journal.old.device) (D.state journal.new.device)
         (IsInDoubt plan register.now batch) }
     ensures keeps { OnOk result ((plan : Plan) (batch : List EntryValue)
         → records.now.items ≡ map EntryRecord batch → FitFrom plan register.now batch
-        → Guards plan journal.old.shape journal.old.is_second journal.old.used register.now
+        → Guards plan journal.old.shape journal.old.is_in_second_half journal.old.used register.now
         (D.state journal.old.device)
         → (D.state journal.new.device).is_honest
-        → Keeps plan journal.new.shape journal.new.is_second journal.new.used
+        → Keeps plan journal.new.shape journal.new.is_in_second_half journal.new.used
         (register_of register.now batch) (D.state journal.new.device)) }
     ensures used { OnOk result (journal.new.used
         ≡ room_used register.now journal.old.used journal.old.shape.half (length records.now.items)
         + (body_size (length records.now.items) + 1)) }
-    ensures second { OnOk result (journal.new.is_second
-        ≡ room_second journal.old.is_second journal.old.used journal.old.shape.half
+    ensures second { OnOk result (journal.new.is_in_second_half
+        ≡ room_second journal.old.is_in_second_half journal.old.used journal.old.shape.half
         (length records.now.items)) }
     ensures runs { RunsOn (D.state journal.old.device) (D.state journal.new.device) }
     ensures made { Makes result
@@ -106,12 +108,12 @@ pub fn store<D: Disk>(
         + (body_size (length records.now.items) + 2))
         (D.state journal.old.device) (D.state journal.new.device) }
     ensures told { AnswersAsTold result (D.state journal.old.device) (D.state journal.new.device) }
-    ensures stops { OnErr result ((plan : Plan) (batch : List EntryValue)
+    ensures fails { OnErr result ((plan : Plan) (batch : List EntryValue)
         → records.now.items ≡ map EntryRecord batch → FitFrom plan register.now batch
-        → Guards plan journal.old.shape journal.old.is_second journal.old.used register.now
+        → Guards plan journal.old.shape journal.old.is_in_second_half journal.old.used register.now
         (D.state journal.old.device)
         → (D.state journal.old.device).is_honest → (D.state journal.old.device).is_inert
-        → StopsCommit plan journal.old.shape.half journal.old.is_second journal.old.used
+        → IsFailedCommit plan journal.old.shape.half journal.old.is_in_second_half journal.old.used
         register.now batch (D.state journal.old.device) (D.state journal.new.device)) }
     ensures breaks { BreaksByFault D.state journal.old journal.new result }
     ensures causes { IfErr result (λ fault. fault ≡ JournalFault.Disk) }

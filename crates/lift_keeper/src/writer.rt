@@ -34,7 +34,7 @@ pub struct Writer<'b, D: Disk> {
     /// The batch that a fault left in doubt.
     doubt: Snapshot<ArrayVec<Entry, MOST_ENTRIES>>,
     /// The journal when it was last opened.
-    opened: Snapshot<Journal<D>>,
+    at_opening: Snapshot<Journal<D>>,
     /// Room for the records of a batch, so that none is made for each.
     records: ArrayVec<Record, MOST_ENTRIES>,
 }
@@ -48,17 +48,17 @@ impl<'b, D: Disk> Model for Writer<'b, D> {
       plan = w.building.now;
       device = w.journal.device;
       half = w.journal.shape.half;
-      is_second = w.journal.is_second;
+      is_in_second_half = w.journal.is_in_second_half;
       used = w.journal.used;
       register = w.register;
       doubt = w.doubt.value.items;
-      opened = (D.state w.opened.value.device).failures;
+      failures_at_opening = (D.state w.at_opening.value.device).failures;
       is_broken = w.is_broken;
     } };
 
     ghost invariant = { λ w.
         IsWriter w.building.now w.journal w.register w.doubt.value.items
-        (D.state w.opened.value.device).failures w.is_broken (D.state w.journal.device) };
+        (D.state w.at_opening.value.device).failures w.is_broken (D.state w.journal.device) };
 }
 
 impl<'b, D: Disk> Writer<'b, D> {
@@ -84,14 +84,14 @@ impl<'b, D: Disk> Writer<'b, D> {
         };
         match recovered(&journal, reading, building) {
             Ok(register) => {
-                let opened = Snapshot::of(&journal);
+                let at_opening = Snapshot::of(&journal);
                 Ok(Writer {
                     building,
                     journal,
                     register,
                     is_broken: false,
                     doubt: Snapshot::of(&ArrayVec::new()),
-                    opened,
+                    at_opening,
                     records: ArrayVec::new(),
                 })
             }
@@ -112,10 +112,11 @@ impl<'b, D: Disk> Writer<'b, D> {
         ensures in_doubt { self.now.is_broken ≡ true
             → LeavesNow (D.state self.now.device)
             (IsInDoubt self.now.plan result.now self.now.doubt) }
-        ensures settled { self.now.is_broken ≡ false → self.now.doubt ≡ [] }
+        ensures no_doubt { self.now.is_broken ≡ false → self.now.doubt ≡ [] }
         ensures placed { self.now.is_broken ≡ false
             → LeavesNow (D.state self.now.device)
-            (IsImageIn self.now.plan self.now.half self.now.is_second self.now.used result.now) }
+            (IsImageIn self.now.plan self.now.half self.now.is_in_second_half self.now.used
+            result.now) }
     {
         &self.register
     }
@@ -124,7 +125,7 @@ impl<'b, D: Disk> Writer<'b, D> {
     pub fn is_broken(&self) -> bool
         ensures value { result ≡ self.now.is_broken }
         ensures failed { self.now.is_broken ≡ true
-            → self.now.opened < (D.state self.now.device).failures }
+            → self.now.failures_at_opening < (D.state self.now.device).failures }
     {
         self.is_broken
     }
@@ -169,7 +170,7 @@ impl<'b, D: Disk> Writer<'b, D> {
                 self.register = register;
                 self.is_broken = false;
                 self.doubt = Snapshot::of(&ArrayVec::new());
-                self.opened = Snapshot::of(&self.journal);
+                self.at_opening = Snapshot::of(&self.journal);
                 Ok(())
             }
             Err(fault) => {
@@ -214,10 +215,11 @@ impl<'b, D: Arm> Writer<'b, D> {
 fn reopened<D: Disk>(journal: &mut Journal<D>, building: &Building) -> Result<Register, KeeperFault>
     ensures opens { IfOk result (λ register.
         Reopens building.now (D.state journal.old.device)
-        (D.state journal.new.device) register journal.new.shape.half journal.new.is_second
+        (D.state journal.new.device) register journal.new.shape.half journal.new.is_in_second_half
         journal.new.used) }
     ensures guards { IfOk result (λ register.
-        Guards building.now journal.new.shape journal.new.is_second journal.new.used register
+        Guards building.now journal.new.shape journal.new.is_in_second_half journal.new.used
+        register
         (D.state journal.new.device)) }
     ensures whole { OnOk result (journal.new.is_broken ≡ false) }
     ensures refused { IfErr result (λ fault.
@@ -226,11 +228,12 @@ fn reopened<D: Disk>(journal: &mut Journal<D>, building: &Building) -> Result<Re
     ensures stays { IfErr result (λ fault. (fault ≡ KeeperFault.Journal JournalFault.Disk)
         ⊎ (journal.new.is_broken ≡ journal.old.is_broken)) }
     ensures unmoved { OnErr result ((journal.new.shape ≡ journal.old.shape)
-        × (journal.new.is_second ≡ journal.old.is_second) × (journal.new.used ≡ journal.old.used)) }
+        × (journal.new.is_in_second_half ≡ journal.old.is_in_second_half)
+        × (journal.new.used ≡ journal.old.used)) }
     ensures number { OnErr result (journal.new.number ≡ journal.old.number) }
     ensures calls { OnOk result
         (OpeningCalls building.now (D.state journal.old.device) (D.state journal.new.device)
-        journal.new.shape.half journal.new.is_second journal.new.used) }
+        journal.new.shape.half journal.new.is_in_second_half journal.new.used) }
     ensures calls_before { IfErr result (λ fault.
         RefusedCalls (D.state journal.old.device) (D.state journal.new.device) fault) }
 {

@@ -18,7 +18,7 @@ use Rattle.lift_world.specs.Next.{run, goes}
 use Rattle.lift_world.specs.Headline.{HearsInOrder, QueuesFew, AllAskOneByOne}
 use Rattle.lift_world.specs.Relay.{IsQueueInOrder, IsBetweenScans}
 use Rattle.lift_clerk.specs.Clerk.{ClerkState}
-use Rattle.lift_clerk.specs.Turn.{settled}
+use Rattle.lift_clerk.specs.Turn.{without_batch}
 use Rattle.lift_clerk.specs.Machine.{IsReached, IsMachineOf, ShowsWords}
 use Rattle.lift_clerk.specs.lemmas.Turned.{safe_all}
 use Rattle.lift_parts.specs.Batch.{BatchState}
@@ -87,8 +87,8 @@ queued_none count queue none = subst (AreQueued count []) (sym none) tt
 decided_none : (from : ℕ) (queue : List SealedBatch) → queue ≡ [] → AreDecided from [] queue
 decided_none from queue none = subst (AreDecided from []) (sym none) tt
 
-settled_same : (state : State) → state.batch ≡ [] → settled state ≡ state
-settled_same state none = ap (λ (xs : List Entry). record state { batch = xs }) (sym none)
+without_none : (state : State) → state.batch ≡ [] → without_batch state ≡ state
+without_none state none = ap (λ (xs : List Entry). record state { batch = xs }) (sym none)
 
 -- what is sealed isn't gathered any more
 pub nothing_gathered : (w : World) → IsBetweenScans w → (state_of w).batch ≡ []
@@ -115,7 +115,7 @@ module _ {D P : Type 0} (laws : RelayLaws) (w : World) (clerk : ClerkState D P) 
       let none : clerk.keeper.state.batch ≡ [] = ap (λ (s : State). s.batch) (sym k.state) ∙ nothing_gathered w there.0 in
       record {
         between = ((laws.parts w).split k.at_rest).1;
-        state = k.state ∙ sym (settled_same clerk.keeper.state none) ∙ sym p.state;
+        state = k.state ∙ sym (without_none clerk.keeper.state none) ∙ sym p.state;
         accepted = sym (safe_all w k.at_rest) ∙ sym (append-nil (safe_list w));
         decided = decided_none (length (safe_list w)) w.queue there.1;
         register = is.safe e;

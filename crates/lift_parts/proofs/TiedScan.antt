@@ -33,7 +33,7 @@ use Rattle.lift_world.specs.Next.{unanswered}
 use Rattle.lift_world.specs.Among.{StandsAsk}
 use Rattle.lift_world.specs.Headline.{AsksOneByOne}
 use Rattle.lift_world.specs.Turns.{AreFound}
-use Rattle.lift_clerk.specs.Turn.{settled}
+use Rattle.lift_clerk.specs.Turn.{without_batch}
 use Rattle.lift_clerk.specs.Visits.{Visit, AreLooksAt, command_at, commands_of, looked_at}
 use Rattle.lift_clerk.specs.Machine.{IsReached}
 use Rattle.lift_clerk.specs.lemmas.Lists.{no_asks}
@@ -419,7 +419,7 @@ nothing_taken {D} {P} choice w a b f counts t none m =
     (λ e q.
     let same : t.decided ≡ a.state = empty_run a.plan choice a.state t.decided (commands_of 0 t.visits) (replies_in t.batch.commands) none t.run in
     let empty : a.state.batch ≡ [] = ap (λ (x : State). x.batch) (sym q) ∙ nothing_gathered w m.between in
-    t.after ∙ ap settled same ∙ ap (λ (xs : List Entry). record a.state { batch = xs }) (sym empty))
+    t.after ∙ ap without_batch same ∙ ap (λ (xs : List Entry). record a.state { batch = xs }) (sym empty))
     (ap (λ (x : List ClerkPlace). length x) t.looked ∙ length-looked a.seat t.visits)
     (t.nothing none).0
     (λ k. nothing_seen choice a b counts t none k)

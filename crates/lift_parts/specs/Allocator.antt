@@ -7,7 +7,7 @@ use Rattle.lift_policy.specs.Eligible.{Choice}
 use Rattle.lift_policy.specs.Step.{State}
 use Rattle.lift_policy.specs.Run.{Run}
 use Rattle.lift_clerk.specs.declared.counts.Counts.{Counts}
-use Rattle.lift_clerk.specs.Turn.{settled}
+use Rattle.lift_clerk.specs.Turn.{without_batch}
 use Rattle.lift_clerk.specs.Visits.{Visit, commands_of, looked_at}
 use Rattle.lift_parts.specs.Batch.{BatchState, turns_behind, turns_of, commands_in}
 use Rattle.lift_parts.specs.Batch.{replies_in, noted_in}
@@ -35,7 +35,8 @@ DecidesAlong plan choice state [] last = last ≡ state
 DecidesAlong plan choice state (batch ∷ batches) last =
     (decided : State) × Run plan choice state (commands_in batch.commands)
     (replies_in batch.commands) decided
-    × (batch.entries ≡ decided.batch) × DecidesAlong plan choice (settled decided) batches last
+    × (batch.entries ≡ decided.batch)
+    × DecidesAlong plan choice (without_batch decided) batches last
 
 -- where the batches go on from what was sent: after a batch in hand
 abbrev pub GoesOnBehind : Plan → List TableId → State → List ℕ → List BatchState → State → List ℕ → Type 0
@@ -86,7 +87,7 @@ pub record IsScanTurn {P : Type 0} (choice : Choice) (old new : AllocatorState P
   pub notes : noted_in batch.commands ≡ words_of visits
   pub run : Run old.plan choice old.state (commands_of 0 visits) (replies_in batch.commands) decided
   pub entries : batch.entries ≡ decided.batch
-  pub after : new.state ≡ settled decided
+  pub after : new.state ≡ without_batch decided
   pub nothing : commands_of 0 visits ≡ [] → (new.end.sent ++ new.hand ≡ old.end.sent ++ old.hand)
       × (new.hand ≡ [])
   pub some : commands_of 0 visits ≢ []

@@ -28,8 +28,8 @@ pub record FlusherState (D : Type 0) : Type 0 where
   pub end : ReceiveState
 
 -- Every ask that these seats took is answered, and none of a terminal is later than this turn.
-abbrev pub IsSettled : List ClerkPlace → List ℕ → Type 0
-IsSettled places turns = (t : ℕ)
+abbrev pub AllAnsweredBy : List ClerkPlace → List ℕ → Type 0
+AllAnsweredBy places turns = (t : ℕ)
     → (¬ Owes (view_at places t))
     × (turn_of (last_of (view_at places t).taken) ≤ slice_index_or turns t 0)
 
@@ -40,7 +40,7 @@ pub record IsFlusher {D : Type 0} (f : FlusherState D) : Type 0 where
   pub of_building : f.end.building ≡ f.writer.plan
   pub at_desk : f.end.desk ≡ f.desk
   pub safe : f.writer.is_broken ≡ false → f.writer.register ≡ f.end.state.register
-  pub settled : IsSettled f.seat f.end.turns
+  pub all_answered : AllAnsweredBy f.seat f.end.turns
 
 -- One command: its terminal was looked at once, the look read the word that its note says and gave
 -- the command, and its answer was stored: its reply where that is safe, else Unknown; and nothing

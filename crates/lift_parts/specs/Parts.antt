@@ -2,7 +2,7 @@
 use Rattle.std.specs.Prelude.{◌≡◌, ◌⊎◌, true, []}
 use Rattle.lift_desk.specs.Seats.{OwesNothing, ahead_from}
 use Rattle.lift_clerk.specs.Clerk.{ClerkState}
-use Rattle.lift_clerk.specs.Turn.{settled}
+use Rattle.lift_clerk.specs.Turn.{without_batch}
 use Rattle.lift_parts.specs.Allocator.{AllocatorState}
 use Rattle.lift_parts.specs.Flusher.{FlusherState}
 
@@ -13,7 +13,7 @@ pub record AreParts {D P : Type 0} (clerk : ClerkState D P) (a : AllocatorState 
   pub ahead : a.seat ≡ ahead_from clerk.seat
   pub seat : f.seat ≡ clerk.seat
   pub plan : a.plan ≡ clerk.keeper.writer.plan
-  pub state : a.state ≡ settled clerk.keeper.state
+  pub state : a.state ≡ without_batch clerk.keeper.state
   pub start : a.start ≡ a.state
   pub policy : a.policy ≡ clerk.policy
   pub writer : f.writer ≡ clerk.keeper.writer

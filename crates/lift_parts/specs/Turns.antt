@@ -75,4 +75,4 @@ pub record IsSameFlusher {D : Type 0} (old new : FlusherState D) : Type 0 where
   pub desk : new.desk ≡ old.desk
   pub plan : new.writer.plan ≡ old.writer.plan
   pub half : new.writer.half ≡ old.writer.half
-  pub opened : new.writer.opened ≡ old.writer.opened
+  pub failures_at_opening : new.writer.failures_at_opening ≡ old.writer.failures_at_opening

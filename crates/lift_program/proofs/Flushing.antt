@@ -11,9 +11,9 @@ use Rattle.lift_program.specs.Ends.{IsFileFault, IsShowingFault}
 use Rattle.lift_program.specs.Output.{WriterHasFailed}
 use Rattle.lift_disk.specs.Disk.{DiskState}
 use Rattle.lift_disk.specs.declared.file.FileFault.{FileFault}
-use Rattle.lift_program.specs.Stages.{IsBuildingFault, IsUnkept, fault_in}
-use Rattle.lift_program.specs.declared.left.Undone.{Undone}
-use Rattle.lift_program.specs.declared.left.Undone.TheVariants.{NoBuilding, NoImage, Opened}
+use Rattle.lift_program.specs.Stages.{IsBuildingFault, IsKeeperFailure, fault_in}
+use Rattle.lift_program.specs.declared.leftover.Failure.{Failure}
+use Rattle.lift_program.specs.declared.leftover.Failure.TheVariants.{NoBuilding, NoImage, Opened}
 use Rattle.lift_program.specs.declared.fault.Fault.{Fault}
 use Rattle.lift_program.specs.declared.fault.Fault.TheVariants.{File, Memory, Network}
 use Rattle.lift_program.specs.declared.fault.Role.TheVariants.{Building as OfBuilding, Image as OfImage, Output}
@@ -53,15 +53,15 @@ image_no_network : (fault : Fault) → IsFileFault OfImage fault → fault ≡ N
 image_no_network fault (inl is) same = absurd (let other = sym is ∙ same in cc)
 image_no_network fault (inr is) same = subst IsOfBuilding (sym is ∙ same) tt
 
-pub unkept_no_output : {D F O : Type 0} (is_fresh : D → Type 0) (state : D → DiskState) (is_refused : FileFault F O → Type 0) (plan : Plan) (undone : Undone D F O) → IsUnkept is_fresh state is_refused plan undone → fault_in undone ≡ File Output → ⊥
-unkept_no_output is_fresh state is_refused plan (NoBuilding fault unused) never same = absurd never
-unkept_no_output is_fresh state is_refused plan (NoImage refused) is same = image_no_output refused.fault is.is_fault same
-unkept_no_output is_fresh state is_refused plan (Opened fault left) is same = absurd (let other = sym is.is_refusal ∙ same in cc)
+pub keeper_failure_no_output : {D F O : Type 0} (is_fresh : D → Type 0) (state : D → DiskState) (is_refused : FileFault F O → Type 0) (plan : Plan) (failure : Failure D F O) → IsKeeperFailure is_fresh state is_refused plan failure → fault_in failure ≡ File Output → ⊥
+keeper_failure_no_output is_fresh state is_refused plan (NoBuilding fault unused) never same = absurd never
+keeper_failure_no_output is_fresh state is_refused plan (NoImage refused) is same = image_no_output refused.fault is.is_fault same
+keeper_failure_no_output is_fresh state is_refused plan (Opened fault left) is same = absurd (let other = sym is.is_refusal ∙ same in cc)
 
-pub unkept_no_network : {D F O : Type 0} (is_fresh : D → Type 0) (state : D → DiskState) (is_refused : FileFault F O → Type 0) (plan : Plan) (undone : Undone D F O) → IsUnkept is_fresh state is_refused plan undone → fault_in undone ≡ Network → ⊥
-unkept_no_network is_fresh state is_refused plan (NoBuilding fault unused) never same = absurd never
-unkept_no_network is_fresh state is_refused plan (NoImage refused) is same = image_no_network refused.fault is.is_fault same
-unkept_no_network is_fresh state is_refused plan (Opened fault left) is same = absurd (let other = sym is.is_refusal ∙ same in cc)
+pub keeper_failure_no_network : {D F O : Type 0} (is_fresh : D → Type 0) (state : D → DiskState) (is_refused : FileFault F O → Type 0) (plan : Plan) (failure : Failure D F O) → IsKeeperFailure is_fresh state is_refused plan failure → fault_in failure ≡ Network → ⊥
+keeper_failure_no_network is_fresh state is_refused plan (NoBuilding fault unused) never same = absurd never
+keeper_failure_no_network is_fresh state is_refused plan (NoImage refused) is same = image_no_network refused.fault is.is_fault same
+keeper_failure_no_network is_fresh state is_refused plan (Opened fault left) is same = absurd (let other = sym is.is_refusal ∙ same in cc)
 
 pub output_no_network : (fault : Fault) → IsFileFault Output fault → fault ≡ Network → ⊥
 output_no_network fault (inl is) same = subst IsShowingFault (sym is ∙ same) tt

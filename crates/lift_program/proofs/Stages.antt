@@ -8,7 +8,7 @@ use Rattle.lift_building.specs.Plan.{Plan, IsBuilding, shape_of}
 use Rattle.lift_building.specs.declared.fault.BuildingFault.{BuildingFault}
 use Rattle.lift_building.specs.declared.fault.BuildingFault.TheVariants.{NotToml, Missing, WrongType, OutOfRange, TableShape, Detour, Memory as NoRoom}
 use Rattle.lift_disk.specs.Disk.{DiskState, IsSynced, RunsOn}
-use Rattle.lift_journal.specs.Calls.{StopsIn, format_calls}
+use Rattle.lift_journal.specs.Calls.{MakesFront, format_calls}
 use Rattle.lift_journal.specs.Journal.{ReadsAs}
 use Rattle.lift_serve.specs.lemmas.Made.{made_keeps}
 use Rattle.lift_journal.specs.declared.fault.JournalFault.TheVariants.{Disk, NotFormatted, Damaged, Full, Broken}
@@ -29,9 +29,9 @@ use Rattle.lift_program.specs.Faults.{of_building}
 use Rattle.std.specs.declared.net.tcp.TcpListener.{TcpListener as Listener}
 use Rattle.lift_program.specs.Serving.{IsReadyOver}
 use Rattle.lift_program.specs.Showing.{ShowsFront, ShowsPart}
-use Rattle.lift_program.specs.Stages.{HasBuilding, HasKeeperOf, HasNoImage, HasNoKeeperOf, HasRecovered, IsBuildingFault, IsImageFault, IsLeftAs, IsNoImage, IsOpeningFault, IsUndone, IsUnkept, ReadsBuilding, StopsOver, most_text}
-use Rattle.lift_program.specs.declared.left.Undone.{Undone}
-use Rattle.lift_program.specs.declared.left.Undone.TheVariants.{NoBuilding, NoImage, Opened}
+use Rattle.lift_program.specs.Stages.{HasBuilding, HasKeeperOf, HasNoImage, HasNoKeeperOf, HasRecovered, IsBuildingFault, IsImageFault, IsLeftAs, IsNoImage, IsOpeningFault, IsFailure, IsKeeperFailure, ReadsBuilding, GoesNoFurther, most_text}
+use Rattle.lift_program.specs.declared.leftover.Failure.{Failure}
+use Rattle.lift_program.specs.declared.leftover.Failure.TheVariants.{NoBuilding, NoImage, Opened}
 use Rattle.lift_program.proofs.Writing.{part_shown}
 use Rattle.lift_program.specs.declared.fault.Fault.{Fault}
 use Rattle.lift_program.specs.declared.fault.Fault.TheVariants.{Building, Journal, File, Memory, Network, Thread}
@@ -61,7 +61,7 @@ pub has_building : (plan : Plan) (text : List ℕ) → length text ≤ most_text
 has_building plan text short described = record { text = text; read = refl; short = short; described = described }
 
 pub has_keeper : (files : ImageFiles) (path : List ℕ) (plan : Plan) (opened : files.Served) (keeper told : KeeperView files.Served) → told ≡ keeper → files.is_to_be_served path opened
-    → Reopens plan (files.served_state opened) (files.served_state keeper.writer.device) keeper.writer.register keeper.writer.half keeper.writer.is_second keeper.writer.used
+    → Reopens plan (files.served_state opened) (files.served_state keeper.writer.device) keeper.writer.register keeper.writer.half keeper.writer.is_in_second_half keeper.writer.used
     → keeper.state ≡ starting keeper.writer.register → keeper.writer.is_broken ≡ false → keeper.writer.doubt ≡ [] → keeper.writer.plan ≡ plan → HasKeeperOf files path plan told
 has_keeper files path plan opened keeper told same fresh recovers starts whole no_doubt own =
     subst (λ (k : KeeperView files.Served). HasKeeperOf files path plan k) (sym same) (record { opened = opened; fresh = fresh; recovers = recovers; starts = starts; whole = whole; no_doubt = no_doubt; own = own })
@@ -96,11 +96,11 @@ is_made files path building plan half image left told same has sound fresh runs 
 
 -- the journal couldn't be made
 pub is_unformatted : (files : CommandFiles) (path building : List ℕ) (plan : Plan) (half : ℕ) (image left told : files.image.Made) (fault : Fault) → told ≡ left → HasBuilding (files.is_text building) plan → files.image.is_just_made path (2 + 2 * half) image
-    → fault ≡ Journal (OfJournal Disk) → StopsIn (format_calls (shape_of plan half)) (files.image.made_state image) (files.image.made_state left) → RunsOn (files.image.made_state image) (files.image.made_state left)
+    → fault ≡ Journal (OfJournal Disk) → MakesFront (format_calls (shape_of plan half)) (files.image.made_state image) (files.image.made_state left) → RunsOn (files.image.made_state image) (files.image.made_state left)
     → (files.image.made_state image).failures < (files.image.made_state left).failures → IsUnformatted files path building half fault told
 is_unformatted files path building plan half image left told fault same has fresh is stops runs failed =
     subst (λ (d : files.image.Made). IsUnformatted files path building half fault d) (sym same)
-    (record { plan = plan; described = has; opened = image; fresh = fresh; is_fault = is; stops = stops; runs = runs; failed = failed })
+    (record { plan = plan; described = has; opened = image; fresh = fresh; is_fault = is; front = stops; runs = runs; failed = failed })
 
 pub reads_building : (is_text : List ℕ → Type 0) (plan : Plan) → HasBuilding is_text plan → ReadsBuilding is_text
 reads_building is_text plan has = (plan, has)
@@ -145,17 +145,17 @@ has_no_image {F} {O} is_refused fault given cause same is told refused =
 -- no image was had for a building that was read
 pub no_image : {F O : Type 0} (is_text : List ℕ → Type 0) (is_refused : FileFault F O → Type 0) (plan : Plan) (fault : Fault) (cause : FileFault F O) → HasBuilding is_text plan → HasNoImage is_refused fault cause
     → IsNoImage is_text is_refused fault cause
-no_image is_text is_refused plan fault cause has unhad = record { building = (plan, has); unhad = unhad }
+no_image is_text is_refused plan fault cause has unhad = record { building = (plan, has); no_image = unhad }
 
 -- all that a serving takes was had
 pub is_ready : (files : CommandFiles) (gives : Option Listener → Type 0) (image building : List ℕ) (plan standing : Plan) (keeper told : KeeperView files.image.Served) (listener listening : Listener) → told ≡ keeper → listening ≡ listener → standing ≡ plan
     → HasBuilding (files.is_text building) plan → HasKeeperOf files.image image standing keeper → keeper.state.batch ≡ [] → gives (Some listener) → IsReadyOver files gives image building told listening
-is_ready files gives image building plan standing keeper told listener listening same at stands has kept settled here =
+is_ready files gives image building plan standing keeper told listener listening same at stands has kept empty_batch here =
     subst (λ (k : KeeperView files.image.Served). IsReadyOver files gives image building k listening) (sym same) (subst (λ (l : Listener). IsReadyOver files gives image building keeper l) (sym at) (record {
       plan = standing;
       described = subst (HasBuilding (files.is_text building)) (sym stands) has;
       has = kept;
-      settled = settled;
+      empty_batch = empty_batch;
       here = here;
     }))
 
@@ -164,30 +164,30 @@ pub stands_so : (is_text : List ℕ → Type 0) (plan standing : Plan) → stand
 stands_so is_text plan standing same has = subst (HasBuilding is_text) (sym same) has
 
 -- the recovery was refused, or no image could be opened
-pub keeper_undone : {D F O : Type 0} (is_text : List ℕ → Type 0) (is_no_text : Type 0) (opener : O) (is_fresh : D → Type 0) (state : D → DiskState) (is_refused : FileFault F O → Type 0) (plan : Plan) (undone : Undone D F O) → HasBuilding is_text plan
-    → IsUnkept is_fresh state is_refused plan undone → IsUndone is_text is_no_text opener is_fresh state is_refused undone
-keeper_undone is_text is_no_text opener is_fresh state is_refused plan (NoBuilding fault unused) has never = absurd never
-keeper_undone is_text is_no_text opener is_fresh state is_refused plan (NoImage refused) has is = record { building = (plan, has); unhad = is }
-keeper_undone is_text is_no_text opener is_fresh state is_refused plan (Opened fault left) has is = record {
+pub keeper_failure : {D F O : Type 0} (is_text : List ℕ → Type 0) (is_no_text : Type 0) (opener : O) (is_fresh : D → Type 0) (state : D → DiskState) (is_refused : FileFault F O → Type 0) (plan : Plan) (failure : Failure D F O) → HasBuilding is_text plan
+    → IsKeeperFailure is_fresh state is_refused plan failure → IsFailure is_text is_no_text opener is_fresh state is_refused failure
+keeper_failure is_text is_no_text opener is_fresh state is_refused plan (NoBuilding fault unused) has never = absurd never
+keeper_failure is_text is_no_text opener is_fresh state is_refused plan (NoImage refused) has is = record { building = (plan, has); no_image = is }
+keeper_failure is_text is_no_text opener is_fresh state is_refused plan (Opened fault left) has is = record {
   plan = plan;
   building = has;
   opened = is.opened;
   fresh = is.fresh;
-  stops = subst (StopsOver plan (state is.opened) (state left)) (sym is.is_refusal) (opening_fault plan _ _ is.refusal is.refused, is.refused);
+  cause = subst (GoesNoFurther plan (state is.opened) (state left)) (sym is.is_refusal) (opening_fault plan _ _ is.refusal is.refused, is.refused);
   moments = is.refused.moments;
   unwritten = is.refused.writes;
 }
 
 -- after the recovery
 kept_left : (is_text : List ℕ → Type 0) (files : ImageFiles) (path : List ℕ) (plan : Plan) (keeper : KeeperView files.Served) (left : files.Served) (fault : Fault) → HasBuilding is_text plan → HasKeeperOf files path plan keeper → left ≡ keeper.writer.device
-    → ((old new : DiskState) → HasRecovered plan old new → StopsOver plan old new fault) → IsLeftAs is_text (files.is_to_be_served path) files.served_state fault left
+    → ((old new : DiskState) → HasRecovered plan old new → GoesNoFurther plan old new fault) → IsLeftAs is_text (files.is_to_be_served path) files.served_state fault left
 kept_left is_text files path plan keeper left fault has opened is stops =
     subst (λ (d : files.Served). IsLeftAs is_text (files.is_to_be_served path) files.served_state fault d) (sym is) (record {
       plan = plan;
       building = has;
       opened = opened.opened;
       fresh = opened.fresh;
-      stops = stops _ _ (keeper.writer.register, keeper.writer.half, keeper.writer.is_second, keeper.writer.used, opened.recovers);
+      cause = stops _ _ (keeper.writer.register, keeper.writer.half, keeper.writer.is_in_second_half, keeper.writer.used, opened.recovers);
       moments = opened.recovers.moments;
       unwritten = opened.recovers.writes;
     })
@@ -196,18 +196,18 @@ kept_left is_text files path plan keeper left fault has opened is stops =
 pub port_left : (is_text : List ℕ → Type 0) (files : ImageFiles) (path : List ℕ) (plan : Plan) (keeper : KeeperView files.Served) (left : files.Served) (fault : Fault) → HasBuilding is_text plan → HasKeeperOf files path plan keeper → left ≡ keeper.writer.device
     → fault ≡ Network → IsLeftAs is_text (files.is_to_be_served path) files.served_state fault left
 port_left is_text files path plan keeper left fault has opened is network =
-    kept_left is_text files path plan keeper left fault has opened is (λ old new recovered. subst (StopsOver plan old new) (sym network) recovered)
+    kept_left is_text files path plan keeper left fault has opened is (λ old new recovered. subst (GoesNoFurther plan old new) (sym network) recovered)
 
 -- the standard output failed, or memory was wanting
 pub output_left : (is_text : List ℕ → Type 0) (files : ImageFiles) (path : List ℕ) (plan : Plan) (keeper : KeeperView files.Served) (left : files.Served) (fault : Fault) → HasBuilding is_text plan → HasKeeperOf files path plan keeper → left ≡ keeper.writer.device
     → IsFileFault Output fault → IsLeftAs is_text (files.is_to_be_served path) files.served_state fault left
 output_left is_text files path plan keeper left fault has opened is (inl output) =
-    kept_left is_text files path plan keeper left fault has opened is (λ old new recovered. subst (StopsOver plan old new) (sym output) recovered)
+    kept_left is_text files path plan keeper left fault has opened is (λ old new recovered. subst (GoesNoFurther plan old new) (sym output) recovered)
 output_left is_text files path plan keeper left fault has opened is (inr memory) =
-    kept_left is_text files path plan keeper left fault has opened is (λ old new recovered. subst (StopsOver plan old new) (sym memory) recovered)
+    kept_left is_text files path plan keeper left fault has opened is (λ old new recovered. subst (GoesNoFurther plan old new) (sym memory) recovered)
 
 recovered_left : {D : Type 0} (is_text : List ℕ → Type 0) (is_fresh : D → Type 0) (state : D → DiskState) (plan : Plan) (opened left : D) (before after : Option (List ℕ)) (fault : Fault) → HasBuilding is_text plan
-    → is_fresh opened → (HasRecovered plan (state opened) (state left) → StopsOver plan (state opened) (state left) fault)
+    → is_fresh opened → (HasRecovered plan (state opened) (state left) → GoesNoFurther plan (state opened) (state left) fault)
     → ShowsFront plan (state opened) (state left) before after → IsLeftAs is_text is_fresh state fault left
 recovered_left is_text is_fresh state plan opened left before after fault has fresh stops shows =
     let r = shows.recovers in
@@ -216,7 +216,7 @@ recovered_left is_text is_fresh state plan opened left before after fault has fr
       building = has;
       opened = opened;
       fresh = fresh;
-      stops = stops (shows.register, r.half, r.is_second, r.used, r.reopens);
+      cause = stops (shows.register, r.half, r.is_in_second_half, r.used, r.reopens);
       moments = r.reopens.moments;
       unwritten = r.reopens.writes;
     }
@@ -229,7 +229,7 @@ shown_left : {D : Type 0} (is_text : List ℕ → Type 0) (is_fresh : D → Type
 shown_left is_text is_fresh state plan opened left before after (Building fault) has fresh is refused front = absurd is
 shown_left is_text is_fresh state plan opened left before after (Journal fault) has fresh is refused front =
     let r = refused fault refl in
-    record { plan = plan; building = has; opened = opened; fresh = fresh; stops = (is, r); moments = r.moments; unwritten = r.writes }
+    record { plan = plan; building = has; opened = opened; fresh = fresh; cause = (is, r); moments = r.moments; unwritten = r.writes }
 shown_left is_text is_fresh state plan opened left before after (File OfBuilding) has fresh is refused front = absurd is
 shown_left is_text is_fresh state plan opened left before after (File OfImage) has fresh is refused front = absurd is
 shown_left is_text is_fresh state plan opened left before after (File Input) has fresh is refused front = absurd is

@@ -10,7 +10,7 @@ use Rattle.lift_base.specs.Output.{OutputState}
 use Rattle.lift_building.specs.Plan.{Plan, shape_of}
 use Rattle.lift_disk.specs.Disk.{LeavesNow, RunsOn}
 use Rattle.lift_disk.specs.declared.file.FileFault.{FileFault}
-use Rattle.lift_journal.specs.Calls.{StopsIn, format_calls}
+use Rattle.lift_journal.specs.Calls.{MakesFront, format_calls}
 use Rattle.lift_journal.specs.declared.fault.JournalFault.TheVariants.{Disk}
 use Rattle.lift_keeper.specs.Keeper.{KeeperView}
 use Rattle.lift_keeper.specs.declared.fault.KeeperFault.TheVariants.{Journal as OfJournal}
@@ -40,8 +40,9 @@ use Rattle.lift_program.specs.declared.end.End.{End}
 use Rattle.lift_program.specs.declared.end.End.TheVariants.{Replayed, Formatted, Shown, Served}
 use Rattle.lift_program.specs.declared.end.End.TheVariants.{Failed, NoImage, Unformatted, Unshown}
 use Rattle.lift_program.specs.declared.end.End.TheVariants.{Unserved, OtherWords}
-use Rattle.lift_program.specs.declared.left.Undone.{Undone}
-use Rattle.lift_program.specs.declared.left.Undone.TheVariants.{NoBuilding, NoImage as NoImageHad, Opened}
+use Rattle.lift_program.specs.declared.leftover.Failure.{Failure}
+use Rattle.lift_program.specs.declared.leftover.Failure.TheVariants.{NoBuilding}
+use Rattle.lift_program.specs.declared.leftover.Failure.TheVariants.{NoImage as NoImageHad, Opened}
 use Rattle.lift_program.specs.declared.words.Request.{Request}
 use Rattle.lift_program.specs.declared.words.Request.TheVariants.{Replay, Format, Show, Serve}
 
@@ -137,18 +138,18 @@ abbrev pub IsFailureTold : {E : Type 0} → (contents : E → Option (List ℕ))
 IsFailureTold contents old new =
     IsWrittenOrFailed contents old new (fault_text (Journal (OfJournal Disk)) ++ 10 ∷ [])
 
--- what the work is undone for, if it is
-abbrev pub undone_for : {M S V F O : Type 0} → End M S V F O → Option Fault
-undone_for (Replayed verdict unused) = None
-undone_for (Formatted disk) = None
-undone_for (Shown disk) = None
-undone_for (Served port fault left ending) = None
-undone_for (Failed fault unused) = Some fault
-undone_for (NoImage fault cause) = Some fault
-undone_for (Unformatted fault left) = Some fault
-undone_for (Unshown fault left) = Some fault
-undone_for (Unserved fault left) = Some fault
-undone_for (OtherWords unused) = None
+-- what the command has failed for, if it has
+abbrev pub failed_for : {M S V F O : Type 0} → End M S V F O → Option Fault
+failed_for (Replayed verdict unused) = None
+failed_for (Formatted disk) = None
+failed_for (Shown disk) = None
+failed_for (Served port fault left ending) = None
+failed_for (Failed fault unused) = Some fault
+failed_for (NoImage fault cause) = Some fault
+failed_for (Unformatted fault left) = Some fault
+failed_for (Unshown fault left) = Some fault
+failed_for (Unserved fault left) = Some fault
+failed_for (OtherWords unused) = None
 
 -- an end of a command over these files
 abbrev pub EndOver : CommandFiles → Type 0
@@ -207,14 +208,14 @@ pub record IsUnformatted (files : CommandFiles) (image building : List ℕ) (hal
   pub opened : files.image.Made
   pub fresh : files.image.is_just_made image (2 + 2 * half) opened
   pub is_fault : fault ≡ Journal (OfJournal Disk)
-  pub stops : StopsIn (format_calls (shape_of plan half)) (files.image.made_state opened)
+  pub front : MakesFront (format_calls (shape_of plan half)) (files.image.made_state opened)
       (files.image.made_state left)
   pub runs : RunsOn (files.image.made_state opened) (files.image.made_state left)
   pub failed : (files.image.made_state opened).failures < (files.image.made_state left).failures
 
 -- why no journal was made, and how its image, its file or what was to open it was left
 abbrev pub IsUnmade : (files : CommandFiles) → (image building : List ℕ) → (half : ℕ)
-    → Undone files.image.Made files.image.File files.image.Opener → Type 0
+    → Failure files.image.Made files.image.File files.image.Opener → Type 0
 IsUnmade files image building half (NoBuilding fault unused) =
     IsBuildingFault (files.is_text building) (files.is_no_text building) fault
     × (unused ≡ files.image.opener)
@@ -237,10 +238,10 @@ IsShowingFault Network = ⊥
 IsShowingFault Thread = ⊥
 
 -- so it is with an image that was opened
-abbrev pub IsShowingUndone : {D F O : Type 0} → Undone D F O → Type 0
-IsShowingUndone (NoBuilding fault unused) = Unit {0}
-IsShowingUndone (NoImageHad refused) = Unit {0}
-IsShowingUndone (Opened fault left) = IsShowingFault fault
+abbrev pub HasShowingFault : {D F O : Type 0} → Failure D F O → Type 0
+HasShowingFault (NoBuilding fault unused) = Unit {0}
+HasShowingFault (NoImageHad refused) = Unit {0}
+HasShowingFault (Opened fault left) = IsShowingFault fault
 
 -- a reader of which no call was made yet
 abbrev pub uncalled : {R : Type 0} → R → InputState R
@@ -346,7 +347,7 @@ abbrev pub IsSocketHad : (gives : Option Listener → Type 0) → Type 0
 IsSocketHad gives = (listener : Listener) × gives (Some listener)
 
 -- how much is written by a command that is undone: nothing until this was had
-abbrev pub IsQuietUntil : {D F O : Type 0} → (had : Type 0) → Undone D F O
+abbrev pub IsQuietUntil : {D F O : Type 0} → (had : Type 0) → Failure D F O
     → (before after : Option (List ℕ)) → Type 0
 IsQuietUntil had (NoBuilding fault unused) before after = after ≡ before
 IsQuietUntil had (NoImageHad refused) before after = after ≡ before

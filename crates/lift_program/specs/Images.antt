@@ -7,7 +7,7 @@ use Rattle.lift_disk.specs.Disk.{DiskState}
 use Rattle.lift_disk.specs.FileCalls.{FileCall}
 use Rattle.lift_disk.specs.FileCalls.FileCall.{Lock}
 use Rattle.lift_disk.specs.Files.{IsMadeDevice, IsMeasured, sector_file_state_of}
-use Rattle.lift_disk.specs.Files.{IsRefused, stands_in_the_way, stops_making, stops_opening}
+use Rattle.lift_disk.specs.Files.{IsRefused, stands_in_the_way, fails_making, fails_opening}
 use Rattle.lift_disk.specs.Traced.{to_be_made, to_be_read, to_be_used}
 use Rattle.lift_disk.specs.declared.buffered.Buffered.{Buffered}
 use Rattle.lift_disk.specs.declared.file.FileFault.{FileFault}
@@ -108,11 +108,11 @@ image_files {F} {O} {told} {runs} {disk} {shown_runs} {shown_disk} opener stands
       opener = opener;
       is_unmade = λ path sectors.
           IsRefused opener (stands_in_the_way (stands path)) (opens to_be_made path)
-          (stops_making (unnamed path) gives fails sectors);
+          (fails_making (unnamed path) gives fails sectors);
       is_unserved = λ path. IsRefused opener (stands path) (opens to_be_used path)
-          (stops_opening gives fails (Lock ∷ []));
+          (fails_opening gives fails (Lock ∷ []));
       is_unshown = λ path.
-          IsRefused opener (stands path) (opens to_be_read path) (stops_opening gives fails []);
+          IsRefused opener (stands path) (opens to_be_read path) (fails_opening gives fails []);
       Made = SectorFile F told;
       made_state = sector_file_state_of holds;
       is_just_made = IsJustMade opens names gives holds;

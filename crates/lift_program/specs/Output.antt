@@ -39,11 +39,11 @@ WriterHasFailed {W} gives flushes old new =
 -- How the standard output was called: what is written ends well only with a flush after it that
 -- did not fail; the output is the fault only where it has failed, and memory only where no
 -- call failed but a flush.
-pub record IsOutputSettled {W : Type 0} (gives : W → List ℕ → Option ℕ → W → Type 0)
+pub record IsPassedOnOrFailed {W : Type 0} (gives : W → List ℕ → Option ℕ → W → Type 0)
     (flushes : W → Bool → W → Type 0) (old new : W) (result : Result Unit Fault) : Type 0 where
   pub flushed : OnOk result (IsFlushed gives flushes old new)
   pub failed : result ≡ Err (File Output) → WriterHasFailed gives flushes old new
-  pub wanting : result ≡ Err (Memory tt) → WasTaken gives flushes old new
+  pub out_of_memory : result ≡ Err (Memory tt) → WasTaken gives flushes old new
 
 -- This text was written and passed on; or a prefix of it, and then the output has failed.
 abbrev pub SaysText : List ℕ → (is_flushed has_failed : Type 0) → (before after : Option (List ℕ))

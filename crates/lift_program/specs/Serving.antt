@@ -26,7 +26,7 @@ pub record IsReadyOver (files : CommandFiles) (gives : Option Listener → Type 
   pub plan : Plan
   pub described : HasBuilding (files.is_text building) plan
   pub has : HasKeeperOf files.image image plan keeper
-  pub settled : keeper.state.batch ≡ []
+  pub empty_batch : keeper.state.batch ≡ []
   pub here : gives (Some listener)
 
 -- The keeper's building was served at this socket with this policy, and the serving ended so. What is

@@ -17,9 +17,9 @@ use Rattle.lift_program.specs.Stages.{HasBuilding}
 pub record RecoversRegister (plan : Plan) (old new : DiskState)
     (register : RegisterState) : Type 0 where
   pub half : ℕ
-  pub is_second : Bool
+  pub is_in_second_half : Bool
   pub used : ℕ
-  pub reopens : Reopens plan old new register half is_second used
+  pub reopens : Reopens plan old new register half is_in_second_half used
   pub lawful : IsWellFormed register
   pub belongs : BelongsTo plan register
   pub balanced : IsBalanced register

@@ -13,7 +13,7 @@ use Rattle.lift_building.specs.Plan.{Plan}
 use Rattle.lift_building.specs.declared.fault.BuildingFault.{BuildingFault}
 use Rattle.lift_disk.specs.Disk.{DiskState, LeavesOnly, MayLeave}
 use Rattle.lift_disk.specs.declared.file.FileFault.{FileFault}
-use Rattle.lift_disk.specs.declared.file.FileFault.TheVariants.{Untold, NotAFile, Unopened, Stopped}
+use Rattle.lift_disk.specs.declared.file.FileFault.TheVariants.{Untold, NotAFile, Unopened, Failed}
 use Rattle.lift_program.specs.Images.{CommandFiles, ImageFiles, IsTextRead}
 use Rattle.lift_decider.specs.Decider.{starting}
 use Rattle.lift_journal.specs.declared.fault.JournalFault.TheVariants.{Disk, NotFormatted, Damaged}
@@ -28,8 +28,8 @@ use Rattle.lift_replay.specs.Reading.{ReaderFails}
 use Rattle.lift_program.specs.declared.fault.Fault.{Fault}
 use Rattle.lift_program.specs.declared.fault.Fault.TheVariants.{Building, Journal, File, Memory}
 use Rattle.lift_program.specs.declared.fault.Fault.TheVariants.{Network, Thread}
-use Rattle.lift_program.specs.declared.left.Undone.{Undone}
-use Rattle.lift_program.specs.declared.left.Undone.TheVariants.{NoBuilding, NoImage, Opened}
+use Rattle.lift_program.specs.declared.leftover.Failure.{Failure}
+use Rattle.lift_program.specs.declared.leftover.Failure.TheVariants.{NoBuilding, NoImage, Opened}
 use Rattle.lift_program.specs.declared.fault.Role.{Role}
 use Rattle.lift_program.specs.declared.fault.Role.TheVariants.{Building as OfBuilding}
 use Rattle.lift_program.specs.declared.fault.Role.TheVariants.{Image as OfImage, Input, Output}
@@ -82,7 +82,7 @@ pub record HasKeeperOf (files : ImageFiles) (path : List ℕ) (plan : Plan)
   pub fresh : files.is_to_be_served path opened
   pub recovers : Reopens plan (files.served_state opened)
       (files.served_state keeper.writer.device) keeper.writer.register keeper.writer.half
-      keeper.writer.is_second keeper.writer.used
+      keeper.writer.is_in_second_half keeper.writer.used
   pub starts : keeper.state ≡ starting keeper.writer.register
   pub whole : keeper.writer.is_broken ≡ false
   pub no_doubt : keeper.writer.doubt ≡ []
@@ -104,8 +104,8 @@ ReadsBuilding is_text = (plan : Plan) × HasBuilding is_text plan
 
 -- the recovery gave a register of this building
 abbrev pub HasRecovered : Plan → (old new : DiskState) → Type 0
-HasRecovered plan old new = (register : RegisterState) × (half : ℕ) × (is_second : Bool)
-    × (used : ℕ) × Reopens plan old new register half is_second used
+HasRecovered plan old new = (register : RegisterState) × (half : ℕ) × (is_in_second_half : Bool)
+    × (used : ℕ) × Reopens plan old new register half is_in_second_half used
 
 -- What an opening may be refused for: what the journal's opening is, a building of another shape,
 -- or a record that doesn't fit.
@@ -121,16 +121,17 @@ IsOpeningFault (BadEntry place) = Unit {0}
 -- Why a command went no further over a device that was opened: the recovery was refused for this; or
 -- it gave a register, and then the port was refused, or the standard output failed, or memory was
 -- wanting.
-abbrev pub StopsOver : Plan → (old new : DiskState) → Fault → Type 0
-StopsOver plan old new (Building fault) = ⊥
-StopsOver plan old new (Journal fault) = IsOpeningFault fault × RefusesReopening plan old new fault
-StopsOver plan old new (File OfBuilding) = ⊥
-StopsOver plan old new (File OfImage) = ⊥
-StopsOver plan old new (File Input) = ⊥
-StopsOver plan old new (File Output) = HasRecovered plan old new
-StopsOver plan old new (Memory no_memory) = HasRecovered plan old new
-StopsOver plan old new Network = HasRecovered plan old new
-StopsOver plan old new Thread = ⊥
+abbrev pub GoesNoFurther : Plan → (old new : DiskState) → Fault → Type 0
+GoesNoFurther plan old new (Building fault) = ⊥
+GoesNoFurther plan old new (Journal fault) = IsOpeningFault fault
+    × RefusesReopening plan old new fault
+GoesNoFurther plan old new (File OfBuilding) = ⊥
+GoesNoFurther plan old new (File OfImage) = ⊥
+GoesNoFurther plan old new (File Input) = ⊥
+GoesNoFurther plan old new (File Output) = HasRecovered plan old new
+GoesNoFurther plan old new (Memory no_memory) = HasRecovered plan old new
+GoesNoFurther plan old new Network = HasRecovered plan old new
+GoesNoFurther plan old new Thread = ⊥
 
 -- A building was read, and an image opened as such a device. The command is undone for this, and has
 -- left the device so: nothing was written, and each image that a crash at any moment since the
@@ -141,7 +142,7 @@ pub record IsLeftAs {D : Type 0} (is_text : List ℕ → Type 0) (is_fresh : D �
   pub building : HasBuilding is_text plan
   pub opened : D
   pub fresh : is_fresh opened
-  pub stops : StopsOver plan (state opened) (state left) fault
+  pub cause : GoesNoFurther plan (state opened) (state left) fault
   pub moments : LeavesOnly (state opened) (state left) (MayLeave (state opened))
   pub unwritten : (state left).writes ≡ (state opened).writes
 
@@ -174,7 +175,7 @@ abbrev pub IsImageFault : {F O : Type 0} → FileFault F O → Fault → Type 0
 IsImageFault (Untold error opener) fault = IsSystemFault OfImage error fault
 IsImageFault (NotAFile opener) fault = fault ≡ File OfImage
 IsImageFault (Unopened error) fault = IsSystemFault OfImage error fault
-IsImageFault (Stopped stopped) fault = IsSystemFault OfImage stopped.error fault
+IsImageFault (Failed failed) fault = IsSystemFault OfImage failed.error fault
 
 -- No image was had: the fault is its file, or want of memory where the system said that.
 pub record HasNoImage {F O : Type 0} (is_refused : FileFault F O → Type 0) (fault : Fault)
@@ -187,49 +188,49 @@ pub record HasNoImage {F O : Type 0} (is_refused : FileFault F O → Type 0) (fa
 pub record IsNoImage {F O : Type 0} (is_text : List ℕ → Type 0)
     (is_refused : FileFault F O → Type 0) (fault : Fault) (cause : FileFault F O) : Type 0 where
   pub building : ReadsBuilding is_text
-  pub unhad : HasNoImage is_refused fault cause
+  pub no_image : HasNoImage is_refused fault cause
 
--- the fault that a command over an image is undone for
-abbrev pub fault_in : {D F O : Type 0} → Undone D F O → Fault
+-- the fault that a command over an image has failed for
+abbrev pub fault_in : {D F O : Type 0} → Failure D F O → Fault
 fault_in (NoBuilding fault unused) = fault
 fault_in (NoImage refused) = refused.fault
 fault_in (Opened fault left) = fault
 
--- Why a command over an image is undone, and how it has left the image, its file or what was to open
+-- Why a command over an image has failed, and how it has left the image, its file or what was to open
 -- it. The first of these that stands: no building was had; no image was had; or one was.
-abbrev pub IsUndone : {D F O : Type 0} → (is_text : List ℕ → Type 0) → (is_no_text : Type 0)
+abbrev pub IsFailure : {D F O : Type 0} → (is_text : List ℕ → Type 0) → (is_no_text : Type 0)
     → (opener : O) → (is_fresh : D → Type 0) → (state : D → DiskState)
-    → (is_refused : FileFault F O → Type 0) → Undone D F O → Type 0
-IsUndone is_text is_no_text opener is_fresh state is_refused (NoBuilding fault unused) =
+    → (is_refused : FileFault F O → Type 0) → Failure D F O → Type 0
+IsFailure is_text is_no_text opener is_fresh state is_refused (NoBuilding fault unused) =
     IsBuildingFault is_text is_no_text fault × (unused ≡ opener)
-IsUndone is_text is_no_text opener is_fresh state is_refused (NoImage refused) =
+IsFailure is_text is_no_text opener is_fresh state is_refused (NoImage refused) =
     IsNoImage is_text is_refused refused.fault refused.cause
-IsUndone is_text is_no_text opener is_fresh state is_refused (Opened fault left) =
+IsFailure is_text is_no_text opener is_fresh state is_refused (Opened fault left) =
     IsLeftAs is_text is_fresh state fault left
 
 -- so it is of an image that was to be served
-abbrev pub IsUndoneServing : (files : CommandFiles) → (image building : List ℕ)
-    → Undone files.image.Served files.image.File files.image.Opener → Type 0
-IsUndoneServing files image building = IsUndone (files.is_text building)
+abbrev pub IsServingFailure : (files : CommandFiles) → (image building : List ℕ)
+    → Failure files.image.Served files.image.File files.image.Opener → Type 0
+IsServingFailure files image building = IsFailure (files.is_text building)
     (files.is_no_text building) files.image.opener (files.image.is_to_be_served image) files.image.served_state (files.image.is_unserved image)
 
 -- and of one that was to be shown
-abbrev pub IsUndoneShowing : (files : CommandFiles) → (image building : List ℕ)
-    → Undone files.image.Shown files.image.File files.image.Opener → Type 0
-IsUndoneShowing files image building = IsUndone (files.is_text building)
+abbrev pub IsShowingFailure : (files : CommandFiles) → (image building : List ℕ)
+    → Failure files.image.Shown files.image.File files.image.Opener → Type 0
+IsShowingFailure files image building = IsFailure (files.is_text building)
     (files.is_no_text building) files.image.opener (files.image.is_to_be_shown image) files.image.shown_state (files.image.is_unshown image)
 
 -- What no keeper of this building is had for: no image was had, or the recovery was refused.
-abbrev pub IsUnkept : {D F O : Type 0} → (is_fresh : D → Type 0) → (state : D → DiskState)
-    → (is_refused : FileFault F O → Type 0) → Plan → Undone D F O → Type 0
-IsUnkept is_fresh state is_refused plan (NoBuilding fault unused) = ⊥
-IsUnkept is_fresh state is_refused plan (NoImage refused) =
+abbrev pub IsKeeperFailure : {D F O : Type 0} → (is_fresh : D → Type 0) → (state : D → DiskState)
+    → (is_refused : FileFault F O → Type 0) → Plan → Failure D F O → Type 0
+IsKeeperFailure is_fresh state is_refused plan (NoBuilding fault unused) = ⊥
+IsKeeperFailure is_fresh state is_refused plan (NoImage refused) =
     HasNoImage is_refused refused.fault refused.cause
-IsUnkept {D} is_fresh state is_refused plan (Opened fault left) =
+IsKeeperFailure {D} is_fresh state is_refused plan (Opened fault left) =
     HasNoKeeperOf D is_fresh state plan fault left
 
 -- so it is of an image that was to be served
-abbrev pub IsUnkeptServing : (files : ImageFiles) → (path : List ℕ) → Plan
-    → Undone files.Served files.File files.Opener → Type 0
-IsUnkeptServing files path =
-    IsUnkept (files.is_to_be_served path) files.served_state (files.is_unserved path)
+abbrev pub IsServingKeeperFailure : (files : ImageFiles) → (path : List ℕ) → Plan
+    → Failure files.Served files.File files.Opener → Type 0
+IsServingKeeperFailure files path =
+    IsKeeperFailure (files.is_to_be_served path) files.served_state (files.is_unserved path)

@@ -5,7 +5,7 @@ ghost use Rattle.lift_program.specs.Ends.{exit_status_of, line_at_end, line_at_e
 ghost use Rattle.lift_program.specs.Output.{IsWrittenOrFailed};
 
 use crate::fault::Fault;
-use crate::left::Left;
+use crate::leftover::Leftover;
 use crate::output::tell;
 use crate::unwritten::ShownImage;
 use lift_base::text::Watched;
@@ -20,26 +20,26 @@ use std::io::Write;
 #[derive(Drop)]
 pub enum End<M, S, V, F: Drop, O: Drop> {
     /// A script was replayed.
-    Replayed(Verdict, Left<O>),
+    Replayed(Verdict, Leftover<O>),
     /// An empty journal was made on this file.
-    Formatted(Left<M>),
+    Formatted(Leftover<M>),
     /// The open calls of the journal on this file were written.
-    Shown(Left<S>),
+    Shown(Leftover<S>),
     /// The building was served on this port, over this image, and the serving ended so: only a serving
     /// makes that. What is reported of it is a fault of the device, and else what it was refused.
-    Served(u16, Option<Fault>, Left<V>, ServingEnd),
+    Served(u16, Option<Fault>, Leftover<V>, ServingEnd),
     /// The work is undone, and nothing was asked of an image.
-    Failed(Fault, Left<O>),
+    Failed(Fault, Leftover<O>),
     /// No image was had, for this.
-    NoImage(Fault, Left<FileFault<F, O>>),
+    NoImage(Fault, Leftover<FileFault<F, O>>),
     /// The journal couldn't be made on this file.
-    Unformatted(Fault, Left<M>),
+    Unformatted(Fault, Leftover<M>),
     /// The open calls of the journal on this file couldn't be written.
-    Unshown(Fault, Left<S>),
+    Unshown(Fault, Leftover<S>),
     /// The building couldn't be served over this image.
-    Unserved(Fault, Left<V>),
+    Unserved(Fault, Leftover<V>),
     /// The words are those of no command.
-    OtherWords(Left<O>),
+    OtherWords(Leftover<O>),
 }
 
 /// How a command ends over files that this opens.

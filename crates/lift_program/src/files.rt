@@ -13,7 +13,7 @@ ghost use Rattle.lift_program.specs.declared.fault.Role.TheVariants.{Building as
 ghost use Rattle.lift_program.specs.declared.fault.Role.TheVariants.{Image as OfImage};
 
 use crate::fault::{Fault, Role};
-use crate::left::{Left, Refused};
+use crate::leftover::{Leftover, Refused};
 use crate::opening::{ImageView, TextOpener};
 use crate::refused::{text_in, told_as};
 use crate::text::bytes_of;
@@ -66,7 +66,7 @@ fn refused<F: Drop, O: Drop>(cause: FileFault<F, O>) -> Refused<F, O>
 {
     Refused {
         fault: told_as(&cause),
-        cause: Left::new(cause),
+        cause: Leftover::new(cause),
     }
 }
 
@@ -84,7 +84,7 @@ pub fn image_at<I: FileOpener>(
     ensures made { IfOk result (IsJustMade (I.opens opener) (I.names opener) I.Told.gives
         I.Told.holds path.now sectors) }
     ensures making { IfOk result (λ disk. making_below disk ≡ making_calls sectors) }
-    ensures unhad { IfErr result (λ no. HasNoImage
+    ensures no_image { IfErr result (λ no. HasNoImage
         ((⟦<I as ImageView>⟧.image opener).is_unmade path.now sectors) no.fault no.cause) }
 {
     match SectorFile::create(opener, path, sectors) {
@@ -103,7 +103,7 @@ pub fn image_in<I: FileOpener>(
     ensures writes { IfOk result (λ disk. (sector_file_state_of I.Told.holds disk).writes ≡ 0) }
     ensures measured { IfOk result (IsMeasured (I.opens opener to_be_used path.now) I.Told.gives
         I.Told.holds (Lock ∷ [])) }
-    ensures unhad { IfErr result (λ no. HasNoImage
+    ensures no_image { IfErr result (λ no. HasNoImage
         ((⟦<I as ImageView>⟧.image opener).is_unserved path.now) no.fault no.cause) }
 {
     match SectorFile::open(opener, path) {
@@ -122,7 +122,7 @@ fn image_to_read<I: FileOpener>(
     ensures writes { IfOk result (λ disk. (sector_file_state_of I.Told.holds disk).writes ≡ 0) }
     ensures measured { IfOk result (IsMeasured (I.opens opener to_be_read path.now) I.Told.gives
         I.Told.holds []) }
-    ensures unhad { IfErr result (λ no. HasNoImage
+    ensures no_image { IfErr result (λ no. HasNoImage
         ((⟦<I as ImageView>⟧.image opener).is_unshown path.now) no.fault no.cause) }
 {
     match SectorFile::open_to_read(opener, path) {
@@ -137,7 +137,7 @@ pub fn image_to_show<I: FileOpener>(
     path: &str,
 ) -> Result<ShownImage<I::Told>, Refused<I::Told, I>>
     ensures opened { IfOk result ((⟦<I as ImageView>⟧.image opener).is_to_be_shown path.now) }
-    ensures unhad { IfErr result (λ no. HasNoImage
+    ensures no_image { IfErr result (λ no. HasNoImage
         ((⟦<I as ImageView>⟧.image opener).is_unshown path.now) no.fault no.cause) }
 {
     match image_to_read(opener, path) {

@@ -5,7 +5,7 @@ ghost use Rattle.lift_program.specs.Ends.{IsMadeWith, IsUnmade};
 
 use crate::fault::Fault;
 use crate::files::{building_in, image_at};
-use crate::left::{Left, Undone};
+use crate::leftover::{Failure, Leftover};
 use crate::opening::{Files, FilesView, TextOpener};
 use lift_disk::{FileOpener, SectorFile};
 use lift_journal::JournalFault;
@@ -22,27 +22,27 @@ pub fn format<B: TextOpener, I: FileOpener>(
     image: &str,
     building: &str,
     half: u32,
-) -> Result<Left<SectorFile<I::Told>>, Undone<SectorFile<I::Told>, I::Told, I>>
+) -> Result<Leftover<SectorFile<I::Told>>, Failure<SectorFile<I::Told>, I::Told, I>>
     requires least { 64 ≤ half }
     requires most { half ≤ 1000000 }
     ensures made { IfOk result
         (IsMadeWith (⟦<Files<B, I> as FilesView>⟧.view files) image.now building.now half) }
-    ensures undone { IfErr result
+    ensures failure { IfErr result
         (IsUnmade (⟦<Files<B, I> as FilesView>⟧.view files) image.now building.now half) }
 {
     let shape = match building_in(files.building, alloc, building) {
         Ok(building) => building.shape(half),
-        Err(fault) => return Err(Undone::NoBuilding(fault, Left::new(files.image))),
+        Err(fault) => return Err(Failure::NoBuilding(fault, Leftover::new(files.image))),
     };
     let mut disk = match image_at(files.image, image, 2 + 2 * half) {
         Ok(disk) => disk,
-        Err(refused) => return Err(Undone::NoImage(refused)),
+        Err(refused) => return Err(Failure::NoImage(refused)),
     };
     match lift_journal::format(&mut disk, shape) {
-        Ok(()) => Ok(Left::new(disk)),
-        Err(_) => Err(Undone::Opened(
+        Ok(()) => Ok(Leftover::new(disk)),
+        Err(_) => Err(Failure::Opened(
             Fault::Journal(KeeperFault::Journal(JournalFault::Disk)),
-            Left::new(disk),
+            Leftover::new(disk),
         )),
     }
 }

@@ -5,7 +5,7 @@ ghost use Rattle.lift_program.specs.declared.fault.Role.TheVariants.{Output};
 ghost use Rattle.lift_program.specs.declared.words.Request.TheVariants.{Replay};
 ghost use Rattle.lift_program.specs.Ends.{AreReadyFor, IsAnswered, IsEndFor, IsEndOf, IsReadyFor};
 ghost use Rattle.lift_program.specs.Ends.{IsInputLeft, IsPassedOn, IsReportOfEnd, IsUncalled, WritesFor};
-ghost use Rattle.lift_program.specs.Ends.{line_at_once, serving_text, uncalled, undone_for};
+ghost use Rattle.lift_program.specs.Ends.{line_at_once, serving_text, uncalled, failed_for};
 ghost use Rattle.lift_program.specs.Listening.{local};
 ghost use Rattle.lift_program.specs.Output.{IsFlushed, WriterHasFailed};
 ghost use Rattle.lift_program.specs.Words.{AskForRequest, IsRequestInRange};
@@ -15,7 +15,7 @@ use crate::end::{End, EndBy};
 use crate::fault::Fault;
 use crate::format::format;
 use crate::help::answer;
-use crate::left::{Left, Undone};
+use crate::leftover::{Failure, Leftover};
 use crate::listening::Listens;
 use crate::opening::{Files, FilesView, Openers, TextOpener};
 use crate::output::Outflow;
@@ -75,7 +75,7 @@ fn done<'b, B: TextOpener, I: FileOpener, L: Listens, R: Read + Drop, W: Outflow
         IsPassedOn end (IsFlushed W.gives W.flushes writer.old writer.new)) }
     ensures left { IsInputLeft R.remaining (request.entry ≡ Replay) openers.files.image result
         input.old input.new }
-    ensures unwritten { IfErr result (λ end. undone_for end ≡ Some (Fault.File Output)
+    ensures unwritten { IfErr result (λ end. failed_for end ≡ Some (Fault.File Output)
         → WriterHasFailed W.gives W.flushes writer.old writer.new) }
     // Nothing is reported at once but of what is served.
     ensures quiet { IfErr result (λ end. line_at_once end ≡ None) }
@@ -94,9 +94,9 @@ fn done<'b, B: TextOpener, I: FileOpener, L: Listens, R: Read + Drop, W: Outflow
             drop(socket);
             match format(files, alloc, image, building, half) {
                 Ok(left) => Err(End::Formatted(left)),
-                Err(Undone::NoBuilding(fault, unused)) => Err(End::Failed(fault, unused)),
-                Err(Undone::NoImage(refused)) => Err(End::NoImage(refused.fault, refused.cause)),
-                Err(Undone::Opened(fault, left)) => Err(End::Unformatted(fault, left)),
+                Err(Failure::NoBuilding(fault, unused)) => Err(End::Failed(fault, unused)),
+                Err(Failure::NoImage(refused)) => Err(End::NoImage(refused.fault, refused.cause)),
+                Err(Failure::Opened(fault, left)) => Err(End::Unformatted(fault, left)),
             }
         }
         Request::Show { image, building } => {
@@ -104,9 +104,9 @@ fn done<'b, B: TextOpener, I: FileOpener, L: Listens, R: Read + Drop, W: Outflow
             drop(socket);
             match show(files, alloc, image, building, writer) {
                 Ok(left) => Err(End::Shown(left)),
-                Err(Undone::NoBuilding(fault, unused)) => Err(End::Failed(fault, unused)),
-                Err(Undone::NoImage(refused)) => Err(End::NoImage(refused.fault, refused.cause)),
-                Err(Undone::Opened(fault, left)) => Err(End::Unshown(fault, left)),
+                Err(Failure::NoBuilding(fault, unused)) => Err(End::Failed(fault, unused)),
+                Err(Failure::NoImage(refused)) => Err(End::NoImage(refused.fault, refused.cause)),
+                Err(Failure::Opened(fault, left)) => Err(End::Unshown(fault, left)),
             }
         }
         Request::Serve {
@@ -119,9 +119,9 @@ fn done<'b, B: TextOpener, I: FileOpener, L: Listens, R: Read + Drop, W: Outflow
             openers, alloc, place, image, building, port, sessions, policy, writer,
         ) {
             Ok(ready) => Ok(ready),
-            Err(Undone::NoBuilding(fault, unused)) => Err(End::Failed(fault, unused)),
-            Err(Undone::NoImage(refused)) => Err(End::NoImage(refused.fault, refused.cause)),
-            Err(Undone::Opened(fault, left)) => Err(End::Unserved(fault, left)),
+            Err(Failure::NoBuilding(fault, unused)) => Err(End::Failed(fault, unused)),
+            Err(Failure::NoImage(refused)) => Err(End::NoImage(refused.fault, refused.cause)),
+            Err(Failure::Opened(fault, left)) => Err(End::Unserved(fault, left)),
         },
     }
 }
@@ -161,7 +161,7 @@ impl<'w, B: TextOpener, I: FileOpener, L: Listens, S: AsStr, R: Read + Drop, E: 
         place: &'b mut Option<Building>,
         writer: &mut W,
     ) -> (
-        Left<Counted<R>>,
+        Leftover<Counted<R>>,
         Result<Ready<'b, BufferedFile<I::Told>, E>, EndBy<I, I::Told>>,
     )
         ensures ready { IfOk result.1 (λ ready. AreReadyFor
@@ -192,7 +192,7 @@ impl<'w, B: TextOpener, I: FileOpener, L: Listens, S: AsStr, R: Read + Drop, E: 
             (WriterHasFailed W.gives W.flushes writer.old writer.new) (W.contents writer.old)
             (W.contents writer.new) }
         // The standard output is the fault only where it failed.
-        ensures unwritten { IfErr result.1 (λ end. undone_for end ≡ Some (Fault.File Output)
+        ensures unwritten { IfErr result.1 (λ end. failed_for end ≡ Some (Fault.File Output)
             → WriterHasFailed W.gives W.flushes writer.old writer.new) }
         ensures quiet { IfErr result.1 (λ end. line_at_once end ≡ None) }
     {
@@ -208,15 +208,15 @@ impl<'w, B: TextOpener, I: FileOpener, L: Listens, S: AsStr, R: Read + Drop, E: 
         match request_of(alloc, words) {
             Ok(Some(request)) => {
                 let outcome = done(openers, alloc, place, request, &mut input, writer);
-                (Left::new(input), outcome)
+                (Leftover::new(input), outcome)
             }
             Ok(None) => {
                 answer(words, writer);
-                (Left::new(input), Err(End::OtherWords(openers.unused())))
+                (Leftover::new(input), Err(End::OtherWords(openers.unused())))
             }
             Err(no_memory) => {
                 let end = End::Failed(Fault::Memory(no_memory), openers.unused());
-                (Left::new(input), Err(end))
+                (Leftover::new(input), Err(end))
             }
         }
     }

@@ -19,7 +19,7 @@ fn write_text<W: Outflow>(writer: &mut W, text: &str)
     if put_all(writer, text.as_bytes()).is_err() {
         return;
     }
-    match writer.settle() {
+    match writer.flush_once() {
         Ok(()) => {}
         Err(_) => {}
     }

@@ -1,12 +1,12 @@
 //! The keeper of an image, held for the serving, which can't take it apart.
 
 ghost use Rattle.std.specs.Prelude.{◌≡◌, [], IfOk, IfErr};
-ghost use Rattle.lift_program.specs.Stages.{HasKeeperOf, IsUnkeptServing};
+ghost use Rattle.lift_program.specs.Stages.{HasKeeperOf, IsServingKeeperFailure};
 
 use crate::at_once::AtOnce;
 use crate::fault::Fault;
 use crate::files::image_in;
-use crate::left::{Left, Undone};
+use crate::leftover::{Failure, Leftover};
 use crate::opening::ImageView;
 use lift_building::Building;
 use lift_disk::{Buffered, BufferedFile, Disk, FileOpener};
@@ -34,28 +34,30 @@ pub fn keeper_in<'b, I: FileOpener, E: Write + Drop>(
     building: &'b Building,
 ) -> Result<
     HeldKeeper<'b, BufferedFile<I::Told>, ImageKey<E>>,
-    Undone<BufferedFile<I::Told>, I::Told, I>,
+    Failure<BufferedFile<I::Told>, I::Told, I>,
 >
     ensures opened { IfOk result
         (HasKeeperOf (⟦<I as ImageView>⟧.image opener) path.now building.now) }
-    ensures settled { IfOk result (λ keeper. keeper.state.batch ≡ []) }
-    ensures undone { IfErr result
-        (IsUnkeptServing (⟦<I as ImageView>⟧.image opener) path.now building.now) }
+    ensures empty_batch { IfOk result (λ keeper. keeper.state.batch ≡ []) }
+    ensures failure { IfErr result
+        (IsServingKeeperFailure (⟦<I as ImageView>⟧.image opener) path.now building.now) }
 {
     let file = match image_in(opener, path) {
         Ok(file) => file,
-        Err(refused) => return Err(Undone::NoImage(refused)),
+        Err(refused) => return Err(Failure::NoImage(refused)),
     };
     match Keeper::open(Buffered::over(file), building) {
         Ok(keeper) => Ok(HeldKeeper::new(keeper)),
-        Err((disk, fault)) => Err(Undone::Opened(Fault::Journal(fault), Left::new(disk))),
+        Err((disk, fault)) => Err(Failure::Opened(Fault::Journal(fault), Leftover::new(disk))),
     }
 }
 
 /// The image as its keeper leaves it.
 #[inline(never)]
-pub fn left_by<D: Disk + Drop, E: Write + Drop>(keeper: HeldKeeper<'_, D, ImageKey<E>>) -> Left<D>
+pub fn left_by<D: Disk + Drop, E: Write + Drop>(
+    keeper: HeldKeeper<'_, D, ImageKey<E>>,
+) -> Leftover<D>
     ensures { result ≡ keeper.entry.writer.device }
 {
-    Left::new(keeper.release(ImageKey { told: PhantomData }).into_disk())
+    Leftover::new(keeper.release(ImageKey { told: PhantomData }).into_disk())
 }

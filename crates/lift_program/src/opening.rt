@@ -5,7 +5,7 @@ ghost use Rattle.std.specs.declared.io.Error.{Error};
 ghost use Rattle.lift_program.specs.Images.{CommandFiles, ImageFiles, IsTextRead, image_files};
 ghost use Rattle.lift_program.specs.Stages.{IsNoText};
 
-use crate::left::Left;
+use crate::leftover::Leftover;
 use crate::unwritten::ShownImage;
 use lift_base::text::Inlet;
 use lift_disk::{BufferedFile, Disk, FileOpener};
@@ -91,14 +91,14 @@ pub struct Openers<B, I, L> {
 
 impl<B: Drop, I: Drop, L: Drop> Openers<B, I, L> {
     /// What opens an image, where nothing is asked of it.
-    pub fn unused(self) -> Left<I>
+    pub fn unused(self) -> Leftover<I>
         ensures { result ≡ self.files.image }
     {
         let Files {
             building: _unread,
             image,
         } = self.files;
-        Left::new(image)
+        Leftover::new(image)
     }
 }
 

@@ -4,7 +4,7 @@ ghost use Rattle.std.specs.Prelude.{ℕ, Bool, true, false, OnOk, OnErr, IfErr, 
 ghost use Rattle.std.specs.declared.io.Error.{Error};
 ghost use Rattle.std.specs.Io.KnownBytes.{Appends, Keeps};
 ghost use Rattle.lift_program.specs.Ends.{IsFileFault};
-ghost use Rattle.lift_program.specs.Output.{IsOutputSettled, IsWrittenOrFailed};
+ghost use Rattle.lift_program.specs.Output.{IsPassedOnOrFailed, IsWrittenOrFailed};
 ghost use Rattle.lift_program.specs.declared.fault.Role.TheVariants.{Output};
 
 use crate::fault::{Fault, Role};
@@ -22,7 +22,7 @@ pub trait Outflow: Outlet {
     ghost refuses: { Self → Error → Self → Type 0 };
 
     /// One flush of the writer.
-    fn settle(&mut self) -> io::Result<()>
+    fn flush_once(&mut self) -> io::Result<()>
         ensures flushed { OnOk result (flushes self.old true self.new) }
         ensures failed { OnErr result (flushes self.old false self.new) }
         ensures refused { IfErr result (λ error. refuses self.old error self.new) }
@@ -34,7 +34,7 @@ impl<W: Write> Outflow for W {
 
     ghost refuses = { λ _ _ _. ⊤ };
 
-    fn settle(&mut self) -> io::Result<()> {
+    fn flush_once(&mut self) -> io::Result<()> {
         self.flush()
     }
 }
@@ -46,7 +46,7 @@ pub fn write_out<W: Outflow>(writer: &mut W, bytes: &[u8]) -> Result<(), Fault>
     ensures front { OnErr result ((n : ℕ)
         × Appends (W.contents writer.old) (W.contents writer.new) (take n bytes.now)) }
     ensures fault { IfErr result (IsFileFault Output) }
-    ensures settled { IsOutputSettled W.gives W.flushes writer.old writer.new result }
+    ensures passed_on { IsPassedOnOrFailed W.gives W.flushes writer.old writer.new result }
 {
     if put_all(writer, bytes).is_err() {
         return Err(Fault::File(Role::Output));

@@ -5,15 +5,15 @@ ghost use Rattle.std.specs.Io.KnownBytes.{Appends};
 ghost use Rattle.lift_program.specs.Ends.{IsFileFault, IsQuietUntil, IsReportOfFault, IsSocketHad};
 ghost use Rattle.lift_program.specs.Ends.{SaysFront, serving_text};
 ghost use Rattle.lift_program.specs.Listening.{local};
-ghost use Rattle.lift_program.specs.Output.{IsFlushed, IsOutputSettled, WriterHasFailed};
+ghost use Rattle.lift_program.specs.Output.{IsFlushed, IsPassedOnOrFailed, WriterHasFailed};
 ghost use Rattle.lift_program.specs.Serving.{IsReadyOver};
-ghost use Rattle.lift_program.specs.Stages.{IsUndoneServing, fault_in};
+ghost use Rattle.lift_program.specs.Stages.{IsServingFailure, fault_in};
 ghost use Rattle.lift_program.specs.declared.fault.Role.TheVariants.{Output};
 
 use crate::fault::Fault;
 use crate::files::building_in;
 use crate::keeping::{ImageKey, keeper_in, left_by};
-use crate::left::{Left, Undone};
+use crate::leftover::{Failure, Leftover};
 use crate::listening::Listens;
 use crate::opening::{Files, FilesView, Openers, TextOpener};
 use crate::output::{Outflow, write_out};
@@ -62,7 +62,7 @@ fn say<W: Outflow>(port: u16, writer: &mut W) -> Result<(), Fault>
     ensures front { OnErr result
         (SaysFront port (W.contents writer.old) (W.contents writer.new)) }
     ensures fault { IfErr result (IsFileFault Output) }
-    ensures settled { IsOutputSettled W.gives W.flushes writer.old writer.new result }
+    ensures passed_on { IsPassedOnOrFailed W.gives W.flushes writer.old writer.new result }
 {
     let mut digits = Buffer::new();
     let mut line: ArrayString<64> = ArrayString::new();
@@ -99,7 +99,7 @@ pub(crate) fn ready_for<'b, B: TextOpener, I: FileOpener, L: Listens, W: Outflow
     sessions: u32,
     policy: Shipped,
     writer: &mut W,
-) -> Result<Ready<'b, BufferedFile<I::Told>, E>, Undone<BufferedFile<I::Told>, I::Told, I>>
+) -> Result<Ready<'b, BufferedFile<I::Told>, E>, Failure<BufferedFile<I::Told>, I::Told, I>>
     ensures said { OnOk result
         (Appends (W.contents writer.old) (W.contents writer.new) (serving_text port)) }
     ensures flushed { OnOk result (IsFlushed W.gives W.flushes writer.old writer.new) }
@@ -111,37 +111,37 @@ pub(crate) fn ready_for<'b, B: TextOpener, I: FileOpener, L: Listens, W: Outflow
     ensures sessions { IfOk result (λ ready. ready.prepared.sessions ≡ sessions) }
     ensures policy { IfOk result (λ ready. ready.prepared.policy ≡ policy) }
     // The port is the fault only where that was refused.
-    ensures refused { IfErr result (λ undone. fault_in undone ≡ Fault.Network
+    ensures refused { IfErr result (λ failure. fault_in failure ≡ Fault.Network
         → L.gives openers.socket local port None) }
     // Nothing was written to an image that isn't served.
-    ensures undone { IfErr result (IsUndoneServing
+    ensures failure { IfErr result (IsServingFailure
         (⟦<Files<B, I> as FilesView>⟧.view openers.files) image.now building.now) }
-    ensures report { IfErr result (λ undone.
-        IsReportOfFault (fault_in undone) (W.contents writer.old) (W.contents writer.new)) }
+    ensures report { IfErr result (λ failure.
+        IsReportOfFault (fault_in failure) (W.contents writer.old) (W.contents writer.new)) }
     ensures front { SaysFront port (W.contents writer.old) (W.contents writer.new) }
     // Nothing is said until the socket was had.
-    ensures quiet { IfErr result (λ undone. IsQuietUntil
-        (IsSocketHad (L.gives openers.socket local port)) undone (W.contents writer.old)
+    ensures quiet { IfErr result (λ failure. IsQuietUntil
+        (IsSocketHad (L.gives openers.socket local port)) failure (W.contents writer.old)
         (W.contents writer.new)) }
-    ensures failed { IfErr result (λ undone. fault_in undone ≡ Fault.File Output
+    ensures failed { IfErr result (λ failure. fault_in failure ≡ Fault.File Output
         → WriterHasFailed W.gives W.flushes writer.old writer.new) }
 {
     let Openers { files, socket } = openers;
     let described = match building_in(files.building, alloc, building) {
         Ok(building) => building,
-        Err(fault) => return Err(Undone::NoBuilding(fault, Left::new(files.image))),
+        Err(fault) => return Err(Failure::NoBuilding(fault, Leftover::new(files.image))),
     };
     let standing: &'b Building = place.insert(described);
     let keeper = match keeper_in(files.image, image, standing) {
         Ok(keeper) => keeper,
-        Err(undone) => return Err(undone),
+        Err(failure) => return Err(failure),
     };
     let listening = match listen_here(socket, port) {
         Ok(listening) => listening,
-        Err(fault) => return Err(Undone::Opened(fault, left_by(keeper))),
+        Err(fault) => return Err(Failure::Opened(fault, left_by(keeper))),
     };
     if let Err(fault) = say(port, writer) {
-        return Err(Undone::Opened(fault, left_by(keeper)));
+        return Err(Failure::Opened(fault, left_by(keeper)));
     }
     let prepared = PreparedGroup::new(listening, sessions, keeper, policy);
     Ok(Ready { port, prepared })

@@ -106,7 +106,7 @@ pub(crate) fn told_as<F: Drop, O: Drop>(cause: &FileFault<F, O>) -> Fault
         FileFault::Untold(error, _) => told(Role::Image, error),
         FileFault::NotAFile(_) => Fault::File(Role::Image),
         FileFault::Unopened(error) => told(Role::Image, error),
-        FileFault::Stopped(stopped) => told(Role::Image, &stopped.error),
+        FileFault::Failed(failed) => told(Role::Image, &failed.error),
     }
 }
 
@@ -136,7 +136,7 @@ pub(crate) fn pass_on<W: Outflow>(writer: &mut W) -> Result<(), Fault>
     ensures told { IfErr result
         (IsRefusedBySystem Output (λ error. W.refuses writer.old error writer.new)) }
 {
-    match writer.settle() {
+    match writer.flush_once() {
         Ok(()) => Ok(()),
         Err(error) => Err(told(Role::Output, &error)),
     }

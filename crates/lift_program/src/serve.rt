@@ -12,7 +12,7 @@ ghost use Rattle.lift_program.specs.Serving.{IsServedOver};
 use crate::at_once::{AtOnce, FAILED};
 use crate::fault::Fault;
 use crate::keeping::{ImageKey, left_by};
-use crate::left::Left;
+use crate::leftover::Leftover;
 use crate::refused::refused_in;
 use core::mem::replace_with;
 use lift_base::text::Watched;
@@ -39,7 +39,7 @@ fn fault_of(is_broken: bool, end: &ServingEnd) -> Option<Fault>
 #[derive(Drop)]
 pub struct Serving<D> {
     pub fault: Option<Fault>,
-    pub left: Left<D>,
+    pub left: Leftover<D>,
     pub end: ServingEnd,
 }
 

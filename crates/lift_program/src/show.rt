@@ -6,16 +6,16 @@ ghost use Rattle.lift_keeper.specs.Reopening.{RefusesReopening};
 ghost use Rattle.lift_keeper.specs.declared.fault.KeeperFault.{KeeperFault as Refusal};
 ghost use Rattle.lift_replay.specs.Report.{register_text};
 ghost use Rattle.lift_program.specs.Ends.{IsFileFault, IsReportOfFault, IsShowingFault};
-ghost use Rattle.lift_program.specs.Ends.{IsQuietUntil, IsShowingUndone};
-ghost use Rattle.lift_program.specs.Output.{WriterHasFailed, IsFlushed, IsOutputSettled};
+ghost use Rattle.lift_program.specs.Ends.{IsQuietUntil, HasShowingFault};
+ghost use Rattle.lift_program.specs.Output.{WriterHasFailed, IsFlushed, IsPassedOnOrFailed};
 ghost use Rattle.lift_program.specs.Showing.{IsShown, ShowsRegister, ShowsFront, ShowsPart};
-ghost use Rattle.lift_program.specs.Stages.{IsUndoneShowing, fault_in};
+ghost use Rattle.lift_program.specs.Stages.{IsShowingFailure, fault_in};
 ghost use Rattle.lift_program.specs.declared.fault.Fault.TheVariants.{Journal as OfJournal};
 ghost use Rattle.lift_program.specs.declared.fault.Role.TheVariants.{Output};
 
 use crate::fault::Fault;
 use crate::files::{building_in, image_to_show};
-use crate::left::{Left, Undone};
+use crate::leftover::{Failure, Leftover};
 use crate::opening::{Files, FilesView, TextOpener};
 use crate::output::{Outflow, write_out};
 use crate::unwritten::ShownImage;
@@ -34,7 +34,7 @@ fn write_rows<W: Outflow>(alloc: Global, register: &Register, writer: &mut W) ->
         × Appends (W.contents writer.old) (W.contents writer.new)
         (take n (register_text register.now))) }
     ensures fault { IfErr result (IsFileFault Output) }
-    ensures settled { IsOutputSettled W.gives W.flushes writer.old writer.new result }
+    ensures passed_on { IsPassedOnOrFailed W.gives W.flushes writer.old writer.new result }
 {
     let mut report = String::new(alloc);
     push_rows(&mut report, register)?;
@@ -88,34 +88,34 @@ pub fn show<B: TextOpener, I: FileOpener, W: Outflow>(
     image: &str,
     building: &str,
     writer: &mut W,
-) -> Result<Left<ShownImage<I::Told>>, Undone<ShownImage<I::Told>, I::Told, I>>
+) -> Result<Leftover<ShownImage<I::Told>>, Failure<ShownImage<I::Told>, I::Told, I>>
     ensures shown { IfOk result (λ disk. IsShown (⟦<Files<B, I> as FilesView>⟧.view files) image.now
         building.now disk (W.contents writer.old) (W.contents writer.new)) }
     ensures flushed { OnOk result (IsFlushed W.gives W.flushes writer.old writer.new) }
     ensures only { ShowsPart (⟦<Files<B, I> as FilesView>⟧.view files) image.now building.now
         (W.contents writer.old) (W.contents writer.new) }
-    ensures undone { IfErr result
-        (IsUndoneShowing (⟦<Files<B, I> as FilesView>⟧.view files) image.now building.now) }
-    ensures showing { IfErr result IsShowingUndone }
-    ensures report { IfErr result (λ undone.
-        IsReportOfFault (fault_in undone) (W.contents writer.old) (W.contents writer.new)) }
+    ensures failure { IfErr result
+        (IsShowingFailure (⟦<Files<B, I> as FilesView>⟧.view files) image.now building.now) }
+    ensures showing { IfErr result HasShowingFault }
+    ensures report { IfErr result (λ failure.
+        IsReportOfFault (fault_in failure) (W.contents writer.old) (W.contents writer.new)) }
     // Nothing is written until an image was had.
-    ensures quiet { IfErr result (λ undone. IsQuietUntil (Unit {0}) undone (W.contents writer.old)
+    ensures quiet { IfErr result (λ failure. IsQuietUntil (Unit {0}) failure (W.contents writer.old)
         (W.contents writer.new)) }
-    ensures failed { IfErr result (λ undone. fault_in undone ≡ Fault.File Output
+    ensures failed { IfErr result (λ failure. fault_in failure ≡ Fault.File Output
         → WriterHasFailed W.gives W.flushes writer.old writer.new) }
 {
     let building = match building_in(files.building, alloc, building) {
         Ok(building) => building,
-        Err(fault) => return Err(Undone::NoBuilding(fault, Left::new(files.image))),
+        Err(fault) => return Err(Failure::NoBuilding(fault, Leftover::new(files.image))),
     };
     let disk = match image_to_show(files.image, image) {
         Ok(disk) => disk,
-        Err(refused) => return Err(Undone::NoImage(refused)),
+        Err(refused) => return Err(Failure::NoImage(refused)),
     };
     let (disk, outcome) = show_on(alloc, disk, &building, writer);
     match outcome {
-        Ok(()) => Ok(Left::new(disk)),
-        Err(fault) => Err(Undone::Opened(fault, Left::new(disk))),
+        Ok(()) => Ok(Leftover::new(disk)),
+        Err(fault) => Err(Failure::Opened(fault, Leftover::new(disk))),
     }
 }

@@ -3,7 +3,7 @@
 ghost use Rattle.std.specs.Prelude.{◌≡◌, ◌≢◌, Some, map};
 ghost use Rattle.std.specs.IoError.{error_kind};
 ghost use Rattle.lift_program.specs.Ends.{IsAnswered, IsEndOf, IsReportOfEnd, TellsLine, line_of};
-ghost use Rattle.lift_program.specs.Ends.{IsPassedOn, undone_for};
+ghost use Rattle.lift_program.specs.Ends.{IsPassedOn, failed_for};
 ghost use Rattle.lift_program.specs.Listening.{local};
 ghost use Rattle.lift_program.specs.Output.{IsFlushed, WriterHasFailed};
 ghost use Rattle.lift_program.specs.declared.fault.Role.TheVariants.{Output};
@@ -11,7 +11,7 @@ ghost use Rattle.lift_program.specs.declared.fault.Role.TheVariants.{Output};
 use crate::end::{End, EndBy};
 use crate::fault::Fault;
 use crate::given::Given;
-use crate::left::Left;
+use crate::leftover::Leftover;
 use crate::listening::Listens;
 use crate::opening::{Files, FilesView, TextOpener};
 use crate::output::Outflow;
@@ -39,8 +39,8 @@ pub fn not_given<E: Write + Drop>(
     ensures told { TellsLine E.contents (line_of result) errors.old errors.new }
 {
     let end = match NoMemory::of_call(&error) {
-        Some(no_memory) => End::Failed(Fault::Memory(no_memory), Left::new(())),
-        None => End::OtherWords(Left::new(())),
+        Some(no_memory) => End::Failed(Fault::Memory(no_memory), Leftover::new(())),
+        None => End::OtherWords(Leftover::new(())),
     };
     end.tell(errors);
     end
@@ -83,7 +83,7 @@ pub fn start<
         (WriterHasFailed W.gives W.flushes writer.old writer.new) (W.contents writer.old)
         (W.contents writer.new) }
     // which is a fault of the standard output only where that has failed,
-    ensures unwritten { undone_for result ≡ Some (Fault.File Output)
+    ensures unwritten { failed_for result ≡ Some (Fault.File Output)
         → WriterHasFailed W.gives W.flushes writer.old writer.new }
     // what was written was passed on where all was done,
     ensures passed_on { IsPassedOn result (IsFlushed W.gives W.flushes writer.old writer.new) }

@@ -8,7 +8,7 @@ ghost use Rattle.lift_program.specs.Stages.{GivesNoText, most_text};
 ghost use Rattle.lift_program.specs.declared.fault.Role.TheVariants.{Building as OfBuilding};
 
 use crate::fault::{Fault, Role};
-use crate::left::Left;
+use crate::leftover::Leftover;
 use crate::opening::TextOpener;
 use lift_base::text::Counted;
 use lift_replay::{InputFault, MOST_BYTES, MOST_CALLS, read_all};
@@ -45,7 +45,7 @@ impl<R: Drop> OpenedText<R> {
 fn unread(fault: InputFault) -> Fault
     ensures fault { IsFileFault OfBuilding result }
     ensures unread { result ≡ Fault.File OfBuilding → fault ≡ InputFault.Read }
-    ensures wanting { result ≡ Fault.Memory tt → fault ≡ InputFault.Memory tt }
+    ensures out_of_memory { result ≡ Fault.Memory tt → fault ≡ InputFault.Memory tt }
 {
     match fault {
         InputFault::Read => Fault::File(Role::Building),
@@ -58,7 +58,7 @@ fn unread(fault: InputFault) -> Fault
 pub(crate) fn bytes_of<B: TextOpener>(
     alloc: Global,
     text: OpenedText<B::Text>,
-) -> (Left<Counted<B::Text>>, Result<Vec<u8>, Fault>)
+) -> (Leftover<Counted<B::Text>>, Result<Vec<u8>, Fault>)
     requires uncalled { IsUncalled text }
     ensures whole { IfOk result.1 (λ bytes.
         IfSome (B.Text.remaining text.reader) (λ all. bytes.items ≡ all)) }
@@ -72,18 +72,18 @@ pub(crate) fn bytes_of<B: TextOpener>(
     // it is out of memory only where no call failed.
     ensures no_text { result.1 ≡ Err (Fault.File OfBuilding)
         → GivesNoText B.Text.remaining B.reads text.reader result.0.reader }
-    ensures wanting { result.1 ≡ Err (Fault.Memory tt) → result.0.failed ≡ false }
+    ensures out_of_memory { result.1 ≡ Err (Fault.Memory tt) → result.0.failed ≡ false }
     ensures unfailed { OnOk result.1 (result.0.failed ≡ false) }
 {
     let mut reader = text.reader;
     match read_all(alloc, &mut reader, MOST_BYTES, MOST_CALLS) {
         Ok(bytes) => {
             if bytes.len() > MOST_BYTES {
-                (Left::new(reader), Err(Fault::File(Role::Building)))
+                (Leftover::new(reader), Err(Fault::File(Role::Building)))
             } else {
-                (Left::new(reader), Ok(bytes))
+                (Leftover::new(reader), Ok(bytes))
             }
         }
-        Err(fault) => (Left::new(reader), Err(unread(fault))),
+        Err(fault) => (Leftover::new(reader), Err(unread(fault))),
     }
 }

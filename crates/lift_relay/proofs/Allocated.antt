@@ -13,7 +13,7 @@ use Rattle.lift_policy.specs.Eligible.{Choice}
 use Rattle.lift_policy.specs.Step.{State}
 use Rattle.lift_policy.specs.Run.{Run}
 use Rattle.lift_clerk.specs.declared.counts.Counts.{Counts}
-use Rattle.lift_clerk.specs.Turn.{settled}
+use Rattle.lift_clerk.specs.Turn.{without_batch}
 use Rattle.lift_policy.specs.declared.command.Command.{Command}
 use Rattle.lift_clerk.specs.Visits.{commands_of, looked_at}
 use Rattle.std.proofs.lemmas.List.{length-map}
@@ -28,10 +28,10 @@ use Rattle.lift_parts.specs.Allocator.{AllocatorState, DecidesAlong, GoesOnBehin
 -- one batch more
 pub along_more : (plan : Plan) (choice : Choice) (start mid decided : State) (batches : List BatchState) (batch : BatchState) → DecidesAlong plan choice start batches mid
     → Run plan choice mid (commands_in batch.commands) (replies_in batch.commands) decided → batch.entries ≡ decided.batch
-    → DecidesAlong plan choice start (batches ++ batch ∷ []) (settled decided)
+    → DecidesAlong plan choice start (batches ++ batch ∷ []) (without_batch decided)
 along_more plan choice start mid decided [] batch along run entries =
     (decided, subst (λ (s : State). Run plan choice s (commands_in batch.commands) (replies_in batch.commands) decided) along run, entries, refl)
-along_more plan choice start mid decided (b ∷ batches) batch along run entries = (along.0, along.1, along.2, along_more plan choice (settled along.0) mid decided batches batch along.3 run entries)
+along_more plan choice start mid decided (b ∷ batches) batch along run entries = (along.0, along.1, along.2, along_more plan choice (without_batch along.0) mid decided batches batch along.3 run entries)
 
 -- what decisions read, of the calls and the cars
 pub based : (state : State) (register : RegisterState) (schedules : List (Option ScheduleState)) → register ≡ state.register → positions_of schedules ≡ state.positions → state.batch ≡ []
@@ -49,7 +49,7 @@ half_of a = record { desk = a.desk; seat = a.seat; plan = a.plan; state = a.stat
 pub makes : {P : Type 0} (choice : Choice) (a : ScannerState P) (seat : List ClerkPlace) (decided : State) (taken : List NotedCommand) (entries : List Entry) (plan : Plan) (before after : State) (seats : List ClerkPlace) (batch : BatchState)
     → batch ≡ record { commands = taken; entries = entries; building = plan; before = before; after = after; desk = a.desk; turns = turns_of seats } → IsClerkOf a.desk seat
     → Run a.plan choice a.state (commands_in taken) (replies_in taken) decided → entries ≡ decided.batch → plan ≡ a.plan → before ≡ a.state
-    → after ≡ settled decided → turns_in a.seat + 1 ≤ turns_in seat
+    → after ≡ without_batch decided → turns_in a.seat + 1 ≤ turns_in seat
     → seats ≡ a.seat → turns_after (turns_of a.seat) taken ≡ turns_of seat → MakesBatch choice a seat decided batch
 makes choice a seat decided taken entries plan before after seats batch is seated run same building on leads uses of_seat turns = record {
   uses = uses;
@@ -74,7 +74,7 @@ behind_none plan desk sent turns hand shown used none same still = subst (λ (l 
 
 -- the new batch is sent
 pub sent_one : {P : Type 0} (choice : Choice) (a : AllocatorState P) (seat : List ClerkPlace) (decided state : State) (plan : Plan) (batch : BatchState) (end : SendState)
-    → IsAllocator choice a → a.hand ≡ [] → MakesBatch choice (half_of a) seat decided batch → plan ≡ a.plan → state ≡ settled decided → SendsOne a.end batch end
+    → IsAllocator choice a → a.hand ≡ [] → MakesBatch choice (half_of a) seat decided batch → plan ≡ a.plan → state ≡ without_batch decided → SendsOne a.end batch end
     → IsAllocator choice (record { desk = a.desk; seat = seat; plan = plan; state = state; start = a.start; policy = a.policy; end = end; hand = a.hand })
 sent_one choice a seat decided state plan batch end is none made of_plan settles sent =
     let along = along_more a.plan choice a.start a.state decided (a.end.sent ++ a.hand) batch is.decides made.run made.entries in
@@ -92,7 +92,7 @@ sent_one choice a seat decided state plan batch end is none made of_plan settles
 
 -- the line has no room for it
 pub held_one : {P : Type 0} (choice : Choice) (a : AllocatorState P) (seat : List ClerkPlace) (decided state : State) (plan : Plan) (batch back : BatchState) (end : SendState)
-    → IsAllocator choice a → a.hand ≡ [] → MakesBatch choice (half_of a) seat decided batch → plan ≡ a.plan → state ≡ settled decided → end ≡ record a.end { tries = tried a.end.tries true } → back ≡ batch
+    → IsAllocator choice a → a.hand ≡ [] → MakesBatch choice (half_of a) seat decided batch → plan ≡ a.plan → state ≡ without_batch decided → end ≡ record a.end { tries = tried a.end.tries true } → back ≡ batch
     → IsAllocator choice (record { desk = a.desk; seat = seat; plan = plan; state = state; start = a.start; policy = a.policy; end = end; hand = back ∷ [] })
 held_one choice a seat decided state plan batch back end is none made of_plan settles same_end is_back =
     let along = along_more a.plan choice a.start a.state decided (a.end.sent ++ a.hand) batch is.decides made.run made.entries in
@@ -144,7 +144,7 @@ refused_full old new refused =
 pub scan_turn : {P : Type 0} (choice : Choice) (old a new : AllocatorState P) (counts : Counts) (taken : List NotedCommand) (decided : State) (batch : BatchState) → Between old a
     → (scans : ScansAhead choice a.plan a.seat new.seat a.state decided taken (length a.desk))
     → batch.commands ≡ taken → batch.entries ≡ decided.batch
-    → new.state ≡ settled decided
+    → new.state ≡ without_batch decided
     → (new.desk ≡ a.desk) × (new.plan ≡ a.plan) × (new.policy ≡ a.policy) × (new.start ≡ a.start) × (new.end.line ≡ a.end.line)
     → counts.taken ≡ length taken → counts.accepted ≡ length decided.batch
     → (length taken ≡ 0 → (new.end.sent ++ new.hand ≡ a.end.sent) × (new.hand ≡ []))
@@ -208,7 +208,7 @@ module _ {P : Type 0} (chooses : P → Choice) (s n : ScannerState P) (end : Sen
     stays : n.state ≡ s.state
     stays =
         let run : scan.decided ≡ s.state = subst (λ (l : List NotedCommand). Run s.plan (chooses s.policy) s.state (commands_in l) (replies_in l) scan.decided) nothing_taken scan.scans.run in
-        scan.after ∙ ap settled run ∙ ap (λ (b : List Entry). record s.state { batch = b }) (sym is.all_sealed)
+        scan.after ∙ ap without_batch run ∙ ap (λ (b : List Entry). record s.state { batch = b }) (sym is.all_sealed)
 
     same_turns : turns_of n.seat ≡ turns_of s.seat
     same_turns = sym scan.turns ∙ ap (turns_after (turns_of s.seat)) nothing_taken

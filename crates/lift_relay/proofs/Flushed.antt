@@ -20,7 +20,7 @@ use Rattle.lift_clerk.specs.lemmas.Visiting.{taken-new}
 use Rattle.lift_clerk.specs.lemmas.Looking.{Looked}
 use Rattle.lift_parts.specs.declared.taken.NotedCommand.{NotedCommand}
 use Rattle.lift_parts.specs.Batch.{AreBelow, commands_in, turns_of, turns_with, turns_after, IsNoted, AreNoted}
-use Rattle.lift_parts.specs.Flusher.{AnswersOne, Answered, IsSettled}
+use Rattle.lift_parts.specs.Flusher.{AnswersOne, Answered, AllAnsweredBy}
 use Rattle.lift_parts.specs.lemmas.Used.{is_below}
 use Rattle.lift_relay.specs.Settler.{IsToBeAnswered}
 
@@ -78,8 +78,8 @@ is_other m n e = grind (arith, nat_tests)
 pub settles_one : (places mid next : List ClerkPlace) (turns : List ℕ) (taken : NotedCommand) (looked stored : ClerkView) → taken.command.terminal < length places → taken.command.terminal < length turns
     → mid ≡ clerk_with places taken.command.terminal looked → looked.taken ≡ (view_at places taken.command.terminal).taken ++ taken.note.word ∷ []
     → next ≡ clerk_with mid taken.command.terminal stored → stored.taken ≡ looked.taken → ¬ Owes (view_at next taken.command.terminal)
-    → IsSettled places turns → IsSettled next (turns_with turns taken)
-settles_one places mid next turns taken looked stored inside counted first takes second same rests settled j = at j (nat_eq j taken.command.terminal) refl
+    → AllAnsweredBy places turns → AllAnsweredBy next (turns_with turns taken)
+settles_one places mid next turns taken looked stored inside counted first takes second same rests all_answered j = at j (nat_eq j taken.command.terminal) refl
   where
     t : ℕ
     t = taken.command.terminal
@@ -102,7 +102,7 @@ settles_one places mid next turns taken looked stored inside counted first takes
         let apart = is_other j t e in
         let still : view_at next j ≡ view_at places j = ap (λ (l : List ClerkPlace). view_at l j) second ∙ view_at-else mid t j stored apart ∙ ap (λ (l : List ClerkPlace). view_at l j) first ∙ view_at-else places t j looked apart in
         let turn = get_or-set_other turns t j (turn_of taken.note.word) 0 apart in
-        let was = settled j in
+        let was = all_answered j in
         (subst (λ (v : ClerkView). ¬ Owes v) (sym still) was.0, subst (λ (v : ClerkView). turn_of (last_of v.taken) ≤ get_or (turns_with turns taken) j 0) (sym still) (omega arith))
 
 more : (is_safe : Bool) (places mid next : List ClerkPlace) (batch : List NotedCommand) (taken : NotedCommand) (visit : Visit) → Answered is_safe places batch mid
@@ -152,15 +152,15 @@ below_one count (t ∷ commands) (suc n) d inside below = below_one count comman
 
 -- what is not later than these turns isn't as late as the command after them
 pub due_at : (desk : List TableId) (places : List ClerkPlace) (turns : List ℕ) (commands : List NotedCommand) (n : ℕ) (d : NotedCommand) → n < length commands → AreBelow (length desk) (commands_in commands)
-    → AreNoted desk turns commands → IsSettled places (turns_after turns (take n commands)) → IsToBeAnswered desk places (get_or commands n d)
-due_at desk places turns commands n d inside below all settled =
+    → AreNoted desk turns commands → AllAnsweredBy places (turns_after turns (take n commands)) → IsToBeAnswered desk places (get_or commands n d)
+due_at desk places turns commands n d inside below all all_answered =
     let noted = noted_at desk turns commands n d inside all in
     let later = noted.later in
-    let before = (settled (get_or commands n d).command.terminal).1 in
+    let before = (all_answered (get_or commands n d).command.terminal).1 in
     record { terminal = below_one (length desk) commands n d inside below; noted = noted.of_table; says = (noted.in_range, (is_below _ _ (omega arith), noted.says)) }
 
 -- as the clerk's seats are where it is split
-pub settled_first : (clerk : List ClerkPlace) → OwesNothing clerk → IsSettled clerk (turns_of (ahead_from clerk))
-settled_first [] owes t = (λ h. omega arith, omega arith)
-settled_first (p ∷ clerk) owes zero = (owes 0 p (omega arith), omega arith)
-settled_first (p ∷ clerk) owes (suc t) = settled_first clerk (λ k d below. owes (suc k) d (omega arith)) t
+pub answered_first : (clerk : List ClerkPlace) → OwesNothing clerk → AllAnsweredBy clerk (turns_of (ahead_from clerk))
+answered_first [] owes t = (λ h. omega arith, omega arith)
+answered_first (p ∷ clerk) owes zero = (owes 0 p (omega arith), omega arith)
+answered_first (p ∷ clerk) owes (suc t) = answered_first clerk (λ k d below. owes (suc k) d (omega arith)) t

@@ -57,7 +57,7 @@ module _ {D P : Type 0} (choice : Choice) (state : D → DiskState) (a b : Alloc
   stay_of (inl refused) one =
       let still : AreSameParts a a f f = record {
         same_allocator = record { line = refl; desk = refl; plan = refl; policy = refl; start = refl };
-        same_flusher = record { line = refl; desk = refl; plan = refl; half = refl; opened = refl };
+        same_flusher = record { line = refl; desk = refl; plan = refl; half = refl; failures_at_opening = refl };
         of_one = one;
       } in
       subst (λ (p : AllocatorState P × FlusherState D). AreSameParts a p.0 f p.1) (λ i. (sym refused.1.0 i, sym refused.1.1 i)) still

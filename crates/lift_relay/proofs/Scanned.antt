@@ -18,7 +18,7 @@ use Rattle.lift_policy.specs.Laws.{RunsJoin, StepsJoinAtMostOne}
 use Rattle.lift_policy.specs.Run.{Run}
 use Rattle.lift_policy.specs.Step.{State}
 use Rattle.lift_keeper.specs.Keeper.{IsKeeper}
-use Rattle.lift_keeper.specs.lemmas.Keepers.{decided_keeper, settled_keeper}
+use Rattle.lift_keeper.specs.lemmas.Keepers.{decided_keeper, keeper_without_batch}
 use Rattle.lift_clerk.specs.Visits.{Visit, command_at, commands_of}
 use Rattle.lift_clerk.specs.lemmas.Visiting.{commands-more}
 use Rattle.lift_clerk.specs.lemmas.Looking.{Looked, one-more}
@@ -96,4 +96,4 @@ keeps-run choice joins plan safe same state next (c ∷ commands) (r ∷ replies
 pub run-keeps : (choice : Choice) → StepsJoinAtMostOne choice → (plan : Plan) (state next : State) (commands : List Command) (replies : List Reply) → register_of state.register [] ≡ state.register → state.batch ≡ []
     → Run plan choice state commands replies next → IsKeeper plan next plan state.register false
 run-keeps choice joins plan state next commands replies same none run =
-    keeps-run choice joins plan state.register same state next commands replies (settled_keeper plan state plan state.register false refl none same (λ _. refl)) run
+    keeps-run choice joins plan state.register same state next commands replies (keeper_without_batch plan state plan state.register false refl none same (λ _. refl)) run

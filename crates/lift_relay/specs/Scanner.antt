@@ -7,7 +7,7 @@ use Rattle.lift_policy.specs.Eligible.{Choice}
 use Rattle.lift_policy.specs.Step.{State}
 use Rattle.lift_policy.specs.Run.{Run}
 use Rattle.lift_clerk.specs.declared.counts.Counts.{Counts}
-use Rattle.lift_clerk.specs.Turn.{settled}
+use Rattle.lift_clerk.specs.Turn.{without_batch}
 use Rattle.lift_parts.specs.declared.taken.NotedCommand.{NotedCommand}
 use Rattle.lift_parts.specs.Batch.{BatchState, turns_of, turns_behind, turns_after, commands_in, replies_in}
 use Rattle.lift_parts.specs.Line.{IsNextBatch}
@@ -32,7 +32,7 @@ pub record MakesBatch {P : Type 0} (choice : Choice) (a : ScannerState P) (seat 
   pub entries : batch.entries ≡ decided.batch
   pub next : IsNextBatch a.plan a.desk a.state (turns_of a.seat) batch
   -- what decisions read after it
-  pub leads : batch.after ≡ settled decided
+  pub leads : batch.after ≡ without_batch decided
   pub turns : turns_of seat ≡ turns_behind batch
   pub uses : turns_in a.seat + 1 ≤ turns_in seat
 
@@ -50,7 +50,7 @@ pub record HasScanned {P : Type 0} (choice : Choice) (old new : ScannerState P) 
   pub decided : State
   pub scans : ScansAhead choice old.plan old.seat new.seat old.state decided taken (length old.desk)
   pub makes : MakesIt choice old new.seat decided taken made
-  pub after : new.state ≡ settled decided
+  pub after : new.state ≡ without_batch decided
   pub same : new ≡ record old { seat = new.seat; state = new.state }
   pub seated : IsClerkOf old.desk new.seat
   pub turns : turns_after (turns_of old.seat) taken ≡ turns_of new.seat

@@ -10,7 +10,7 @@ ghost use Rattle.lift_keeper.specs.Calls.{CommitCalls};
 ghost use Rattle.lift_parts.specs.Batch.{BatchState};
 ghost use Rattle.lift_parts.specs.Queued.{Queued};
 ghost use Rattle.lift_parts.specs.Parts.{AreOfOne};
-ghost use Rattle.lift_parts.specs.Flusher.{IsFlusher, IsSettled, IsBatchTurn, entries_received};
+ghost use Rattle.lift_parts.specs.Flusher.{IsFlusher, AllAnsweredBy, IsBatchTurn, entries_received};
 ghost use Rattle.lift_parts.specs.Turns.{IsFlush};
 ghost use Rattle.lift_base.specs.declared.history.Entry.{Entry};
 ghost use Rattle.lift_world.specs.declared.event.Taken.{Taken};
@@ -68,7 +68,7 @@ impl<'d, 'b, D: Disk, K> Flusher<'d, 'b, D, K> {
         requires of_building { end.building ≡ writer.plan }
         requires at_desk { end.desk ≡ desk.now }
         requires safe { writer.is_broken ≡ false → writer.register ≡ end.state.register }
-        requires settled { IsSettled seat end.turns }
+        requires all_answered { AllAnsweredBy seat end.turns }
         ensures value { result ≡ record {
           desk = desk.now;
           seat = seat;

@@ -31,7 +31,7 @@ pub trait Gate {
     /// It is asked between turns, by both threads.
     fn go_on(&self) -> bool
         ensures goes { result ≡ true → opened self.now }
-        ensures stops { result ≡ false → closed self.now };
+        ensures closes { result ≡ false → closed self.now };
 
     /// The allocator's turn sent nothing, and has nothing in hand. The next one looks at what was
     /// asked before this returns.
@@ -105,7 +105,7 @@ impl<'d, 'b, P: Policy + Drop> AskingAllocator<'d, 'b, P> {
     /// Asks the gate.
     pub(crate) fn ask<G: Gate>(self, gate: &G) -> Result<Opened<'d, 'b, P>, Closed<'d, 'b, P>>
         ensures goes { IfOk result (λ goes. (goes ≡ self.entry) × G.opened gate.now) }
-        ensures stops { IfErr result (λ stops. (stops ≡ self.entry) × G.closed gate.now) }
+        ensures closes { IfErr result (λ closed. (closed ≡ self.entry) × G.closed gate.now) }
     {
         if gate.go_on() {
             Ok(Opened {

@@ -95,7 +95,7 @@ impl<'b, D: Disk, K> HeldKeeper<'b, D, K> {
     ) -> HeldClerk<'d, 'b, D, P, K>
         requires seated { IsClerkOf desk.now seat }
         requires answered { OwesNothing seat }
-        requires settled { (self.state.batch ≡ []) ⊎ (self.writer.is_broken ≡ true) }
+        requires empty_batch { (self.state.batch ≡ []) ⊎ (self.writer.is_broken ≡ true) }
         ensures { result ≡ record {
           desk = desk.now;
           seat = seat;
@@ -163,7 +163,7 @@ impl<'d, 'b, D: Disk, P: Policy + Drop, K> HeldClerk<'d, 'b, D, P, K> {
     /// Its keeper, as it is. It looks at the desk no more.
     pub fn leave(self) -> HeldKeeper<'b, D, K>
         ensures keeper { result ≡ self.entry.keeper }
-        ensures settled { (result.state.batch ≡ []) ⊎ (result.writer.is_broken ≡ true) }
+        ensures empty_batch { (result.state.batch ≡ []) ⊎ (result.writer.is_broken ≡ true) }
     {
         let (_seat, keeper, _policy) = self.clerk.into_parts();
         HeldKeeper::new(keeper)

@@ -80,7 +80,7 @@ pub fn scan<P: Policy>(
     policy: &P,
 ) -> ArrayVec<NotedCommand, MOST_ENTRIES>
     requires seated { IsClerkOf desk.now seat.old }
-    requires settled { decider.old.state.batch ≡ [] }
+    requires empty_batch { decider.old.state.batch ≡ [] }
     ensures scans { ScansAhead (P.chooses policy.now) decider.old.plan seat.old seat.new
         decider.old.state decider.new.state result.items (length desk.now) }
     // What was accepted fits what was shown before, and its commands are of the desk's terminals.

@@ -8,7 +8,7 @@ ghost use Rattle.lift_desk.specs.Steps.{with_told_answers, with_told_asks, lists
 ghost use Rattle.lift_keeper.specs.Prelude.{Commits, CommitCalls};
 ghost use Rattle.lift_clerk.specs.Visits.{Visit};
 ghost use Rattle.lift_parts.specs.Batch.{turns_behind, turns_with};
-ghost use Rattle.lift_parts.specs.Flusher.{AnswersOne, Answered, IsSettled};
+ghost use Rattle.lift_parts.specs.Flusher.{AnswersOne, Answered, AllAnsweredBy};
 ghost use Rattle.lift_relay.specs.Heard.{FailureHeard};
 ghost use Rattle.lift_relay.specs.Settler.{IsToBeAnswered, SettlesBatch};
 
@@ -59,8 +59,8 @@ fn answer(desk: &Desk, seat: &mut ClerkSeat, taken: NotedCommand, is_safe: bool)
     requires seated { IsClerkOf desk.now seat.old }
     requires due { IsToBeAnswered desk.now seat.old taken }
     ensures answers { (visit : Visit) × AnswersOne is_safe seat.old taken visit seat.new }
-    ensures settled { (turns : List ℕ) → IsSettled seat.old turns
-        → taken.command.terminal < length turns → IsSettled seat.new (turns_with turns taken) }
+    ensures all_answered { (turns : List ℕ) → AllAnsweredBy seat.old turns
+        → taken.command.terminal < length turns → AllAnsweredBy seat.new (turns_with turns taken) }
     ensures seated { IsClerkOf desk.now seat.new }
 {
     let NotedCommand {
@@ -78,9 +78,9 @@ fn answer(desk: &Desk, seat: &mut ClerkSeat, taken: NotedCommand, is_safe: bool)
 fn answer_all(desk: &Desk, seat: &mut ClerkSeat, batch: Batch, is_safe: bool) -> usize
     requires seated { IsClerkOf desk.now seat.old }
     requires at_desk { batch.desk ≡ desk.now }
-    requires settled { IsSettled seat.old batch.turns }
+    requires all_answered { AllAnsweredBy seat.old batch.turns }
     ensures answered { Answered is_safe seat.old batch.commands seat.new }
-    ensures settled { IsSettled seat.new (turns_behind batch) }
+    ensures all_answered { AllAnsweredBy seat.new (turns_behind batch) }
     ensures count { result ≡ length batch.commands }
     ensures seated { IsClerkOf desk.now seat.new }
 {
@@ -153,7 +153,7 @@ impl<'d, 'b, D: Disk, K> Settler<'d, 'b, D, K> {
         requires next { self.old.writer.is_broken ≡ false
             → (batch.building ≡ self.old.writer.plan)
             × (batch.before.register ≡ self.old.writer.register) }
-        requires settled { IsSettled self.old.seat batch.turns }
+        requires all_answered { AllAnsweredBy self.old.seat batch.turns }
         ensures settles { SettlesBatch D.state self.old batch self.new result }
         ensures calls { CommitCalls
             D.state self.old.writer (length batch.entries) self.new.writer result }
@@ -191,8 +191,8 @@ impl<'d, 'b, D: Disk, K> Settler<'d, 'b, D, K> {
         // What the two have stored fits together.
         ensures in_order { IsInOrder
             (lists_of seat.old.view (view_at self.old.seat seat.old.terminal)) }
-        ensures settled { (turns : List ℕ) → IsSettled self.old.seat turns
-            → IsSettled self.new.seat turns }
+        ensures all_answered { (turns : List ℕ) → AllAnsweredBy self.old.seat turns
+            → AllAnsweredBy self.new.seat turns }
         ensures seat_stays { IsSeatOf self.new.desk seat.new }
         ensures seated { IsClerkOf self.new.desk self.new.seat }
     {

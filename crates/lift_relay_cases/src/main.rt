@@ -101,7 +101,7 @@ fn run_segment<'b, R: Wait>(
     lines: &mut Lines,
     report: &mut String,
 ) -> Result<Option<MemDisk>, Trouble>
-    requires settled { keeper.state.batch ≡ [] }
+    requires empty_batch { keeper.state.batch ≡ [] }
 {
     let building = keeper.building();
     let DeskParts { desk, seats, clerk } = Desk::open(alloc, 16 + usize::from(building.kiosks()))?;

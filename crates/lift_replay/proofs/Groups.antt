@@ -22,18 +22,18 @@ use Rattle.lift_policy.specs.Decision.{decision_by, etd_pick}
 use Rattle.lift_policy.specs.Laws.{StepsAreDecisions}
 use Rattle.lift_policy.specs.Run.{Run, unknowns}
 use Rattle.lift_policy.specs.Step.{State}
-use Rattle.lift_keeper.specs.Cuts.{StopsAtMark}
-use Rattle.lift_keeper.specs.Writer.{StopsCommit, commit_call_count, commit_used, commit_second, has_room}
+use Rattle.lift_keeper.specs.Cuts.{FailsAtMark}
+use Rattle.lift_keeper.specs.Writer.{IsFailedCommit, commit_call_count, commit_used, commit_second, has_room}
 use Rattle.lift_disk.specs.Faults.{FusedDisk, fuse_state_of}
 use Rattle.lift_keeper.specs.Keeper.{KeeperView}
 use Rattle.lift_clerk.specs.declared.counts.Counts.{Counts}
-use Rattle.lift_clerk.specs.Turn.{IsTurn, IsFailedTurn, IsBrokenTurn, settled}
+use Rattle.lift_clerk.specs.Turn.{IsTurn, IsFailedTurn, IsBrokenTurn, without_batch}
 use Rattle.lift_clerk.specs.lemmas.Visiting.{length-served}
 use Rattle.lift_clerk.specs.Visits.{Visit, LooksAndAnswers, commands_of as commands_at}
-use Rattle.lift_replay.specs.Group.{Asking, ScriptGroup, Stopped, Found, half, waiting_from, waiting_commands, having_heard, heard_replies_text, state_by, replies_by, state_to_decide_on, state_decided, calls_for, passes, passing_after, calls_to_stop, after_turn, after_stop, after_commit, commit_text, turned, turn_told, by_mark, at_mark, found_while_whole, folded, with_room, with_batch, in_folding, in_append, room_for, found_after_cut}
+use Rattle.lift_replay.specs.Group.{Asking, ScriptGroup, FailedBatch, Found, half, waiting_from, waiting_commands, having_heard, heard_replies_text, state_by, replies_by, state_to_decide_on, state_decided, calls_for, passes, passing_after, calls_to_fail, after_turn, after_failure, after_commit, commit_text, turned, turn_told, by_mark, at_mark, found_while_whole, folded, with_room, with_batch, in_folding, in_append, room_for, found_after_cut}
 use Rattle.lift_replay.specs.Report.{turn_text, fault_text}
 use Rattle.lift_replay.specs.Terminals.{AllHear, AreTold, seat_at}
-use Rattle.lift_replay.specs.Told.{ScriptClerk, OutcomeTells, TurnTells, HasCommitted, WasStopped, device_of}
+use Rattle.lift_replay.specs.Told.{ScriptClerk, OutcomeTells, TurnTells, HasCommitted, HasFailedCommit, device_of}
 use Rattle.lift_replay.specs.Shows.{AreInStep, IsFound, IsFused, Stands, IsKeeperOf, Shows}
 use Rattle.lift_replay.proofs.InStep.{all_found, commands_found, hear_all}
 
@@ -106,9 +106,9 @@ takes_all terminals seats told after places turned known visits replies heard st
 cut_whole : (disk : DiskState) (P : Image → Type 0) (image : Image) → disk.is_honest → LeavesNow disk P → MayLeave disk image → P image
 cut_whole disk P image honest leaves may = leaves honest image may
 
--- a run that a mark divides was stopped: what each cut leaves
+-- a run that a mark divides has failed: what each cut leaves
 module _ (plan : Plan) (old new : DiskState) (P Q : Found) (unmarks : Bool) (offset mark made whole : ℕ) (honest : new.is_honest) (is : whole ≡ offset + mark)
-    (stops : StopsAtMark (IsFound plan P) (IsFound plan Q) unmarks whole old new) (calls : new.calls ≡ old.calls + offset + made) (most : made ≤ mark + 2) where
+    (stops : FailsAtMark (IsFound plan P) (IsFound plan Q) unmarks whole old new) (calls : new.calls ≡ old.calls + offset + made) (most : made ≤ mark + 2) where
   abbrev M : Found
   M = if unmarks then P else Q
 
@@ -136,9 +136,9 @@ module _ (plan : Plan) (old new : DiskState) (P Q : Found) (unmarks : Bool) (off
       cases true e = stops.early (let w = le_of made mark e in omega (arith, calls, is, w)) honest image may
       cases false e = behind_mark outcome image (nat_le (mark + 2) made) refl (let w = past_of made mark e in omega (arith, w)) left
 
--- what each cut leaves of a commit that was stopped
-module _ (plan : Plan) (g : ScriptGroup) (s : Stopped) (old new : DiskState) (honest : new.is_honest)
-    (stops : StopsCommit plan half g.is_second g.used g.register s.batch old new) (calls : new.calls ≡ old.calls + s.made) (some : 0 < length s.batch)
+-- what each cut leaves of a commit that has failed
+module _ (plan : Plan) (g : ScriptGroup) (s : FailedBatch) (old new : DiskState) (honest : new.is_honest)
+    (stops : IsFailedCommit plan half g.is_in_second_half g.used g.register s.batch old new) (calls : new.calls ≡ old.calls + s.made) (some : 0 < length s.batch)
     (most : s.made ≤ commit_call_count g.register g.used half (length s.batch)) where
   room_is : (b : Bool) → has_room g.used half (length s.batch) ≡ b → (room_for g s.batch ≡ 0) ⊎ (room_for g s.batch ≡ sectors_for (length (base_records g.register)) + 4)
   room_is true e = inl (ap (λ c. cond c 0 (sectors_for (length (base_records g.register)) + 4)) e)
@@ -150,7 +150,7 @@ module _ (plan : Plan) (g : ScriptGroup) (s : Stopped) (old new : DiskState) (ho
   fold_left : (outcome : Outcome) (image : Image) → s.made ≤ room_for g s.batch → IsLeftBy outcome new image → MayLeave new image → IsFound plan (in_folding outcome g s.made) image
   fold_left outcome image early left may =
       let stop = stops.folding (omega (arith, calls, early)) in
-      left_at_mark plan old new (found_while_whole g) (folded g) g.is_second 0 (sectors_for (length (base_records g.register)) + 2) s.made (sectors_for (length (base_records g.register)) + 2) honest (omega arith) stop
+      left_at_mark plan old new (found_while_whole g) (folded g) g.is_in_second_half 0 (sectors_for (length (base_records g.register)) + 2) s.made (sectors_for (length (base_records g.register)) + 2) honest (omega arith) stop
       (omega (arith, calls)) (omega (arith, few)) outcome image left may
     where
       few : s.made ≤ sectors_for (length (base_records g.register)) + 4
@@ -199,17 +199,17 @@ fused_on (Some left) need old new ok fused calls none keeps =
       short = none.short ∙ fused.short;
     }
 
--- or the fuse has stopped it
-pub record StopsAtFuse (passing : Option ℕ) (need : ℕ) (old new : DiskState) : Type 0 where
-  pub stopped : passes passing need ≡ false
-  pub calls : new.calls ≡ old.calls + calls_to_stop passing
-  pub most : calls_to_stop passing ≤ need
+-- or it has failed at the fuse
+pub record FailsAtFuse (passing : Option ℕ) (need : ℕ) (old new : DiskState) : Type 0 where
+  pub failed : passes passing need ≡ false
+  pub calls : new.calls ≡ old.calls + calls_to_fail passing
+  pub most : calls_to_fail passing ≤ need
 
 pub stops_at : (passing : Option ℕ) (need : ℕ) (old new : DiskState) → old.is_inert → IsFused passing old → new.is_short ≡ false → new.calls ≤ old.calls + need → LastFails old new
-    → StopsAtFuse passing need old new
+    → FailsAtFuse passing need old new
 stops_at passing need old new inert fused long most last = last_call passing fused (last.last inert)
   where
-    last_call : (p : Option ℕ) → IsFused p old → old.fails_at new.calls × (new.is_short ≡ old.is_short) ⊎ ¬ old.fails_at new.calls × (new.is_short ≡ true) → StopsAtFuse p need old new
+    last_call : (p : Option ℕ) → IsFused p old → old.fails_at new.calls × (new.is_short ≡ old.is_short) ⊎ ¬ old.fails_at new.calls × (new.is_short ≡ true) → FailsAtFuse p need old new
     last_call p f (inr short) = absurd (false≢true (sym long ∙ short.1))
     last_call None f (inl fails) = absurd ((f.told new.calls last.some).0 fails.0)
     last_call (Some left) f (inl fails) =
@@ -219,17 +219,17 @@ stops_at passing need old new inert fused long most last = last_call passing fus
           | inl below ↦ (let le = below.1 in omega (arith, le, past))
           | inr above ↦ absurd (last.before inert (old.calls + left + 1) call (let lt = above.1 in omega (arith, lt)) ((f.told (old.calls + left + 1) call).1 (omega arith)))
         ] in
-        record { stopped = beyond need left (omega (arith, past, most)); calls = here; most = omega (arith, here, most) }
+        record { failed = beyond need left (omega (arith, past, most)); calls = here; most = omega (arith, here, most) }
 
 -- the terminals and the fuse are nothing to what a cut leaves
-pub left_as : (x : Option Stopped) (g : ScriptGroup) (passing : Option ℕ) (terminals : List Asking) (outcome : Outcome) → found_after_cut x outcome (record g { passing = passing; terminals = terminals }) ≡ found_after_cut x outcome g
+pub left_as : (x : Option FailedBatch) (g : ScriptGroup) (passing : Option ℕ) (terminals : List Asking) (outcome : Outcome) → found_after_cut x outcome (record g { passing = passing; terminals = terminals }) ≡ found_after_cut x outcome g
 left_as None g passing terminals outcome = refl
 left_as (Some s) g passing terminals outcome = refl
 
-pub with_terminals : (plan : Plan) (g : ScriptGroup) (keeper : KeeperView FusedDisk) (terminals : List Asking) (s : Option Stopped) → Stands s plan g keeper → Stands s plan (record g { terminals = terminals }) keeper
+pub with_terminals : (plan : Plan) (g : ScriptGroup) (keeper : KeeperView FusedDisk) (terminals : List Asking) (s : Option FailedBatch) → Stands s plan g keeper → Stands s plan (record g { terminals = terminals }) keeper
 with_terminals plan g keeper terminals None stands = stands
 with_terminals plan g keeper terminals (Some s) stands =
-    (stands.0, λ outcome image left may. subst (λ f. IsFound plan f image) (sym (left_as g.stopped g g.passing terminals outcome)) (stands.1 outcome image left may))
+    (stands.0, λ outcome image left may. subst (λ f. IsFound plan f image) (sym (left_as g.failed g g.passing terminals outcome)) (stands.1 outcome image left may))
 
 is_broken_not : (b : Bool) → b ≡ true → b ≡ false → ⊥
 is_broken_not b yes_it no_it = true≢false (sym yes_it ∙ no_it)
@@ -243,13 +243,13 @@ module _ (computed : StepsAreDecisions IsEtdChoice etd_pick) (plan : Plan) (g : 
   same_keeper : new.keeper ≡ now.keeper
   same_keeper = ap (λ (c : ScriptClerk). c.keeper) outcome.rest
 
-  abbrev Result : Option Stopped → Type 0
+  abbrev Result : Option FailedBatch → Type 0
   Result s = (text ≡ turn_told s plan g) × IsKeeperOf plan (turned s plan g) now.keeper × AreInStep (turned s plan g).terminals after new.seat
 
   long_now : (device_of now).is_short ≡ false
   long_now = subst (λ (k : KeeperView FusedDisk). (fuse_state_of k.writer.device).is_short ≡ false) same_keeper long
 
-  went_well : (s : Option Stopped) → Stands s plan g old.keeper → (counts : Counts) → IsTurn IsEtdChoice old now counts → HasCommitted old now counts.accepted → outcome.head ≡ turn_text counts.taken counts.accepted → Result s
+  went_well : (s : Option FailedBatch) → Stands s plan g old.keeper → (counts : Counts) → IsTurn IsEtdChoice old now counts → HasCommitted old now counts.accepted → outcome.head ≡ turn_text counts.taken counts.accepted → Result s
   went_well (Some s) stands counts turn made head = absurd (is_broken_not old.keeper.writer.is_broken stands.0 made.was_whole)
   went_well None stands counts turn made head =
       let takes = takes_all g.terminals seats outcome.told after old.seat now.seat new.seat turn.visits turn.replies outcome.heard shows.terminals turn.serves outcome.knows outcome.hear in
@@ -266,18 +266,18 @@ module _ (computed : StepsAreDecisions IsEtdChoice etd_pick) (plan : Plan) (g : 
       let kept : IsKeeperOf plan (after_turn g (state_decided plan g)) now.keeper = record {
         same_plan = outcome.place.plan ∙ shows.keeper.same_plan;
         half_is = outcome.place.half ∙ shows.keeper.half_is;
-        register = made.register ∙ ap (λ (s : State). s.register) (turn.after ∙ ap settled is.1);
+        register = made.register ∙ ap (λ (s : State). s.register) (turn.after ∙ ap without_batch is.1);
         stands = (
           made.whole,
-          turn.after ∙ ap settled is.1,
+          turn.after ∙ ap without_batch is.1,
           made.used ∙ ap (λ r. commit_used r old.keeper.writer.used old.keeper.writer.half counts.accepted) shows.keeper.register
               ∙ ap (λ u. commit_used g.register u old.keeper.writer.half counts.accepted) stands.2
               ∙ ap (λ h. commit_used g.register g.used h counts.accepted) shows.keeper.half_is
               ∙ ap (λ n. commit_used g.register g.used half n) accepted,
           made.second ∙ ap (λ b. commit_second b old.keeper.writer.used old.keeper.writer.half counts.accepted) stands.3
-              ∙ ap (λ u. commit_second g.is_second u old.keeper.writer.half counts.accepted) stands.2
-              ∙ ap (λ h. commit_second g.is_second g.used h counts.accepted) shows.keeper.half_is
-              ∙ ap (λ n. commit_second g.is_second g.used half n) accepted,
+              ∙ ap (λ u. commit_second g.is_in_second_half u old.keeper.writer.half counts.accepted) stands.2
+              ∙ ap (λ h. commit_second g.is_in_second_half g.used h counts.accepted) shows.keeper.half_is
+              ∙ ap (λ n. commit_second g.is_in_second_half g.used half n) accepted,
           fused_on g.passing (calls_for g (state_decided plan g)) (device_of old) (device_of now) ok stands.4 need made.none_fails outcome.place.fuse,
         );
       } in
@@ -289,9 +289,9 @@ module _ (computed : StepsAreDecisions IsEtdChoice etd_pick) (plan : Plan) (g : 
         subst (λ b. AreInStep (after_commit b g (state_decided plan g)).terminals after new.seat) (sym ok) takes.in_step,
       )
 
-  was_stopped : (s : Option Stopped) → Stands s plan g old.keeper → IsFailedTurn IsEtdChoice old now → WasStopped old now → outcome.head ≡ fault_text (codes "turn") 1 → Result s
-  was_stopped (Some s) stands turn stop head = absurd (is_broken_not old.keeper.writer.is_broken stands.0 stop.was_whole)
-  was_stopped None stands turn stop head =
+  commit_failed : (s : Option FailedBatch) → Stands s plan g old.keeper → IsFailedTurn IsEtdChoice old now → HasFailedCommit old now → outcome.head ≡ fault_text (codes "turn") 1 → Result s
+  commit_failed (Some s) stands turn stop head = absurd (is_broken_not old.keeper.writer.is_broken stands.0 stop.was_whole)
+  commit_failed None stands turn stop head =
       let takes = takes_all g.terminals seats outcome.told after old.seat now.seat new.seat turn.visits (unknowns (commands_at 0 turn.visits)) outcome.heard shows.terminals turn.serves outcome.knows outcome.hear in
       let run = subst (λ cs. Run old.keeper.writer.plan IsEtdChoice old.keeper.state cs turn.decided_so now.keeper.state) takes.commands turn.run in
       let run_here = subst (λ (p : Plan). Run p IsEtdChoice old.keeper.state (waiting_commands g) turn.decided_so now.keeper.state) shows.keeper.same_plan run in
@@ -304,32 +304,32 @@ module _ (computed : StepsAreDecisions IsEtdChoice etd_pick) (plan : Plan) (g : 
       (subst (λ u. (device_of now).calls ≤ (device_of old).calls + commit_call_count g.register u old.keeper.writer.half (length now.keeper.state.batch)) stands.2
       (subst (λ r. (device_of now).calls ≤ (device_of old).calls + commit_call_count r old.keeper.writer.used old.keeper.writer.half (length now.keeper.state.batch)) shows.keeper.register stop.calls))) in
       let fuse = stops_at g.passing (calls_for g (state_decided plan g)) (device_of old) (device_of now) tt stands.4 long_now need stop.last_fails in
-      let stops : StopsCommit plan half g.is_second g.used g.register (state_decided plan g).batch (device_of old) (device_of now) =
-      subst (λ (p : Plan). StopsCommit p half g.is_second g.used g.register (state_decided plan g).batch (device_of old) (device_of now)) shows.keeper.same_plan
-      (subst (λ h. StopsCommit old.keeper.writer.plan h g.is_second g.used g.register (state_decided plan g).batch (device_of old) (device_of now)) shows.keeper.half_is
-      (subst (λ b. StopsCommit old.keeper.writer.plan old.keeper.writer.half b g.used g.register (state_decided plan g).batch (device_of old) (device_of now)) stands.3
-      (subst (λ u. StopsCommit old.keeper.writer.plan old.keeper.writer.half old.keeper.writer.is_second u g.register (state_decided plan g).batch (device_of old) (device_of now)) stands.2
-      (subst (λ r. StopsCommit old.keeper.writer.plan old.keeper.writer.half old.keeper.writer.is_second old.keeper.writer.used r (state_decided plan g).batch (device_of old) (device_of now)) shows.keeper.register
-      (subst (λ d. StopsCommit old.keeper.writer.plan old.keeper.writer.half old.keeper.writer.is_second old.keeper.writer.used old.keeper.writer.register d (device_of old) (device_of now)) doubt stop.stops))))) in
-      let stopped : Stopped = record { made = calls_to_stop g.passing; batch = (state_decided plan g).batch } in
-      let kept : IsKeeperOf plan (after_stop g (state_decided plan g)) now.keeper = record {
+      let stops : IsFailedCommit plan half g.is_in_second_half g.used g.register (state_decided plan g).batch (device_of old) (device_of now) =
+      subst (λ (p : Plan). IsFailedCommit p half g.is_in_second_half g.used g.register (state_decided plan g).batch (device_of old) (device_of now)) shows.keeper.same_plan
+      (subst (λ h. IsFailedCommit old.keeper.writer.plan h g.is_in_second_half g.used g.register (state_decided plan g).batch (device_of old) (device_of now)) shows.keeper.half_is
+      (subst (λ b. IsFailedCommit old.keeper.writer.plan old.keeper.writer.half b g.used g.register (state_decided plan g).batch (device_of old) (device_of now)) stands.3
+      (subst (λ u. IsFailedCommit old.keeper.writer.plan old.keeper.writer.half old.keeper.writer.is_in_second_half u g.register (state_decided plan g).batch (device_of old) (device_of now)) stands.2
+      (subst (λ r. IsFailedCommit old.keeper.writer.plan old.keeper.writer.half old.keeper.writer.is_in_second_half old.keeper.writer.used r (state_decided plan g).batch (device_of old) (device_of now)) shows.keeper.register
+      (subst (λ d. IsFailedCommit old.keeper.writer.plan old.keeper.writer.half old.keeper.writer.is_in_second_half old.keeper.writer.used old.keeper.writer.register d (device_of old) (device_of now)) doubt stop.fails))))) in
+      let failed : FailedBatch = record { made = calls_to_fail g.passing; batch = (state_decided plan g).batch } in
+      let kept : IsKeeperOf plan (after_failure g (state_decided plan g)) now.keeper = record {
         same_plan = outcome.place.plan ∙ shows.keeper.same_plan;
         half_is = outcome.place.half ∙ shows.keeper.half_is;
         register = stop.register ∙ shows.keeper.register;
         stands = (
           stop.broken,
-          cut_as plan g stopped (device_of old) (device_of now) tt stops fuse.calls (subst (λ b. 0 < length b) batch turn.some) fuse.most,
+          cut_as plan g failed (device_of old) (device_of now) tt stops fuse.calls (subst (λ b. 0 < length b) batch turn.some) fuse.most,
         );
       } in
       let told : text ≡ commit_text false plan g (state_decided plan g) =
       outcome.shown ∙ ap (λ l. l ++ outcome.heard) head
       ∙ ap (λ l. fault_text (codes "turn") 1 ++ l) (takes.text ∙ ap (heard_replies_text (waiting_commands g)) (ap unknowns takes.commands)) in (
-        told ∙ ap (λ b. commit_text b plan g (state_decided plan g)) (sym fuse.stopped),
-        subst (λ b. IsKeeperOf plan (after_commit b g (state_decided plan g)) now.keeper) (sym fuse.stopped) kept,
-        subst (λ b. AreInStep (after_commit b g (state_decided plan g)).terminals after new.seat) (sym fuse.stopped) takes.in_step,
+        told ∙ ap (λ b. commit_text b plan g (state_decided plan g)) (sym fuse.failed),
+        subst (λ b. IsKeeperOf plan (after_commit b g (state_decided plan g)) now.keeper) (sym fuse.failed) kept,
+        subst (λ b. AreInStep (after_commit b g (state_decided plan g)).terminals after new.seat) (sym fuse.failed) takes.in_step,
       )
 
-  was_broken : (s : Option Stopped) → Stands s plan g old.keeper → old.keeper.writer.is_broken ≡ true → IsBrokenTurn old now → outcome.head ≡ fault_text (codes "turn") 5 → g.stopped ≡ s → Result s
+  was_broken : (s : Option FailedBatch) → Stands s plan g old.keeper → old.keeper.writer.is_broken ≡ true → IsBrokenTurn old now → outcome.head ≡ fault_text (codes "turn") 5 → g.failed ≡ s → Result s
   was_broken None stands broken turn head is = absurd (is_broken_not old.keeper.writer.is_broken broken stands.0)
   was_broken (Some s) stands broken turn head is =
       let takes = takes_all g.terminals seats outcome.told after old.seat now.seat new.seat turn.visits (unknowns (commands_at 0 turn.visits)) outcome.heard shows.terminals turn.serves outcome.knows outcome.hear in
@@ -337,21 +337,21 @@ module _ (computed : StepsAreDecisions IsEtdChoice etd_pick) (plan : Plan) (g : 
         same_plan = shows.keeper.same_plan;
         half_is = shows.keeper.half_is;
         register = shows.keeper.register;
-        stands = with_terminals plan g old.keeper (having_heard g.terminals) g.stopped shows.keeper.stands;
+        stands = with_terminals plan g old.keeper (having_heard g.terminals) g.failed shows.keeper.stands;
       } in (
         outcome.shown ∙ ap (λ l. l ++ outcome.heard) head ∙ ap (λ l. fault_text (codes "turn") 5 ++ l) (takes.text ∙ ap (heard_replies_text (waiting_commands g)) (ap unknowns takes.commands)),
         subst (IsKeeperOf plan (record g { terminals = having_heard g.terminals })) (sym turn.rests) kept,
         takes.in_step,
       )
 
-  by_turn : TurnTells old now outcome.head → Result g.stopped
-  by_turn (inl (counts, turn, made, head)) = went_well g.stopped shows.keeper.stands counts turn made head
-  by_turn (inr (inl (turn, stop, head))) = was_stopped g.stopped shows.keeper.stands turn stop head
-  by_turn (inr (inr (broken, turn, head))) = was_broken g.stopped shows.keeper.stands broken turn head refl
+  by_turn : TurnTells old now outcome.head → Result g.failed
+  by_turn (inl (counts, turn, made, head)) = went_well g.failed shows.keeper.stands counts turn made head
+  by_turn (inr (inl (turn, stop, head))) = commit_failed g.failed shows.keeper.stands turn stop head
+  by_turn (inr (inr (broken, turn, head))) = was_broken g.failed shows.keeper.stands broken turn head refl
 
-  pub turn_shows : (text ≡ turn_told g.stopped plan g) × Shows plan (turned g.stopped plan g) new after
+  pub turn_shows : (text ≡ turn_told g.failed plan g) × Shows plan (turned g.failed plan g) new after
   turn_shows =
       let result = by_turn outcome.tells in (
         result.0,
-        record { keeper = subst (IsKeeperOf plan (turned g.stopped plan g)) (sym same_keeper) result.1; terminals = result.2 },
+        record { keeper = subst (IsKeeperOf plan (turned g.failed plan g)) (sym same_keeper) result.1; terminals = result.2 },
       )

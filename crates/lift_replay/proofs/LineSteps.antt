@@ -26,7 +26,7 @@ use Rattle.lift_replay.specs.declared.lines.Verdict.{Verdict}
 use Rattle.lift_replay.specs.declared.lines.Verdict.TheVariants.{Bad}
 use Rattle.lift_replay.specs.Running.{TellsLines, Continues, LinesEnd}
 use Rattle.lift_replay.specs.Grammar.{IsKnown, IsLineInRange, IsSkipped, Spells}
-use Rattle.lift_replay.specs.Group.{Asking, ScriptGroup, Stopped, asking_at, asking_more, after_ask, after_asking, asked_text, ask_text, unasked, policy_view, line_text, left_by}
+use Rattle.lift_replay.specs.Group.{Asking, ScriptGroup, FailedBatch, asking_at, asking_more, after_ask, after_asking, asked_text, ask_text, unasked, policy_view, line_text, left_by}
 use Rattle.lift_replay.specs.Group.{after as after_line}
 use Rattle.lift_replay.specs.Report.{spent_text, bad_text, cut_text}
 use Rattle.lift_replay.specs.Query.{shown_text}
@@ -132,19 +132,19 @@ module _ (terminals : List Asking) (seats after : List TerminalSeat) (places kno
       → (text ≡ ask_text a.waiting a.turns t number) × AreInStep (after_ask terminals t asking) after known
   asks_shows text told = asks text a.waiting refl told
 
--- what is shown while nothing is stopped
-shown_is : (plan : Plan) (g : ScriptGroup) (keeper : KeeperView FusedDisk) (query : Query) (s : Option Stopped) → Stands s plan g keeper
+-- what is shown while nothing has failed
+shown_is : (plan : Plan) (g : ScriptGroup) (keeper : KeeperView FusedDisk) (query : Query) (s : Option FailedBatch) → Stands s plan g keeper
     → shown_text keeper.writer.is_broken plan (view_of keeper.state) query ≡ shown_text (is_some s) plan (policy_view g) query
 shown_is plan g keeper query None stands = ap (λ b. shown_text b plan (view_of keeper.state) query) stands.0 ∙ ap (λ t. shown_text false plan (view_of t) query) stands.1
 shown_is plan g keeper query (Some s) stands = ap (λ b. shown_text b plan (view_of keeper.state) query) stands.0
 
 -- a fuse
-arms : (plan : Plan) (g : ScriptGroup) (calls : ℕ) (old new : ScriptClerk) (s : Option Stopped) → IsArmed calls old new → Stands s plan g old.keeper → g.stopped ≡ s → Stands s plan (record g { passing = Some calls }) new.keeper
+arms : (plan : Plan) (g : ScriptGroup) (calls : ℕ) (old new : ScriptClerk) (s : Option FailedBatch) → IsArmed calls old new → Stands s plan g old.keeper → g.failed ≡ s → Stands s plan (record g { passing = Some calls }) new.keeper
 arms plan g calls old new None armed stands is = (
   ap (λ (c : ScriptClerk). c.keeper.writer.is_broken) armed.rest ∙ stands.0,
   ap (λ (c : ScriptClerk). c.keeper.state) armed.rest ∙ stands.1,
   ap (λ (c : ScriptClerk). c.keeper.writer.used) armed.rest ∙ stands.2,
-  ap (λ (c : ScriptClerk). c.keeper.writer.is_second) armed.rest ∙ stands.3,
+  ap (λ (c : ScriptClerk). c.keeper.writer.is_in_second_half) armed.rest ∙ stands.3,
   record {
     told = λ call past. subst (λ n. (device_of new).fails_at call ↔ n + calls < call) (sym armed.unchanged.calls) (armed.told call past);
     short = armed.unchanged.short ∙ stands.4.short;
@@ -152,7 +152,7 @@ arms plan g calls old new None armed stands is = (
 )
 arms plan g calls old new (Some s) armed stands is = (
   ap (λ (c : ScriptClerk). c.keeper.writer.is_broken) armed.rest ∙ stands.0,
-  λ outcome image left may. subst (λ f. IsFound plan f image) (sym (left_as g.stopped g (Some calls) g.terminals outcome))
+  λ outcome image left may. subst (λ f. IsFound plan f image) (sym (left_as g.failed g (Some calls) g.terminals outcome))
       (stands.1 outcome image (left_unchanged outcome (device_of old) (device_of new) image armed.unchanged left) (may_unchanged (device_of old) (device_of new) image armed.unchanged may)),
 )
 
@@ -180,7 +180,7 @@ module _ (computed : StepsAreDecisions IsEtdChoice etd_pick) (plan : Plan) (g : 
         same_plan = shows.keeper.same_plan;
         half_is = shows.keeper.half_is;
         register = shows.keeper.register;
-        stands = with_terminals plan g old.keeper (after_asking g t number body).terminals g.stopped shows.keeper.stands;
+        stands = with_terminals plan g old.keeper (after_asking g t number body).terminals g.failed shows.keeper.stands;
       } in (
         result.0,
         record { keeper = subst (IsKeeperOf plan (after_asking g t number body)) (sym same) kept; terminals = result.1 },
@@ -191,14 +191,14 @@ module _ (computed : StepsAreDecisions IsEtdChoice etd_pick) (plan : Plan) (g : 
   tells_shows (Call kiosk number floor party) told range known tells = asks_so (16 + kiosk) number (Calls floor party) told (omega (arith, known)) tells.0 tells.1
   tells_shows (Stop car number stop) told range known tells = asks_so car number (Stopping stop.floor stop.dir) told (let below = range.0 in omega (arith, below)) tells.0 tells.1
   tells_shows Turn told range known tells = turn_shows computed plan g old new seats after told shows tells long
-  tells_shows (Show query) told range known tells = (tells.0 ∙ shown_is plan g old.keeper query g.stopped shows.keeper.stands, rests tells.1)
+  tells_shows (Show query) told range known tells = (tells.0 ∙ shown_is plan g old.keeper query g.failed shows.keeper.stands, rests tells.1)
   tells_shows (Fuse calls) told range known tells =
       let armed = tells.1 in
       let kept : IsKeeperOf plan (record g { passing = Some calls }) new.keeper = record {
         same_plan = ap (λ (c : ScriptClerk). c.keeper.writer.plan) armed.rest ∙ shows.keeper.same_plan;
         half_is = ap (λ (c : ScriptClerk). c.keeper.writer.half) armed.rest ∙ shows.keeper.half_is;
         register = ap (λ (c : ScriptClerk). c.keeper.writer.register) armed.rest ∙ shows.keeper.register;
-        stands = arms plan g calls old new g.stopped armed shows.keeper.stands refl;
+        stands = arms plan g calls old new g.failed armed shows.keeper.stands refl;
       } in (
         tells.0,
         record {

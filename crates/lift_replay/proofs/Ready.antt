@@ -23,7 +23,7 @@ use Rattle.lift_replay.specs.declared.lines.End.{End}
 use Rattle.lift_replay.specs.Grammar.{IsKnown, IsLineInRange}
 use Rattle.lift_replay.specs.Group.{Asking, asking_at, after_ask, having_heard}
 use Rattle.lift_replay.specs.Shows.{WaitsFor, IsInStep, AreReady}
-use Rattle.lift_replay.specs.Terminals.{AllHear, Hears, AreSettled, BothTold, no_seat, seat_at, told_seat, having_asked, count_waiting}
+use Rattle.lift_replay.specs.Terminals.{AllHear, Hears, OthersAreTold, BothTold, no_seat, seat_at, told_seat, having_asked, count_waiting}
 use Rattle.lift_replay.specs.Told.{ScriptClerk, Asks, HasAsked, HasTaken, OutcomeTells, TurnTells, ScriptRests, Tells, LineTells}
 use Rattle.lift_replay.proofs.Telling.{same_told}
 use Rattle.lift_replay.proofs.InStep.{AllFound, found_counted, waits_so}
@@ -71,8 +71,8 @@ none_waits a seat place None is step rests = is
 none_waits a seat place (Some ask) is step rests = absurd (rests (waits_so a seat place ask step is))
 
 -- After a turn that took as many commands as terminals wait nothing is to be told of the others: it took the commands of those that wait, and of no other.
-pub settled_behind : (seats : List TerminalSeat) (places turned : List ClerkPlace) → AreReady seats places → HasTaken places turned (count_waiting seats) → AreSettled seats turned
-settled_behind seats places turned ready (visits, replies, serves, many) =
+pub others_told_behind : (seats : List TerminalSeat) (places turned : List ClerkPlace) → AreReady seats places → HasTaken places turned (count_waiting seats) → OthersAreTold seats turned
+others_told_behind seats places turned ready (visits, replies, serves, many) =
     let step = ready.in_step in
     let found = found_counted 0 ready.terminals places visits seats (serves.each_once ∙ step.place_count) step.place_count step.seat_count serves.finds step.each (omega (arith, many)) in
     λ i below rests.
@@ -80,7 +80,7 @@ settled_behind seats places turned ready (visits, replies, serves, many) =
     let none = none_waits (asking_at ready.terminals i) (seat_at seats i).view (view_at places i) (asking_at ready.terminals i).waiting refl (step.each i inside) rests in
     still_told (seat_at seats i) (view_at places i) (view_at turned i)
     (subst (λ l. IsLooked (view_at places i) (view_at l i)) (sym serves.stored) (looked ready.terminals places visits replies i found serves.finds step.place_count inside none))
-    (ready.settled i below rests))
+    (ready.others_told i below rests))
 
 -- all have heard
 hears_each : (olds news : List TerminalSeat) (lines : List ℕ) (i : ℕ) → AllHear olds news lines → i < length olds → (line : List ℕ) × Hears (seat_at olds i) (seat_at news i) line
@@ -104,8 +104,8 @@ few_heard (Some ask) seat place waits heard even =
     omega (arith, ap length waits.1, length-append place.taken (ask_word (suc (length place.taken)) ask.number ask.body ∷ []), ap length heard, even)
 
 -- nothing is to be told of a terminal that was told and has heard
-settled_one : (a : Asking) (seat told after : TerminalSeat) (turned known : ClerkView) (line : List ℕ) → BothTold seat told turned known → Hears told after line → IsInStep a after.view known → BothTold after after known known
-settled_one a seat told after turned known line both hears step =
+others_told_one : (a : Asking) (seat told after : TerminalSeat) (turned known : ClerkView) (line : List ℕ) → BothTold seat told turned known → Hears told after line → IsInStep a after.view known → BothTold after after known known
+others_told_one a seat told after turned known line both hears step =
     let stays = told_stays told after line hears in
     let asked : after.view.asked ≡ seat.view.asked = stays.1 ∙ ap (λ (s : TerminalSeat). s.view.asked) both.hears in
     let taken : known.taken ≡ turned.taken = ap (λ (v : ClerkView). v.taken) both.knows in
@@ -131,10 +131,10 @@ turn_ready old new seats after text ready outcome = by_turn outcome.tells
         record {
           terminals = having_heard ready.terminals;
           in_step = step;
-          settled = λ i below rests.
+          others_told = λ i below rests.
               (let inside : i < length seats = omega (arith, below, count, outcome.knows.count) in
               let heard = hears_each outcome.told after outcome.heard i outcome.hear (omega (arith, below, count)) in
-              settled_one (asking_at (having_heard ready.terminals) i) (seat_at seats i) (seat_at outcome.told i) (seat_at after i) (view_at outcome.turned.seat i) (view_at new.seat i) heard.0
+              others_told_one (asking_at (having_heard ready.terminals) i) (seat_at seats i) (seat_at outcome.told i) (seat_at after i) (view_at outcome.turned.seat i) (view_at new.seat i) heard.0
               (outcome.knows.each i inside) heard.1 (step.each i (omega (arith, below, step.seat_count))));
         }
 
@@ -151,13 +151,13 @@ asks_ready seats after places known t number body text inside ready told =
     record {
       terminals = after_ask ready.terminals t (record { number = number; body = body });
       in_step = (asks_shows ready.terminals seats after places known t number body ready.in_step among text told).1;
-      settled = by_ask told;
+      others_told = by_ask told;
     }
   where
-    stay : after ≡ seats → known ≡ places → AreSettled after known
-    stay same known_is = subst (λ l. AreSettled after l) (sym known_is) (subst (λ l. AreSettled l places) (sym same) ready.settled)
+    stay : after ≡ seats → known ≡ places → OthersAreTold after known
+    stay same known_is = subst (λ l. OthersAreTold after l) (sym known_is) (subst (λ l. OthersAreTold l places) (sym same) ready.others_told)
 
-    asked_more : HasAsked seats after places known t number body → AreSettled after known
+    asked_more : HasAsked seats after places known t number body → OthersAreTold after known
     asked_more h i below rests = elim (cases_eq i t) [
       | inl at ↦ absurd (rests (subst (λ j. Waits (seat_at after j).view) (sym at) waits))
       | inr other ↦
@@ -165,7 +165,7 @@ asks_ready seats after places known t number body text inside ready told =
           ap (λ l. seat_at l i) h.seat ∙ get_or-set_other h.asked t i _ no_seat other ∙ ap (λ l. seat_at l i) h.asks ∙ get_or-set_other seats t i _ no_seat other in
           let place : view_at known i ≡ view_at places i = ap (λ l. view_at l i) h.knows ∙ ap (λ (p : ClerkPlace). p.view) (get_or-set_other places t i _ no_place other) in
           subst (λ v. BothTold (seat_at after i) (seat_at after i) v v) (sym place) (subst (λ s. BothTold s s (view_at places i) (view_at places i)) (sym seat)
-          (ready.settled i (omega (arith, below, count)) (subst (λ (s : TerminalSeat). ¬ Waits s.view) seat rests)))
+          (ready.others_told i (omega (arith, below, count)) (subst (λ (s : TerminalSeat). ¬ Waits s.view) seat rests)))
     ]
       where
         count : length after ≡ length seats
@@ -187,7 +187,7 @@ asks_ready seats after places known t number body text inside ready told =
             let more : Waits (told_seat (having_asked (seat_at seats t) number body) (view_at places t)).view = omega (arith, few, length-append (seat_at seats t).view.asked (word ∷ [])) in
             subst (λ (s : TerminalSeat). Waits s.view) (sym seat_is) more
 
-    by_ask : Asks seats after places known t number body text → AreSettled after known
+    by_ask : Asks seats after places known t number body text → OthersAreTold after known
     by_ask (inl waits) = stay waits.1 waits.2
     by_ask (inr (inl spent)) = stay spent.2 spent.3
     by_ask (inr (inr asking)) = asked_more asking.2

@@ -23,11 +23,11 @@ use Rattle.lift_keeper.specs.declared.fault.KeeperFault.TheVariants.{Journal}
 use Rattle.lift_keeper.specs.Images.{IsImageOf, IsInDoubt, IsImageIn}
 use Rattle.lift_keeper.specs.Calls.{OpensByCalls, RefusedCalls, FailsBy}
 use Rattle.lift_keeper.specs.Reopening.{Reopens, RefusesReopening}
-use Rattle.lift_replay.specs.Group.{ScriptGroup, Found, Stopped, half, left_by, recovered, asking_at, unasked, new_terminals}
+use Rattle.lift_replay.specs.Group.{ScriptGroup, Found, FailedBatch, half, left_by, recovered, asking_at, unasked, new_terminals}
 use Rattle.lift_replay.specs.Group.{found_after_cut as left_as}
 use Rattle.lift_replay.specs.Shows.{IsFound, IsInStep, AreInStep, AreReady, Stands, IsKeeperOf, Shows}
 use Rattle.lift_replay.specs.Told.{ScriptClerk}
-use Rattle.lift_replay.specs.Terminals.{AreSettled, seat_at}
+use Rattle.lift_replay.specs.Terminals.{OthersAreTold, seat_at}
 use Rattle.lift_replay.proofs.Hearing.{count_from, own_from}
 use Rattle.lift_replay.proofs.Telling.{same_told}
 use Rattle.lift_building.specs.Plan.{Plan, shape_of}
@@ -104,12 +104,12 @@ left_reads keeper plan register image is safe in_doubt may = subst (λ p. (other
 
 -- the keeper that recovers what was found shows just that
 pub kept_of : (plan : Plan) (f : Found) (disk : FusedDisk) (keeper : KeeperView FusedDisk) → IsFound plan f (fuse_state_of disk).image
-    → Reopens plan (fuse_state_of disk) (fuse_state_of keeper.writer.device) keeper.writer.register keeper.writer.half keeper.writer.is_second keeper.writer.used
+    → Reopens plan (fuse_state_of disk) (fuse_state_of keeper.writer.device) keeper.writer.register keeper.writer.half keeper.writer.is_in_second_half keeper.writer.used
     → OpensByCalls fuse_state_of (fuse_state_of disk) keeper.writer → (fuse_state_of keeper.writer.device).image ≡ (fuse_state_of disk).image → IsUnarmed (fuse_state_of keeper.writer.device) → keeper.state ≡ starting keeper.writer.register
     → keeper.writer.plan ≡ plan → (keeper.writer.is_broken ≡ false) × (keeper.writer.doubt ≡ []) → IsKeeperOf plan (recovered plan f) keeper
 kept_of plan f disk keeper found opens calls image unarmed state of_plan whole =
-    let here : IsImageIn plan half f.is_second f.used f.register (fuse_state_of keeper.writer.device).image = subst (IsFound plan f) (sym image) found in
-    let is = calls.found tt half f.is_second f.used f.register (subst (λ (p : Plan). IsImageIn p half f.is_second f.used f.register (fuse_state_of keeper.writer.device).image) (sym of_plan) here) in
+    let here : IsImageIn plan half f.is_in_second_half f.used f.register (fuse_state_of keeper.writer.device).image = subst (IsFound plan f) (sym image) found in
+    let is = calls.found tt half f.is_in_second_half f.used f.register (subst (λ (p : Plan). IsImageIn p half f.is_in_second_half f.used f.register (fuse_state_of keeper.writer.device).image) (sym of_plan) here) in
     let same = opens.only tt f.register (record { half = half; base = here.base; entries = here.entries; reads = here.reads; is = here.is }) in
     record {
       same_plan = of_plan;
@@ -125,19 +125,19 @@ kept_of plan f disk keeper found opens calls image unarmed state of_plan whole =
     }
 
 -- what a cut leaves of a clerk that shows a group
-pub left_found : (plan : Plan) (g : ScriptGroup) (keeper : KeeperView FusedDisk) (outcome : Outcome) (image : Image) (s : Option Stopped) → g.stopped ≡ s → Stands s plan g keeper
+pub left_found : (plan : Plan) (g : ScriptGroup) (keeper : KeeperView FusedDisk) (outcome : Outcome) (image : Image) (s : Option FailedBatch) → g.failed ≡ s → Stands s plan g keeper
     → keeper.writer.plan ≡ plan → keeper.writer.half ≡ half → keeper.writer.register ≡ g.register
-    → (keeper.writer.is_broken ≡ false → LeavesNow (fuse_state_of keeper.writer.device) (IsImageIn keeper.writer.plan keeper.writer.half keeper.writer.is_second keeper.writer.used keeper.writer.register))
+    → (keeper.writer.is_broken ≡ false → LeavesNow (fuse_state_of keeper.writer.device) (IsImageIn keeper.writer.plan keeper.writer.half keeper.writer.is_in_second_half keeper.writer.used keeper.writer.register))
     → IsLeftBy outcome (fuse_state_of keeper.writer.device) image → MayLeave (fuse_state_of keeper.writer.device) image → IsFound plan (left_by outcome g) image
 left_found plan g keeper outcome image (Some s) is stands of_plan half_is register placed left may = stands.1 outcome image left may
 left_found plan g keeper outcome image None is stands of_plan half_is register placed left may =
-    let there : IsImageIn keeper.writer.plan keeper.writer.half keeper.writer.is_second keeper.writer.used keeper.writer.register image = placed stands.0 tt image may in
+    let there : IsImageIn keeper.writer.plan keeper.writer.half keeper.writer.is_in_second_half keeper.writer.used keeper.writer.register image = placed stands.0 tt image may in
     subst (λ x. IsFound plan (left_as x outcome g) image) (sym is)
-    (subst (λ (p : Plan). IsImageIn p half g.is_second g.used g.register image) of_plan
-    (subst (λ h. IsImageIn keeper.writer.plan h g.is_second g.used g.register image) half_is
+    (subst (λ (p : Plan). IsImageIn p half g.is_in_second_half g.used g.register image) of_plan
+    (subst (λ h. IsImageIn keeper.writer.plan h g.is_in_second_half g.used g.register image) half_is
     (subst (λ b. IsImageIn keeper.writer.plan keeper.writer.half b g.used g.register image) stands.3
-    (subst (λ u. IsImageIn keeper.writer.plan keeper.writer.half keeper.writer.is_second u g.register image) stands.2
-    (subst (λ r. IsImageIn keeper.writer.plan keeper.writer.half keeper.writer.is_second keeper.writer.used r image) register there)))))
+    (subst (λ u. IsImageIn keeper.writer.plan keeper.writer.half keeper.writer.is_in_second_half u g.register image) stands.2
+    (subst (λ r. IsImageIn keeper.writer.plan keeper.writer.half keeper.writer.is_in_second_half keeper.writer.used r image) register there)))))
 
 -- no batch without records
 none_used : (shape : Shape) (batches : List Batch) (image : Image) → Holds shape batches image → records_of batches ≡ [] → 0 ≡ used batches
@@ -149,7 +149,7 @@ none_used shape (batch ∷ batches) image holds none = absurd (some_record (take
     some_record (gate ∷ rest) chain = let some = chain.1.some in omega (arith, some, length-append batch.records (records_of batches), ap length (sym (flat_map-cons (λ (b : Batch). b.records) batch batches) ∙ none))
 
 -- an empty journal
-pub empty_found : (plan : Plan) (image : Image) → ReadsAs (shape_of plan 64) [] [] image → Picks false image → IsFound plan (record { register = empty; is_second = false; used = 0 }) image
+pub empty_found : (plan : Plan) (image : Image) → ReadsAs (shape_of plan 64) [] [] image → Picks false image → IsFound plan (record { register = empty; is_in_second_half = false; used = 0 }) image
 unfolding cars terminals
 empty_found plan image reads picks = record {
   base = [];
@@ -190,8 +190,8 @@ new_in_step plan desk count =
     }
 
 -- and nothing is to be told of anyone
-new_settled : (desk : List TableId) → AreSettled (seats_from 0 desk) (clerk_of desk)
-new_settled desk i below rests =
+new_others_told : (desk : List TableId) → OthersAreTold (seats_from 0 desk) (clerk_of desk)
+new_others_told desk i below rests =
     let seat = first_seats 0 desk i in
     let place = first_places desk i in
     let none : IsInOrder (lists_of no_asks no_answers) = record {
@@ -210,7 +210,7 @@ new_settled desk i below rests =
 pub new_ready : (plan : Plan) (clerk : ScriptClerk) (seats : List TerminalSeat) (desk : List TableId) → clerk.seat ≡ clerk_of desk → seats ≡ seats_from 0 desk → length desk ≡ 16 + length plan.kiosks → AreReady seats clerk.seat
 new_ready plan clerk seats desk clerk_is seats_is count =
     subst (λ l. AreReady l clerk.seat) (sym seats_is) (subst (λ l. AreReady (seats_from 0 desk) l) (sym clerk_is)
-    (record { terminals = new_terminals plan; in_step = new_in_step plan desk count; settled = new_settled desk }))
+    (record { terminals = new_terminals plan; in_step = new_in_step plan desk count; others_told = new_others_told desk }))
 
 pub new_shows : (plan : Plan) (g : ScriptGroup) (keeper : KeeperView FusedDisk) (clerk : ScriptClerk) (seats : List TerminalSeat) (desk : List TableId) → IsKeeperOf plan g keeper → g.terminals ≡ new_terminals plan
     → clerk.keeper ≡ keeper → clerk.seat ≡ clerk_of desk → seats ≡ seats_from 0 desk → length desk ≡ 16 + length plan.kiosks → Shows plan g clerk seats

@@ -10,7 +10,7 @@ use Rattle.lift_desk.specs.Rule.{IsInOrder}
 use Rattle.lift_desk.specs.Steps.{with_told_answers, with_told_asks, lists_of}
 use Rattle.lift_desk.specs.Seats.{TerminalSeat, ClerkPlace, Waits, clerk_with, seat_with, view_at, no_place}
 use Rattle.lift_replay.specs.Told.{ScriptClerk}
-use Rattle.lift_replay.specs.Terminals.{AreTold, AreSettled, BothTold, no_seat, seat_at, told_seat, one_waiting, count_waiting}
+use Rattle.lift_replay.specs.Terminals.{AreTold, OthersAreTold, BothTold, no_seat, seat_at, told_seat, one_waiting, count_waiting}
 
 -- the first n are told
 pub record AreToldTo (n : ℕ) (seats told : List TerminalSeat) (places known : List ClerkPlace) : Type 0 where
@@ -30,12 +30,12 @@ none_told seats places = record {
 }
 
 -- where none of the first waits they are as if they were told
-pub front_told : (n : ℕ) (seats : List TerminalSeat) (places : List ClerkPlace) → AreSettled seats places → ((i : ℕ) → i < n → ¬ Waits (seat_at seats i).view)
+pub front_told : (n : ℕ) (seats : List TerminalSeat) (places : List ClerkPlace) → OthersAreTold seats places → ((i : ℕ) → i < n → ¬ Waits (seat_at seats i).view)
     → AreToldTo n seats seats places places
-front_told n seats places settled quiet = record {
+front_told n seats places others_told quiet = record {
   count = refl;
   place_count = refl;
-  each = λ i below within. settled i within (quiet i below);
+  each = λ i below within. others_told i within (quiet i below);
   other_seat = λ i past. refl;
   other_place = λ i past. refl;
 }
@@ -97,12 +97,12 @@ rest_more start mid next places before is =
     is ∙ ap (λ (c : ScriptClerk). record c { seat = places }) before ∙ ap (λ l. record start { seat = l }) (sym (ap (λ (c : ScriptClerk). c.seat) is))
 
 -- one more doesn't wait
-pub quiet_more : (n : ℕ) (seats told : List TerminalSeat) (places known : List ClerkPlace) → AreSettled seats places → n < length seats → ¬ Waits (seat_at seats n).view
+pub quiet_more : (n : ℕ) (seats told : List TerminalSeat) (places known : List ClerkPlace) → OthersAreTold seats places → n < length seats → ¬ Waits (seat_at seats n).view
     → AreToldTo n seats told places known → AreToldTo (n + 1) seats told places known
-quiet_more n seats told places known settled inside rests are =
+quiet_more n seats told places known others_told inside rests are =
     let here : BothTold (seat_at seats n) (seat_at told n) (view_at places n) (view_at known n) =
     subst (λ s. BothTold (seat_at seats n) s (view_at places n) (view_at known n)) (sym (are.other_seat n (omega arith)))
-    (subst (λ v. BothTold (seat_at seats n) (seat_at seats n) (view_at places n) v) (sym (are.other_place n (omega arith))) (settled n inside rests)) in
+    (subst (λ v. BothTold (seat_at seats n) (seat_at seats n) (view_at places n) v) (sym (are.other_place n (omega arith))) (others_told n inside rests)) in
     record {
       count = are.count;
       place_count = are.place_count;

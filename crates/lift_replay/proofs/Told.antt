@@ -23,7 +23,7 @@ use Rattle.lift_replay.specs.declared.line.ScriptLine.{ScriptLine}
 use Rattle.lift_replay.specs.declared.line.ScriptLine.TheVariants.{Place, Call, Stop, Turn, Show, Fuse, Cut}
 use Rattle.lift_replay.specs.declared.lines.End.{End}
 use Rattle.lift_replay.specs.declared.lines.End.TheVariants.{Run as Over}
-use Rattle.lift_replay.specs.Told.{ScriptClerk, HasAsked, LineTells, Tells, WasStopped, TurnTells, end_of}
+use Rattle.lift_replay.specs.Told.{ScriptClerk, HasAsked, LineTells, Tells, HasFailedCommit, TurnTells, end_of}
 
 -- what follows from what is so where a call succeeds
 pub on_ok : {T E P Q : Type 0} (result : Result T E) → (P → Q) → OnOk result P → OnOk result Q
@@ -44,7 +44,7 @@ not_skipped (b ∷ text) some other skipped = other skipped
 
 -- a turn that failed, or found the journal broken, tells its number
 pub fault_tells : (old new : ScriptClerk) (fault : KeeperFault) (number : ℕ) → number ≡ fault_number fault → (fault ≡ Journal Disk) ⊎ (fault ≡ Journal Broken)
-    → (fault ≡ Journal Disk → IsFailedTurn IsEtdChoice old new) → (fault ≡ Journal Disk → WasStopped old new) → (fault ≡ Journal Broken → old.keeper.writer.is_broken ≡ true)
+    → (fault ≡ Journal Disk → IsFailedTurn IsEtdChoice old new) → (fault ≡ Journal Disk → HasFailedCommit old new) → (fault ≡ Journal Broken → old.keeper.writer.is_broken ≡ true)
     → (old.keeper.writer.is_broken ≡ true → IsBrokenTurn old new) → TurnTells old new (fault_text (codes "turn") number)
 fault_tells old new fault number is (inl disk) fails stops broken rests = inr (inl (fails disk, stops disk, ap (fault_text (codes "turn")) (is ∙ ap fault_number disk)))
 fault_tells old new fault number is (inr breaks) fails stops broken rests =

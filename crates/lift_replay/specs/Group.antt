@@ -38,21 +38,21 @@ pub record Asking : Type 0 where
   pub turns : ℕ
   pub waiting : Option Ask
 
--- a batch that the device stopped, once its commit had made this many calls
-pub record Stopped : Type 0 where
+-- a batch whose commit has failed, once it had made this many calls
+pub record FailedBatch : Type 0 where
   pub made : ℕ
   pub batch : List Entry
 
 pub record ScriptGroup : Type 0 where
-  -- the calls that are safe; while nothing is stopped they are those that are shown
+  -- the calls that are safe; while nothing has failed they are those that are shown
   pub register : RegisterState
   pub positions : List (Option Position)
   -- the half that is picked, and how many of its sectors are used
-  pub is_second : Bool
+  pub is_in_second_half : Bool
   pub used : ℕ
   -- how many device calls still pass, where a fuse is set
   pub passing : Option ℕ
-  pub stopped : Option Stopped
+  pub failed : Option FailedBatch
   pub terminals : List Asking
 
 -- the sectors of a half
@@ -78,10 +78,10 @@ abbrev pub first_group : Plan → ScriptGroup
 first_group plan = record {
   register = empty;
   positions = no_positions;
-  is_second = false;
+  is_in_second_half = false;
   used = 0;
   passing = None;
-  stopped = None;
+  failed = None;
   terminals = new_terminals plan;
 }
 
@@ -164,29 +164,29 @@ abbrev pub passing_after : Option ℕ → ℕ → Option ℕ
 passing_after None calls = None
 passing_after (Some left) calls = Some (left - calls)
 
--- how many calls a commit has made that the device stops: those that passed, and the one that
+-- how many calls a commit has made that fails: those that passed, and the one that
 -- failed
-abbrev pub calls_to_stop : Option ℕ → ℕ
-calls_to_stop None = 0
-calls_to_stop (Some left) = suc left
+abbrev pub calls_to_fail : Option ℕ → ℕ
+calls_to_fail None = 0
+calls_to_fail (Some left) = suc left
 
 -- the turn's batch is safe
 abbrev pub after_turn : ScriptGroup → State → ScriptGroup
 after_turn g state = record {
   register = state.register;
   positions = state.positions;
-  is_second = commit_second g.is_second g.used half (length state.batch);
+  is_in_second_half = commit_second g.is_in_second_half g.used half (length state.batch);
   used = commit_used g.register g.used half (length state.batch);
   passing = passing_after g.passing (calls_for g state);
-  stopped = None;
+  failed = None;
   terminals = having_heard g.terminals;
 }
 
--- or the device has stopped it
-abbrev pub after_stop : ScriptGroup → State → ScriptGroup
-after_stop g state = record g {
-  stopped = Some (record {
-    made = calls_to_stop g.passing;
+-- or its commit has failed
+abbrev pub after_failure : ScriptGroup → State → ScriptGroup
+after_failure g state = record g {
+  failed = Some (record {
+    made = calls_to_fail g.passing;
     batch = state.batch;
   });
   terminals = having_heard g.terminals;
@@ -194,7 +194,7 @@ after_stop g state = record g {
 
 abbrev pub after_commit : Bool → ScriptGroup → State → ScriptGroup
 after_commit true g state = after_turn g state
-after_commit false g state = after_stop g state
+after_commit false g state = after_failure g state
 
 abbrev pub commit_text : Bool → Plan → ScriptGroup → State → List ℕ
 commit_text true plan g state =
@@ -205,28 +205,28 @@ commit_text false plan g state =
     fault_text (codes "turn") 1
     ++ heard_replies_text (waiting_commands g) (unknowns (waiting_commands g))
 
--- whether the turn's commit is not stopped
+-- whether the turn's commit doesn't fail
 abbrev pub is_made : Plan → ScriptGroup → Bool
 is_made plan g = passes g.passing (calls_for g (state_decided plan g))
 
--- a turn; while something is stopped each command is answered Unknown
-abbrev pub turn_told : Option Stopped → Plan → ScriptGroup → List ℕ
+-- a turn; while something has failed each command is answered Unknown
+abbrev pub turn_told : Option FailedBatch → Plan → ScriptGroup → List ℕ
 turn_told None plan g = commit_text (is_made plan g) plan g (state_decided plan g)
-turn_told (Some stopped) plan g =
+turn_told (Some failed) plan g =
     fault_text (codes "turn") 5
     ++ heard_replies_text (waiting_commands g) (unknowns (waiting_commands g))
 
-abbrev pub turned : Option Stopped → Plan → ScriptGroup → ScriptGroup
+abbrev pub turned : Option FailedBatch → Plan → ScriptGroup → ScriptGroup
 turned None plan g = after_commit (is_made plan g) g (state_decided plan g)
-turned (Some stopped) plan g = record g { terminals = having_heard g.terminals }
+turned (Some failed) plan g = record g { terminals = having_heard g.terminals }
 
 -- what a recovery finds: a register, in this half, of which this many sectors are used
 pub record Found : Type 0 where
   pub register : RegisterState
-  pub is_second : Bool
+  pub is_in_second_half : Bool
   pub used : ℕ
 
--- A mark is written after this many calls, and then made safe. Of a run that is stopped a cut
+-- A mark is written after this many calls, and then made safe. Of a run that has failed a cut
 -- leaves what was there before, or what the mark makes of it; where it fills the mark's sector,
 -- that goes by its byte.
 abbrev pub by_mark : Outcome → Bool → (before behind marked others : Found) → Found
@@ -241,12 +241,17 @@ at_mark outcome mark made before behind marked others =
 
 -- the safe register where it stands, and once it is a checkpoint in the other half
 abbrev pub found_while_whole : ScriptGroup → Found
-found_while_whole g = record { register = g.register; is_second = g.is_second; used = g.used }
+found_while_whole g = record {
+  register = g.register;
+  is_in_second_half = g.is_in_second_half;
+  used
+      = g.used;
+}
 
 abbrev pub folded : ScriptGroup → Found
 folded g = record {
   register = g.register;
-  is_second = not g.is_second;
+  is_in_second_half = not g.is_in_second_half;
   used = sectors_for (length (base_records g.register));
 }
 
@@ -254,14 +259,14 @@ folded g = record {
 abbrev pub with_room : ScriptGroup → ℕ → Found
 with_room g count = record {
   register = g.register;
-  is_second = room_second g.is_second g.used half count;
+  is_in_second_half = room_second g.is_in_second_half g.used half count;
   used = room_used g.register g.used half count;
 }
 
 abbrev pub with_batch : ScriptGroup → List Entry → Found
 with_batch g batch = record {
   register = register_of g.register batch;
-  is_second = room_second g.is_second g.used half (length batch);
+  is_in_second_half = room_second g.is_in_second_half g.used half (length batch);
   used = room_used g.register g.used half (length batch) + (body_size (length batch) + 1);
 }
 
@@ -270,8 +275,8 @@ abbrev pub in_folding : Outcome → ScriptGroup → ℕ → Found
 in_folding outcome g made =
     at_mark outcome (sectors_for (length (base_records g.register)) + 2) made (found_while_whole g)
     (folded g)
-    (if g.is_second then found_while_whole g else folded g)
-    (if g.is_second then folded g else found_while_whole g)
+    (if g.is_in_second_half then found_while_whole g else folded g)
+    (if g.is_in_second_half then folded g else found_while_whole g)
 
 -- after it, this many calls within the append: the mark is the batch's gate
 abbrev pub in_append : Outcome → ScriptGroup → List Entry → ℕ → Found
@@ -283,24 +288,24 @@ abbrev pub room_for : ScriptGroup → List Entry → ℕ
 room_for g batch = room_call_count g.register g.used half (length batch)
 
 -- what a cut leaves
-abbrev pub found_after_cut : Option Stopped → Outcome → ScriptGroup → Found
+abbrev pub found_after_cut : Option FailedBatch → Outcome → ScriptGroup → Found
 found_after_cut None outcome g = found_while_whole g
 found_after_cut (Some s) outcome g =
     if nat_le s.made (room_for g s.batch) then in_folding outcome g s.made else in_append outcome g
     s.batch (s.made - room_for g s.batch)
 
 abbrev pub left_by : Outcome → ScriptGroup → Found
-left_by outcome g = found_after_cut g.stopped outcome g
+left_by outcome g = found_after_cut g.failed outcome g
 
 -- the group that recovers it, at a new desk
 abbrev pub recovered : Plan → Found → ScriptGroup
 recovered plan found = record {
   register = found.register;
   positions = no_positions;
-  is_second = found.is_second;
+  is_in_second_half = found.is_in_second_half;
   used = found.used;
   passing = None;
-  stopped = None;
+  failed = None;
   terminals = new_terminals plan;
 }
 
@@ -323,8 +328,8 @@ abbrev pub line_text : Plan → ScriptGroup → ScriptLine → List ℕ
 line_text plan g (Place car position) = asked_text g car 0
 line_text plan g (Call kiosk number floor party) = asked_text g (16 + kiosk) number
 line_text plan g (Stop car number stop) = asked_text g car number
-line_text plan g Turn = turn_told g.stopped plan g
-line_text plan g (Show query) = shown_text (is_some g.stopped) plan (policy_view g) query
+line_text plan g Turn = turn_told g.failed plan g
+line_text plan g (Show query) = shown_text (is_some g.failed) plan (policy_view g) query
 line_text plan g (Fuse calls) = []
 line_text plan g (Cut outcome) = cut_text (open_count (left_by outcome g).register)
 
@@ -334,7 +339,7 @@ after plan g (Place car position) = after_asking g car 0 (Placing position.floor
 after plan g (Call kiosk number floor party) = after_asking g (16 + kiosk) number
     (Calls floor party)
 after plan g (Stop car number stop) = after_asking g car number (Stopping stop.floor stop.dir)
-after plan g Turn = turned g.stopped plan g
+after plan g Turn = turned g.failed plan g
 after plan g (Show query) = g
 after plan g (Fuse calls) = record g { passing = Some calls }
 after plan g (Cut outcome) = recovered plan (left_by outcome g)

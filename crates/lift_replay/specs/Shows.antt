@@ -14,9 +14,9 @@ use Rattle.lift_desk.specs.Spelled.{IsAsk}
 use Rattle.lift_desk.specs.Seats.{TerminalSeat, ClerkPlace, view_at}
 use Rattle.lift_keeper.specs.Images.{IsImageIn}
 use Rattle.lift_keeper.specs.Keeper.{KeeperView}
-use Rattle.lift_replay.specs.Group.{Asking, ScriptGroup, Stopped, Found, asking_at}
+use Rattle.lift_replay.specs.Group.{Asking, ScriptGroup, FailedBatch, Found, asking_at}
 use Rattle.lift_replay.specs.Group.{state_to_decide_on, half, left_by}
-use Rattle.lift_replay.specs.Terminals.{seat_at, AreSettled}
+use Rattle.lift_replay.specs.Terminals.{seat_at, OthersAreTold}
 use Rattle.lift_replay.specs.Told.{ScriptClerk}
 
 -- all that the terminal asked is taken, or all but the ask that waits
@@ -48,11 +48,12 @@ pub record AreInStep (terminals : List Asking) (seats : List TerminalSeat)
 pub record AreReady (seats : List TerminalSeat) (places : List ClerkPlace) : Type 0 where
   pub terminals : List Asking
   pub in_step : AreInStep terminals seats places
-  pub settled : AreSettled seats places
+  pub others_told : OthersAreTold seats places
 
 -- the image is a journal of the building, in a half of a script's disk, with what was found
 abbrev pub IsFound : Plan → Found → Image → Type 0
-IsFound plan found image = IsImageIn plan half found.is_second found.used found.register image
+IsFound plan found image = IsImageIn plan half found.is_in_second_half found.used found.register
+    image
 
 -- of the calls to come just those after this many fail, and no growth was refused
 pub record IsFused (passing : Option ℕ) (disk : DiskState) : Type 0 where
@@ -64,14 +65,14 @@ abbrev pub IsCutAs : Plan → ScriptGroup → DiskState → Type 0
 IsCutAs plan g disk = (outcome : Outcome) (image : Image) → IsLeftBy outcome disk image
     → MayLeave disk image → IsFound plan (left_by outcome g) image
 
--- While nothing is stopped the keeper stands there; after that each cut leaves what the stopped
+-- While nothing has failed the keeper stands there; after that each cut leaves what the failed
 -- commit's calls say.
-abbrev pub Stands : Option Stopped → Plan → ScriptGroup → KeeperView FusedDisk → Type 0
+abbrev pub Stands : Option FailedBatch → Plan → ScriptGroup → KeeperView FusedDisk → Type 0
 Stands None plan g keeper = (keeper.writer.is_broken ≡ false)
     × (keeper.state ≡ state_to_decide_on g)
-    × (keeper.writer.used ≡ g.used) × (keeper.writer.is_second ≡ g.is_second)
+    × (keeper.writer.used ≡ g.used) × (keeper.writer.is_in_second_half ≡ g.is_in_second_half)
     × IsFused g.passing (fuse_state_of keeper.writer.device)
-Stands (Some stopped) plan g keeper = (keeper.writer.is_broken ≡ true)
+Stands (Some failed) plan g keeper = (keeper.writer.is_broken ≡ true)
     × IsCutAs plan g (fuse_state_of keeper.writer.device)
 
 -- the keeper has what the group has, on a device that stands as the group says
@@ -79,7 +80,7 @@ pub record IsKeeperOf (plan : Plan) (g : ScriptGroup) (keeper : KeeperView Fused
   pub same_plan : keeper.writer.plan ≡ plan
   pub half_is : keeper.writer.half ≡ half
   pub register : keeper.writer.register ≡ g.register
-  pub stands : Stands g.stopped plan g keeper
+  pub stands : Stands g.failed plan g keeper
 
 -- The clerk and the terminals are this group.
 pub record Shows (plan : Plan) (g : ScriptGroup) (clerk : ScriptClerk)

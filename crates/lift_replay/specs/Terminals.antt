@@ -66,8 +66,8 @@ pub record AreTold (seats told : List TerminalSeat) (places known : List ClerkPl
       → BothTold (seat_at seats i) (seat_at told i) (view_at places i) (view_at known i)
 
 -- to tell a terminal that doesn't wait would change nothing
-abbrev pub AreSettled : List TerminalSeat → List ClerkPlace → Type 0
-AreSettled seats places =
+abbrev pub OthersAreTold : List TerminalSeat → List ClerkPlace → Type 0
+OthersAreTold seats places =
     (i : ℕ) → i < length seats → ¬ Waits (seat_at seats i).view
     → BothTold (seat_at seats i) (seat_at seats i) (view_at places i) (view_at places i)
 

@@ -15,7 +15,7 @@ use Rattle.lift_desk.specs.Seats.{TerminalSeat, ClerkPlace, Waits, view_at, cler
 use Rattle.lift_desk.specs.Spelled.{IsAsk}
 use Rattle.lift_desk.specs.Steps.{with_told_asks}
 use Rattle.lift_journal.specs.Told.{NoneFails, LastFails}
-use Rattle.lift_keeper.specs.Writer.{StopsCommit, commit_call_count, commit_used, commit_second}
+use Rattle.lift_keeper.specs.Writer.{IsFailedCommit, commit_call_count, commit_used, commit_second}
 use Rattle.lift_clerk.specs.Clerk.{ClerkState}
 use Rattle.lift_clerk.specs.Turn.{IsTurn, IsFailedTurn, IsBrokenTurn}
 use Rattle.lift_clerk.specs.Visits.{Visit, LooksAndAnswers, commands_of}
@@ -82,20 +82,22 @@ pub record HasCommitted (old new : ScriptClerk) (accepted : ℕ) : Type 0 where
   pub used : new.keeper.writer.used
       ≡ commit_used old.keeper.writer.register old.keeper.writer.used old.keeper.writer.half
       accepted
-  pub second : new.keeper.writer.is_second
-      ≡ commit_second old.keeper.writer.is_second old.keeper.writer.used old.keeper.writer.half
+  pub second : new.keeper.writer.is_in_second_half
+      ≡ commit_second old.keeper.writer.is_in_second_half old.keeper.writer.used
+      old.keeper.writer.half
       accepted
   pub none_fails : NoneFails (device_of old) (device_of new)
 
--- the device has stopped the turn's commit: its last call failed
-pub record WasStopped (old new : ScriptClerk) : Type 0 where
+-- the turn's commit has failed: its last call did
+pub record HasFailedCommit (old new : ScriptClerk) : Type 0 where
   pub was_whole : old.keeper.writer.is_broken ≡ false
   pub broken : new.keeper.writer.is_broken ≡ true
   pub register : new.keeper.writer.register ≡ old.keeper.writer.register
   pub calls : (device_of new).calls
       ≤ (device_of old).calls + commit_call_count old.keeper.writer.register old.keeper.writer.used
       old.keeper.writer.half (length new.keeper.state.batch)
-  pub stops : StopsCommit old.keeper.writer.plan old.keeper.writer.half old.keeper.writer.is_second
+  pub fails : IsFailedCommit old.keeper.writer.plan old.keeper.writer.half
+      old.keeper.writer.is_in_second_half
       old.keeper.writer.used old.keeper.writer.register
       new.keeper.writer.doubt (device_of old) (device_of new)
   pub last_fails : LastFails (device_of old) (device_of new)
@@ -106,7 +108,7 @@ abbrev pub TurnTells : (old new : ScriptClerk) → List ℕ → Type 0
 TurnTells old new text =
     ((counts : Counts) × IsTurn IsEtdChoice old new counts × HasCommitted old new counts.accepted
     × (text ≡ turn_text counts.taken counts.accepted))
-    ⊎ ((IsFailedTurn IsEtdChoice old new × WasStopped old new
+    ⊎ ((IsFailedTurn IsEtdChoice old new × HasFailedCommit old new
     × (text ≡ fault_text (codes "turn") 1))
     ⊎ ((old.keeper.writer.is_broken ≡ true) × IsBrokenTurn old new
     × (text ≡ fault_text (codes "turn") 5)))

@@ -131,7 +131,7 @@ pub fn add_segment<'b, W: Outlet>(
     writer: &mut W,
 ) -> Result<SegmentEnd<'b>, ReplayFault>
     requires plan { keeper.writer.plan ≡ building.now }
-    requires settled { keeper.state.batch ≡ [] }
+    requires empty_batch { keeper.state.batch ≡ [] }
     requires small { length (string_bytes piece.old) < 32768 }
     ensures writes { WritesPieces W.gives writer.old writer.new (string_bytes piece.new) result }
     // What they report is what is computed, of whichever group the keeper is of.
@@ -149,7 +149,7 @@ pub fn add_segment<'b, W: Outlet>(
     ensures cut { IfOk result (λ end.
         IfCut end (λ keeper. length lines.new.rest.now < length lines.old.rest.now)) }
     ensures plan { IfOk result (λ end. IfCut end (λ keeper. keeper.writer.plan ≡ building.now)) }
-    ensures settled { IfOk result (λ end. IfCut end (λ keeper. keeper.state.batch ≡ [])) }
+    ensures empty_batch { IfOk result (λ end. IfCut end (λ keeper. keeper.state.batch ≡ [])) }
     ensures small { IfOk result (λ end. IfCut end (λ keeper.
         length (string_bytes piece.new) < 32768)) }
 {

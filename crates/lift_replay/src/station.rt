@@ -45,7 +45,7 @@ fn keeper_over(disk: FuseDisk, building: &Building) -> Keeper<'_, FuseDisk>
     requires readable { (register : RegisterState)
         × IsImageOf building.now register (fuse_state_of disk).image }
     ensures opens { Reopens building.now (fuse_state_of disk) (fuse_state_of result.writer.device)
-        result.writer.register result.writer.half result.writer.is_second result.writer.used }
+        result.writer.register result.writer.half result.writer.is_in_second_half result.writer.used }
     ensures calls { OpensByCalls fuse_state_of (fuse_state_of disk) result.writer }
     ensures image { (fuse_state_of result.writer.device).image ≡ (fuse_state_of disk).image }
     ensures recovers { ReadsOnlyAs building.now
@@ -99,7 +99,7 @@ impl<'d, 'b> Station<'d, 'b> {
         requires answered { OwesNothing seat }
         requires count { length desk.now ≡ 16 + length building.now.kiosks }
         requires plan { keeper.writer.plan ≡ building.now }
-        requires settled { keeper.state.batch ≡ [] }
+        requires empty_batch { keeper.state.batch ≡ [] }
         ensures building { result.building.now ≡ building.now }
         ensures seats { result.terminals.seats.items ≡ seats_from 0 desk.now }
         ensures keeper { result.clerk.keeper ≡ keeper.entry }

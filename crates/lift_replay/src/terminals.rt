@@ -9,7 +9,7 @@ ghost use Rattle.lift_desk.specs.Steps.{lists_of};
 ghost use Rattle.lift_clerk.specs.Clerk.{IsToldAt};
 ghost use Rattle.lift_replay.specs.Terminals.{AreTerminalsOf, IsSpanned, AllHear, AreTold, Hears};
 ghost use Rattle.lift_replay.specs.Terminals.{having_asked, seat_at, told_seat, count_waiting};
-ghost use Rattle.lift_replay.specs.Terminals.{AreSettled};
+ghost use Rattle.lift_replay.specs.Terminals.{OthersAreTold};
 
 use crate::refused::NoMemory;
 use crate::report::push_heard;
@@ -130,7 +130,7 @@ impl<'d> Terminals<'d> {
     fn tell_waiting(&mut self, clerk: &mut Clerk<'_, '_, FuseDisk, Etd>)
         requires desk { clerk.old.desk ≡ self.old.desk.now }
         requires places { length clerk.old.seat ≡ length self.old.seats.items }
-        requires settled { AreSettled self.old.seats.items clerk.old.seat }
+        requires others_told { OthersAreTold self.old.seats.items clerk.old.seat }
         ensures told { AreTold self.old.seats.items self.new.seats.items clerk.old.seat
             clerk.new.seat }
         ensures rest { clerk.new ≡ record clerk.old { seat = clerk.new.seat } }
@@ -149,8 +149,8 @@ impl<'d> Terminals<'d> {
     pub fn tell_behind(&mut self, clerk: &mut Clerk<'_, '_, FuseDisk, Etd>, taken: Option<usize>)
         requires desk { clerk.old.desk ≡ self.old.desk.now }
         requires places { length clerk.old.seat ≡ length self.old.seats.items }
-        requires settled { taken ≡ Some (count_waiting self.old.seats.items)
-            → AreSettled self.old.seats.items clerk.old.seat }
+        requires others_told { taken ≡ Some (count_waiting self.old.seats.items)
+            → OthersAreTold self.old.seats.items clerk.old.seat }
         ensures told { AreTold self.old.seats.items self.new.seats.items clerk.old.seat
             clerk.new.seat }
         ensures rest { clerk.new ≡ record clerk.old { seat = clerk.new.seat } }

@@ -19,7 +19,7 @@ pub struct PreparedGroup<'b, D: Disk + Drop, P, K: Drop> {
     sessions: u32,
     keeper: HeldKeeper<'b, D, K>,
     policy: P,
-    ghost settled: { keeper.state.batch ≡ [] },
+    ghost empty_batch: { keeper.state.batch ≡ [] },
 }
 
 impl<'b, D: Disk + Drop, P, K: Drop> PreparedGroup<'b, D, P, K> {
@@ -52,7 +52,7 @@ impl<'b, D: Disk + Drop, P, K: Drop> PreparedGroup<'b, D, P, K> {
         } }
         ensures shortages { result.shortages ≡ None }
         ensures keeper { result.keeper ≡ self.entry.keeper }
-        ensures settled { result.keeper.state.batch ≡ [] }
+        ensures empty_batch { result.keeper.state.batch ≡ [] }
         ensures policy { result.policy ≡ self.entry.policy }
     {
         let PreparedGroup {

@@ -65,7 +65,7 @@ pub(crate) fn served<
         rt,
         move |scope| -> Option<Keeper<D>>
             requires sync { IsSync R.row }
-            requires settled { keeper.state.batch ≡ [] }
+            requires empty_batch { keeper.state.batch ≡ [] }
         {
             if scope.spawn(move || watch(rt, words)).is_err() {
                 return None;

@@ -19,11 +19,12 @@ use Rattle.lift_journal.specs.lemmas.Unique.{holds_unique}
 
 module _ {D : Type 0} (state : D → DiskState) (journal : JournalView D) (batches : List Batch) (held : JournalHolds state journal batches) where
   -- a crash leaves just what it holds
-  pub held_left : (left : Image) → MayLeave (state journal.device) left → HoldsIn journal.shape journal.is_second batches left
+  pub held_left : (left : Image) → MayLeave (state journal.device) left
+      → HoldsIn journal.shape journal.is_in_second_half batches left
   held_left left leaves =
       let disk = state journal.device in
       let same : left ≡ disk.image = all_same disk.is_loose disk.image left held.safe.none_loose leaves in
-      subst (HoldsIn journal.shape journal.is_second batches) (sym same) held.holds
+      subst (HoldsIn journal.shape journal.is_in_second_half batches) (sym same) held.holds
 
   -- it holds no other batches
   pub held_same : (others : List Batch) → Holds journal.shape others (state journal.device).image → batches ≡ others
@@ -50,14 +51,17 @@ reads_more shape base entries records old new found kinds holds = record {
 module _ {D T : Type 0} (state : D → DiskState) (old new : JournalView D) (records : List Record) (same : (state new.device).is_honest ↔ (state old.device).is_honest)
     (shape : new.shape ≡ old.shape) where
   -- the batches that are held are those that are known to be there
-  one_list : (r : Result T JournalFault) (adds : Becomes state old old.is_second (λ bs. bs ++ new_batch records ∷ []) new r) (batches : List Batch) → (state old.device).is_honest
+  one_list : (r : Result T JournalFault) (adds : Becomes state old old.is_in_second_half
+      (λ bs. bs ++ new_batch records ∷ []) new r) (batches : List Batch)
+      → (state old.device).is_honest
       → LeavesNow (state old.device) (Holds old.shape batches) → adds.batches ≡ batches
   one_list r adds batches honest lists =
       let disk = state old.device in
       held_same state old adds.batches adds.held batches (lists honest disk.image (changes_nothing disk.is_loose disk.image))
 
   -- at any moment these batches are left, or these and the new one
-  pub adds_lists : (r : Result T JournalFault) → ((state old.device).is_honest → Becomes state old old.is_second (λ bs. bs ++ new_batch records ∷ []) new r)
+  pub adds_lists : (r : Result T JournalFault) → ((state old.device).is_honest
+      → Becomes state old old.is_in_second_half (λ bs. bs ++ new_batch records ∷ []) new r)
       → (batches : List Batch) → LeavesNow (state old.device) (Holds old.shape batches)
       → LeavesOnly (state old.device) (state new.device) (λ left. Holds old.shape batches left ⊎ Holds old.shape (batches ++ new_batch records ∷ []) left)
   adds_lists r adds batches lists =
@@ -65,13 +69,16 @@ module _ {D T : Type 0} (state : D → DiskState) (old new : JournalView D) (rec
       leaves_if_honest (state old.device) (state new.device) P same (λ honest.
       let a = adds honest in
       let one = one_list r a batches honest lists in
-      let Q : Image → Type 0 = λ left. HoldsIn old.shape old.is_second a.batches left ⊎ HoldsIn old.shape old.is_second (a.batches ++ new_batch records ∷ []) left in
+      let Q : Image → Type 0 = λ left. HoldsIn old.shape old.is_in_second_half a.batches left
+      ⊎ HoldsIn old.shape old.is_in_second_half (a.batches ++ new_batch records ∷ []) left in
       leaves_weaker (state old.device) (state new.device) Q P
       (λ _ left either. ⊎_elim (λ was. inl (subst (λ (bs : List Batch). Holds old.shape bs left) one was.holds))
       (λ more. inr (subst (λ (bs : List Batch). Holds old.shape (bs ++ new_batch records ∷ []) left) one more.holds)) either) a.any_moment)
 
   -- as records: these entries are left, or these and the new ones
-  pub adds_reads : (r : Result T JournalFault) → ((state old.device).is_honest → Becomes state old old.is_second (λ bs. bs ++ new_batch records ∷ []) new r) → All IsEntry records
+  pub adds_reads : (r : Result T JournalFault) → ((state old.device).is_honest
+      → Becomes state old old.is_in_second_half (λ bs. bs ++ new_batch records ∷ []) new r)
+      → All IsEntry records
       → (base entries : List Record) → StandsFor old.shape base entries (state old.device)
       → LeavesOnly (state old.device) (state new.device) (λ left. ReadsAs old.shape base entries left ⊎ ReadsAs old.shape base (entries ++ records) left)
   adds_reads r adds kinds base entries stands =
@@ -81,23 +88,29 @@ module _ {D T : Type 0} (state : D → DiskState) (old new : JournalView D) (rec
       let a = adds honest in
       let found = stands honest disk.image (changes_nothing disk.is_loose disk.image) in
       let one = held_same state old a.batches a.held found.batches found.holds in
-      let Q : Image → Type 0 = λ left. HoldsIn old.shape old.is_second a.batches left ⊎ HoldsIn old.shape old.is_second (a.batches ++ new_batch records ∷ []) left in
+      let Q : Image → Type 0 = λ left. HoldsIn old.shape old.is_in_second_half a.batches left
+      ⊎ HoldsIn old.shape old.is_in_second_half (a.batches ++ new_batch records ∷ []) left in
       leaves_weaker (state old.device) (state new.device) Q P
       (λ _ left either. ⊎_elim
       (λ was. inl (record { batches = found.batches; holds = subst (λ (bs : List Batch). Holds old.shape bs left) one was.holds; joined = found.joined; is_base = found.is_base; are_entries = found.are_entries }))
       (λ more. inr (reads_more old.shape base entries records disk.image left found kinds (subst (λ (bs : List Batch). Holds old.shape (bs ++ new_batch records ∷ []) left) one more.holds))) either) a.any_moment)
 
   -- the half that is picked stays so
-  pub adds_half : (r : Result T JournalFault) → ((state old.device).is_honest → Becomes state old old.is_second (λ bs. bs ++ new_batch records ∷ []) new r)
-      → LeavesOnly (state old.device) (state new.device) (Picks old.is_second)
+  pub adds_half : (r : Result T JournalFault) → ((state old.device).is_honest
+      → Becomes state old old.is_in_second_half (λ bs. bs ++ new_batch records ∷ []) new r)
+      → LeavesOnly (state old.device) (state new.device) (Picks old.is_in_second_half)
   adds_half r adds =
-      leaves_if_honest (state old.device) (state new.device) (Picks old.is_second) same (λ honest.
+      leaves_if_honest (state old.device) (state new.device) (Picks old.is_in_second_half) same
+      (λ honest.
       let a = adds honest in
-      let Q : Image → Type 0 = λ left. HoldsIn old.shape old.is_second a.batches left ⊎ HoldsIn old.shape old.is_second (a.batches ++ new_batch records ∷ []) left in
-      leaves_weaker (state old.device) (state new.device) Q (Picks old.is_second) (λ _ left either. ⊎_elim (λ was. was.picks) (λ more. more.picks) either) a.any_moment)
+      let Q : Image → Type 0 = λ left. HoldsIn old.shape old.is_in_second_half a.batches left
+      ⊎ HoldsIn old.shape old.is_in_second_half (a.batches ++ new_batch records ∷ []) left in
+      leaves_weaker (state old.device) (state new.device) Q (Picks old.is_in_second_half)
+      (λ _ left either. ⊎_elim (λ was. was.picks) (λ more. more.picks) either) a.any_moment)
 
   -- at Ok each crash leaves these batches and the new one
-  pub added_lists : (r : Result T JournalFault) → ((state old.device).is_honest → Becomes state old old.is_second (λ bs. bs ++ new_batch records ∷ []) new r)
+  pub added_lists : (r : Result T JournalFault) → ((state old.device).is_honest
+      → Becomes state old old.is_in_second_half (λ bs. bs ++ new_batch records ∷ []) new r)
       → OnOk r ((batches : List Batch) → LeavesNow (state old.device) (Holds old.shape batches) → LeavesNow (state new.device) (Holds new.shape (batches ++ new_batch records ∷ [])))
   added_lists (Ok x) adds = λ batches lists honest_new left leaves.
       (let honest = same.0 honest_new in
@@ -107,7 +120,9 @@ module _ {D T : Type 0} (state : D → DiskState) (old new : JournalView D) (rec
   added_lists (Err e) adds = tt
 
   -- as records: these entries and the new ones
-  pub added_reads : (r : Result T JournalFault) → ((state old.device).is_honest → Becomes state old old.is_second (λ bs. bs ++ new_batch records ∷ []) new r) → All IsEntry records
+  pub added_reads : (r : Result T JournalFault) → ((state old.device).is_honest
+      → Becomes state old old.is_in_second_half (λ bs. bs ++ new_batch records ∷ []) new r)
+      → All IsEntry records
       → OnOk r ((base entries : List Record) → StandsFor old.shape base entries (state old.device) → StandsFor new.shape base (entries ++ records) (state new.device))
   added_reads (Ok x) adds kinds = λ base entries stands honest_new left leaves.
       (let disk = state old.device in

@@ -11,7 +11,7 @@ use Rattle.lift_journal.specs.declared.fault.JournalFault.TheVariants.{Disk, Not
 use Rattle.lift_journal.specs.declared.fault.JournalFault.TheVariants.{Full, Broken}
 use Rattle.lift_journal.specs.Steps.{IsSyncedAt, SavesAsRead, ReadsOnly, ReadsWell, HasFailed}
 use Rattle.lift_journal.specs.Steps.{Looks, Examines, HasItsCause}
-use Rattle.lift_journal.specs.Told.{StopsAsTold, FailsBy}
+use Rattle.lift_journal.specs.Told.{EndsAtFirstFailure, FailsBy}
 use Rattle.lift_journal.specs.lemmas.Telling.{none_made, passes_then, fails_then}
 
 pub keeps_then : (old mid new : DiskState) → RunsOn old mid → KeepsImage old mid
@@ -91,7 +91,7 @@ err_weaker (Err e) P Q f p = f p
 
 -- one call, from what it says
 pub looks_by : {T E : Type 0} (r : Result T E) (old new : DiskState) → ReadsOnly old new
-    → HasCause r old new → StopsAsTold r old new
+    → HasCause r old new → EndsAtFirstFailure r old new
     → OnOk r (old.is_honest → IsSynced old → IsSyncedAt old.image new) → Looks r old new
 looks_by (Ok x) old new only cause told kept =
     record {

@@ -28,7 +28,8 @@ reads_base shape base image kinds holds = record {
 
 module _ {D T : Type 0} (state : D → DiskState) (old new : JournalView D) (records : List Record) (same : (state new.device).is_honest ↔ (state old.device).is_honest) where
   -- at any moment these batches are left, or the checkpoint
-  pub puts_lists : (r : Result T JournalFault) → ((state old.device).is_honest → Becomes state old (not old.is_second) (λ _. checkpoint_of records) new r)
+  pub puts_lists : (r : Result T JournalFault) → ((state old.device).is_honest
+      → Becomes state old (not old.is_in_second_half) (λ _. checkpoint_of records) new r)
       → (batches : List Batch) → LeavesNow (state old.device) (Holds old.shape batches)
       → LeavesOnly (state old.device) (state new.device) (λ left. Holds old.shape batches left ⊎ Holds old.shape (checkpoint_of records) left)
   puts_lists r puts batches lists =
@@ -37,12 +38,15 @@ module _ {D T : Type 0} (state : D → DiskState) (old new : JournalView D) (rec
       leaves_if_honest (state old.device) (state new.device) P same (λ honest.
       let p = puts honest in
       let one = held_same state old p.batches p.held batches (lists honest disk.image (changes_nothing disk.is_loose disk.image)) in
-      let Q : Image → Type 0 = λ left. HoldsIn old.shape old.is_second p.batches left ⊎ HoldsIn old.shape (not old.is_second) (checkpoint_of records) left in
+      let Q : Image → Type 0 = λ left. HoldsIn old.shape old.is_in_second_half p.batches left
+      ⊎ HoldsIn old.shape (not old.is_in_second_half) (checkpoint_of records) left in
       leaves_weaker (state old.device) (state new.device) Q P
       (λ _ left either. ⊎_elim (λ was. inl (subst (λ (bs : List Batch). Holds old.shape bs left) one was.holds)) (λ now. inr now.holds) either) p.any_moment)
 
   -- as records: these entries are left, or the checkpoint alone
-  pub puts_reads : (r : Result T JournalFault) → ((state old.device).is_honest → Becomes state old (not old.is_second) (λ _. checkpoint_of records) new r) → All IsOfBase records
+  pub puts_reads : (r : Result T JournalFault) → ((state old.device).is_honest
+      → Becomes state old (not old.is_in_second_half) (λ _. checkpoint_of records) new r)
+      → All IsOfBase records
       → (base entries : List Record) → StandsFor old.shape base entries (state old.device)
       → LeavesOnly (state old.device) (state new.device) (λ left. ReadsAs old.shape base entries left ⊎ ReadsAs old.shape records [] left)
   puts_reads r puts kinds base entries stands =
@@ -52,30 +56,36 @@ module _ {D T : Type 0} (state : D → DiskState) (old new : JournalView D) (rec
       let p = puts honest in
       let found = stands honest disk.image (changes_nothing disk.is_loose disk.image) in
       let one = held_same state old p.batches p.held found.batches found.holds in
-      let Q : Image → Type 0 = λ left. HoldsIn old.shape old.is_second p.batches left ⊎ HoldsIn old.shape (not old.is_second) (checkpoint_of records) left in
+      let Q : Image → Type 0 = λ left. HoldsIn old.shape old.is_in_second_half p.batches left
+      ⊎ HoldsIn old.shape (not old.is_in_second_half) (checkpoint_of records) left in
       leaves_weaker (state old.device) (state new.device) Q P
       (λ _ left either. ⊎_elim
       (λ was. inl (record { batches = found.batches; holds = subst (λ (bs : List Batch). Holds old.shape bs left) one was.holds; joined = found.joined; is_base = found.is_base; are_entries = found.are_entries }))
       (λ now. inr (reads_base old.shape records left kinds now.holds)) either) p.any_moment)
 
-  pub put_lists : (r : Result T JournalFault) → ((state old.device).is_honest → Becomes state old (not old.is_second) (λ _. checkpoint_of records) new r)
+  pub put_lists : (r : Result T JournalFault) → ((state old.device).is_honest
+      → Becomes state old (not old.is_in_second_half) (λ _. checkpoint_of records) new r)
       → OnOk r (LeavesNow (state new.device) (Holds new.shape (checkpoint_of records)))
   put_lists (Ok x) puts = λ honest_new left leaves. (held_left state new (checkpoint_of records) (puts (same.0 honest_new)).done left leaves).holds
   put_lists (Err e) puts = tt
 
-  pub put_half : (r : Result T JournalFault) → ((state old.device).is_honest → Becomes state old (not old.is_second) (λ _. checkpoint_of records) new r)
-      → OnOk r (LeavesNow (state new.device) (Picks new.is_second))
+  pub put_half : (r : Result T JournalFault) → ((state old.device).is_honest
+      → Becomes state old (not old.is_in_second_half) (λ _. checkpoint_of records) new r)
+      → OnOk r (LeavesNow (state new.device) (Picks new.is_in_second_half))
   put_half (Ok x) puts = λ honest_new left leaves. (held_left state new (checkpoint_of records) (puts (same.0 honest_new)).done left leaves).picks
   put_half (Err e) puts = tt
 
-  pub put_reads : (r : Result T JournalFault) → ((state old.device).is_honest → Becomes state old (not old.is_second) (λ _. checkpoint_of records) new r) → All IsOfBase records
+  pub put_reads : (r : Result T JournalFault) → ((state old.device).is_honest
+      → Becomes state old (not old.is_in_second_half) (λ _. checkpoint_of records) new r)
+      → All IsOfBase records
       → OnOk r (StandsFor new.shape records [] (state new.device))
   put_reads (Ok x) puts kinds = λ honest_new left leaves.
       reads_base new.shape records left kinds (held_left state new (checkpoint_of records) (puts (same.0 honest_new)).done left leaves).holds
   put_reads (Err e) puts kinds = tt
 
   -- and it is safe
-  pub put_synced : (r : Result T JournalFault) → ((state old.device).is_honest → Becomes state old (not old.is_second) (λ _. checkpoint_of records) new r)
+  pub put_synced : (r : Result T JournalFault) → ((state old.device).is_honest
+      → Becomes state old (not old.is_in_second_half) (λ _. checkpoint_of records) new r)
       → OnOk r ((state new.device).is_honest → IsSynced (state new.device))
   put_synced (Ok x) puts = λ honest_new. (puts (same.0 honest_new)).done.safe
   put_synced (Err e) puts = tt

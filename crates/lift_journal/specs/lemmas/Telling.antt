@@ -11,7 +11,7 @@ use Rattle.lift_disk.specs.Trace.Access.{Read, Write, Sync}
 use Rattle.lift_journal.specs.declared.fault.JournalFault.{JournalFault}
 use Rattle.lift_journal.specs.declared.fault.JournalFault.TheVariants.{Disk, NotFormatted, Damaged}
 use Rattle.lift_journal.specs.declared.fault.JournalFault.TheVariants.{Full, Broken}
-use Rattle.lift_journal.specs.Told.{NoneFails, LastFails, StopsAsTold, FailsBy}
+use Rattle.lift_journal.specs.Told.{NoneFails, LastFails, EndsAtFirstFailure, FailsBy}
 
 -- no call was made
 pub none_made : (disk : DiskState) → NoneFails disk disk
@@ -70,9 +70,10 @@ module _ (old mid new : DiskState) (runs : RunsOn old mid) (first : NoneFails ol
     short = λ was. second.short (first.short ∙ was);
   }
 
-  pub stops_then : {T E : Type 0} (r : Result T E) → StopsAsTold r mid new → StopsAsTold r old new
-  stops_then (Ok x) second = record { ok = passes_then second.ok; err = tt }
-  stops_then (Err e) second = record { ok = tt; err = fails_then second.err }
+  pub ends_then : {T E : Type 0} (r : Result T E) → EndsAtFirstFailure r mid new
+      → EndsAtFirstFailure r old new
+  ends_then (Ok x) second = record { ok = passes_then second.ok; err = tt }
+  ends_then (Err e) second = record { ok = tt; err = fails_then second.err }
 
   pub fault_then : (fault : JournalFault) → FailsBy fault mid new → FailsBy fault old new
   fault_then Disk second = fails_then second
@@ -82,19 +83,19 @@ module _ (old mid new : DiskState) (runs : RunsOn old mid) (first : NoneFails ol
   fault_then Broken second = passes_then second
 
 -- a write or a sync
-call_stops : {T E : Type 0} (r : Result T E) (old new : DiskState) → GoesOn old new
-    → FailsAsToldOrShort r old new → StopsAsTold r old new
-call_stops (Ok x) old new goes_on told =
+call_ends : {T E : Type 0} (r : Result T E) (old new : DiskState) → GoesOn old new
+    → FailsAsToldOrShort r old new → EndsAtFirstFailure r old new
+call_ends (Ok x) old new goes_on told =
     record { ok = one_passes old new goes_on told.ok told.same; err = tt }
-call_stops (Err e) old new goes_on told =
+call_ends (Err e) old new goes_on told =
     record { ok = tt; err = one_fails old new goes_on told.err told.short }
 
 -- a read
-read_stops : {T E : Type 0} (r : Result T E) (old new : DiskState) → GoesOn old new
-    → FailsAsTold r old new → StopsAsTold r old new
-read_stops (Ok x) old new goes_on told =
+read_ends : {T E : Type 0} (r : Result T E) (old new : DiskState) → GoesOn old new
+    → FailsAsTold r old new → EndsAtFirstFailure r old new
+read_ends (Ok x) old new goes_on told =
     record { ok = one_passes old new goes_on told.ok told.short; err = tt }
-read_stops (Err e) old new goes_on told =
+read_ends (Err e) old new goes_on told =
     record {
       ok = tt;
       err = one_fails old new goes_on (λ inert.
@@ -102,16 +103,16 @@ read_stops (Err e) old new goes_on told =
     }
 
 -- one call
-pub access_stops : {T E : Type 0} (r : Result T E) (call : Access) (old new : DiskState)
-    → IsAccess r call old new → StopsAsTold r old new
-access_stops r (Read sector) old new access = read_stops r old new access.goes_on access.told
-access_stops r (Write sector bytes) old new access =
-    call_stops r old new access.goes_on access.told
-access_stops r Sync old new access = call_stops r old new access.goes_on access.told
+pub access_ends : {T E : Type 0} (r : Result T E) (call : Access) (old new : DiskState)
+    → IsAccess r call old new → EndsAtFirstFailure r old new
+access_ends r (Read sector) old new access = read_ends r old new access.goes_on access.told
+access_ends r (Write sector bytes) old new access =
+    call_ends r old new access.goes_on access.told
+access_ends r Sync old new access = call_ends r old new access.goes_on access.told
 
 -- a call that failed, whose fault is answered
-pub err_stops : {T E : Type 0} (Q : E → Type 0) (r : Result T E) (old new : DiskState)
-    → IsErrAnd r Q → LastFails old new → StopsAsTold r old new
-err_stops Q r old new is fails =
+pub err_ends : {T E : Type 0} (Q : E → Type 0) (r : Result T E) (old new : DiskState)
+    → IsErrAnd r Q → LastFails old new → EndsAtFirstFailure r old new
+err_ends Q r old new is fails =
     let fault = err_from_is_err_and r is in
     record { ok = rw fault.1 tt; err = rw fault.1 fails }

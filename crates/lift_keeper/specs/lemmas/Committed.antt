@@ -86,7 +86,7 @@ module _ {D T U : Type 0} (state : D → DiskState) (old : WriterView D) (count 
     second = c.second;
     told_ok = c.told_ok;
     told = c.told;
-    stops = λ is. absurd (cc);
+    fails = λ is. absurd (cc);
   }
 
   pub calls_under_err : (fault : KeeperFault)
@@ -104,8 +104,8 @@ module _ {D T U : Type 0} (state : D → DiskState) (old : WriterView D) (count 
     second = c.second;
     told_ok = c.told_ok;
     told = c.told;
-    stops = λ is. (let same : fault ≡ Journal Disk = cc in
-        c.stops (ap (λ (f : KeeperFault). Err f) same));
+    fails = λ is. (let same : fault ≡ Journal Disk = cc in
+        c.fails (ap (λ (f : KeeperFault). Err f) same));
   }
 
 was_whole : (b : Bool) → (b ≡ true → ⊥) → b ≡ false

@@ -13,10 +13,10 @@ use Rattle.lift_policy.specs.Step.{State}
 use Rattle.lift_keeper.specs.Keeper.{IsKeeper}
 
 -- nothing is in the batch
-pub settled_keeper : (plan : Plan) (state : State) (other : Plan) (safe : RegisterState)
+pub keeper_without_batch : (plan : Plan) (state : State) (other : Plan) (safe : RegisterState)
     (is_broken : Bool) → other ≡ plan → state.batch ≡ [] → register_of safe [] ≡ safe
     → (is_broken ≡ false → state.register ≡ safe) → IsKeeper plan state other safe is_broken
-settled_keeper plan state other safe is_broken of_building none same shows = record {
+keeper_without_batch plan state other safe is_broken of_building none same shows = record {
   of_building = of_building;
   fits = λ _. subst (FitFrom plan safe) (sym none) tt;
   shows = λ whole. shows whole ∙ sym same ∙ ap (register_of safe) (sym none);

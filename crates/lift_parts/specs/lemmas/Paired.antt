@@ -94,7 +94,7 @@ pub same_flusher : {D : Type 0} (state : D
     → DiskState) (f g : FlusherState D) (before last : Option KeeperFault)
     → FlusherTurns state f before g last → IsSameFlusher f g
 same_flusher state f g before last NoFlush =
-    record { line = refl; desk = refl; plan = refl; half = refl; opened = refl }
+    record { line = refl; desk = refl; plan = refl; half = refl; failures_at_opening = refl }
 same_flusher state f g before last (OneFlush {g = h} {first = first} more flush is) =
     let was = same_flusher state f h before first more in
     record {
@@ -102,7 +102,7 @@ same_flusher state f g before last (OneFlush {g = h} {first = first} more flush 
       desk = flush.same.0 ∙ was.desk;
       plan = flush.commits.same.0 ∙ was.plan;
       half = flush.commits.same.1 ∙ was.half;
-      opened = flush.commits.same.2 ∙ was.opened;
+      failures_at_opening = flush.commits.same.2 ∙ was.failures_at_opening;
     }
 
 pub still_of_one : {D P : Type 0} (a b : AllocatorState P) (f g : FlusherState D)

@@ -74,7 +74,9 @@ always_on {D} state plan base first f h safe end given later own before
 -- Keeper::open has opened this device, and what it found keeps a prefix of what was accepted, and
 -- all that was given.
 module _ {D P : Type 0} (chooses : P → Choice) (state : D → DiskState) (plan : Plan) (opened : D) (keeper : KeeperView D)
-    (reopens : Reopens plan (state opened) (state keeper.writer.device) keeper.writer.register keeper.writer.half keeper.writer.is_second keeper.writer.used)
+    (reopens : Reopens plan (state opened)
+    (state keeper.writer.device) keeper.writer.register keeper.writer.half
+    keeper.writer.is_in_second_half keeper.writer.used)
     (starts : keeper.state ≡ starting keeper.writer.register) (whole : keeper.writer.is_broken ≡ false)
     (no_doubt : keeper.writer.doubt ≡ []) (own : keeper.writer.plan ≡ plan) (honest : (state opened).is_honest)
     (base : RegisterState) (accepted : List Entry) (given : List Taken) (keeps : LeavesNow (state opened) (KeepsFront D plan base accepted given)) where

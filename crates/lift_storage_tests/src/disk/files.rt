@@ -84,7 +84,7 @@ fn is_refused<F: ToldFile + Drop, O: Drop>(
         Err(FileFault::NotAFile(_)) => "not a file",
         Err(FileFault::Untold(_, _)) => "nothing told",
         Err(FileFault::Unopened(_)) => "not opened",
-        Err(FileFault::Stopped(_)) => "opened and given back",
+        Err(FileFault::Failed(_)) => "opened and given back",
         _ => "none of these",
     };
     came == reason

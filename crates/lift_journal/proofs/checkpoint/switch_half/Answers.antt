@@ -4,7 +4,7 @@ use Rattle.lift_disk.specs.Disk.{Image, ChangesWithin}
 use Rattle.lift_disk.specs.lemmas.Moments.{leaves_weaker, leaves_then, leaves_if_honest, changes_more, changes_twice}
 use Rattle.lift_journal.specs.Steps.{IsInRange, unmarked}
 use Rattle.lift_journal.specs.lemmas.Looking.{err_any, err_weaker}
-use Rattle.lift_journal.proofs.Stopping.{synced_image}
+use Rattle.lift_journal.proofs.FailedAppends.{synced_image}
 use Rattle.lift_journal.specs.Calls.{puts}
 use Rattle.lift_journal.proofs.Performing.{performs_then, err_performs}
 use Rattle.lift_journal.proofs.checkpoint.switch_half.Goals as goal
@@ -42,8 +42,8 @@ returns-clause-picked g c =
       same = after.same ∙ ap (λ (l : Image). slice_set l 0 c.args.pick.now) stored.same;
     }) c.put_sector-2.ensures.stored
 
-pub returns-in_err-put_sector-clause-stops : goal.returns-in_err-put_sector-clause-stops
-returns-in_err-put_sector-clause-stops g c =
+pub returns-in_err-put_sector-clause-fails : goal.returns-in_err-put_sector-clause-fails
+returns-in_err-put_sector-clause-fails g c =
     err_any c.from_residual.result _ (λ low high le lt loose honest inert steady.
     let old = g.D.Disk.state c.args.disk.now in
     let new = g.D.Disk.state c.put_sector.new.disk in
@@ -55,8 +55,8 @@ returns-in_err-put_sector-clause-stops g c =
       late = λ more. absurd (omega (arith, more, c.put_sector.ensures.performs.made.most_calls));
     })
 
-pub returns-clause-stops : goal.returns-clause-stops
-returns-clause-stops g c =
+pub returns-clause-fails : goal.returns-clause-fails
+returns-clause-fails g c =
     err_weaker c.put_sector-2.result _ _ (λ misses low high le lt loose honest inert steady.
     let old = g.D.Disk.state c.args.disk.now in
     let mid = g.D.Disk.state c.put_sector.new.disk in

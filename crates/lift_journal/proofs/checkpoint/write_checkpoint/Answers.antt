@@ -11,7 +11,7 @@ use Rattle.lift_disk.specs.lemmas.Moments.{changes_more, changes_twice}
 use Rattle.lift_journal.specs.lemmas.Looking.{err_any}
 use Rattle.lift_journal.specs.Checkpoint.{checkpoint_of}
 use Rattle.lift_journal.proofs.Appends.{sector_set}
-use Rattle.lift_journal.proofs.Switching.{checkpoint_leaves, written_left, writing_stops}
+use Rattle.lift_journal.proofs.Switching.{checkpoint_leaves, written_left, writing_fails}
 use Rattle.lift_journal.specs.Calls.{Performs, draft_calls, puts}
 use Rattle.lift_journal.proofs.Performing.{err_performed, err_performs, ok_performs, performs_then}
 use Rattle.lift_journal.proofs.checkpoint.write_checkpoint.Goals as goal
@@ -66,8 +66,8 @@ returns-clause-written g c end high inside honest synced =
     (omega (arith, inside, c.write_batches.ensures.performs.runs.size, g.met.D.Disk.whole c.write_batches.new.disk honest_mid)) c.in_ok-gate.ensures.gate.1
     (c.in_ok-gate.ensures.reached honest synced.steady end high inside) (touched.within honest) after
 
-pub returns-in_err-gate-clause-stops : goal.returns-in_err-gate-clause-stops
-returns-in_err-gate-clause-stops g c =
+pub returns-in_err-gate-clause-fails : goal.returns-in_err-gate-clause-fails
+returns-in_err-gate-clause-fails g c =
     err_any c.from_residual.result _ (λ end high inside honest inert synced.
     let old = g.D.Disk.state c.args.disk.now in
     let new = g.D.Disk.state c.write_batches.new.disk in
@@ -79,8 +79,8 @@ returns-in_err-gate-clause-stops g c =
       late = λ more. absurd (omega (arith, more, c.write_batches.ensures.performs.made.most_calls));
     })
 
-pub returns-in_err-switch_half-clause-stops : goal.returns-in_err-switch_half-clause-stops
-returns-in_err-switch_half-clause-stops g c =
+pub returns-in_err-switch_half-clause-fails : goal.returns-in_err-switch_half-clause-fails
+returns-in_err-switch_half-clause-fails g c =
     err_any c.from_residual-in_err-switch_half.result _ (λ end high inside honest inert synced.
     let old = g.D.Disk.state c.args.disk.now in
     let mid = g.D.Disk.state c.write_batches.new.disk in
@@ -88,10 +88,10 @@ returns-in_err-switch_half-clause-stops g c =
     let touched = c.write_batches.ensures.touched (λ _ i is. absurd (synced.none_loose i is)) in
     let runs = c.write_batches.ensures.performs.runs in
     let honest_mid = runs.honest.1 honest in
-    writing_stops old mid (g.D.Disk.state c.switch_half.new.disk) c.args.start end c.in_ok-gate.gate (sectors_for (length records)) (checkpoint_of records) c.args.pick.now
+    writing_fails old mid (g.D.Disk.state c.switch_half.new.disk) c.args.start end c.in_ok-gate.gate (sectors_for (length records)) (checkpoint_of records) c.args.pick.now
     c.requires.first high (omega (arith, inside, runs.size, g.met.D.Disk.whole c.write_batches.new.disk honest_mid)) c.in_ok-gate.ensures.gate.1
     (touched.within honest) (c.in_ok-gate.ensures.reached honest synced.steady end high inside) c.in_ok-gate.ensures.performs.made.calls
-    (c.in_err-switch_half.ensures.stops c.args.start (c.args.start + 64) (omega (arith, c.in_ok-gate.ensures.gate.0)) c.in_ok-gate.ensures.gate.1 touched.loose
+    (c.in_err-switch_half.ensures.fails c.args.start (c.args.start + 64) (omega (arith, c.in_ok-gate.ensures.gate.0)) c.in_ok-gate.ensures.gate.1 touched.loose
     honest_mid (runs.inert.1 inert) (c.in_ok-gate.ensures.steady honest synced.steady)))
 
 pub returns-in_err-gate-clause-performs : goal.returns-in_err-gate-clause-performs

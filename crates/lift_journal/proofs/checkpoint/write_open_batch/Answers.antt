@@ -3,7 +3,7 @@ use Rattle.std.proofs.lemmas.Result.{on_ok_weaker}
 use Rattle.lift_disk.specs.Disk.{Image}
 use Rattle.lift_disk.specs.lemmas.Moments.{touches_then_write}
 use Rattle.lift_journal.specs.Steps.{overwritten, marked, IsInRange}
-use Rattle.lift_journal.specs.lemmas.Telling.{access_stops, stops_then}
+use Rattle.lift_journal.specs.lemmas.Telling.{access_ends, ends_then}
 use Rattle.lift_disk.specs.Trace.Access.{Write}
 use Rattle.lift_journal.specs.Calls.{Follows, writes_from}
 use Rattle.lift_journal.proofs.Following.{one_follows, front_more, follows_then, err_follows}
@@ -35,8 +35,8 @@ pub returns-clause-told : goal.returns-clause-told
 returns-clause-told g c =
     let mid = g.D.Disk.state c.write_sectors.new.disk in
     let new = g.D.Disk.state c.write.new.self in
-    stops_then (g.D.Disk.state c.args.disk.now) mid new c.write_sectors.ensures.performs.runs c.in_ok-write_sectors.ensures.performs.told.ok
-    c.write.result (access_stops c.write.result (Write c.args.gate c.mark.result) mid new c.write.ensures.access)
+    ends_then (g.D.Disk.state c.args.disk.now) mid new c.write_sectors.ensures.performs.runs c.in_ok-write_sectors.ensures.performs.told.ok
+    c.write.result (access_ends c.write.result (Write c.args.gate c.mark.result) mid new c.write.ensures.access)
 
 pub returns-in_err-write_sectors-clause-follows : goal.returns-in_err-write_sectors-clause-follows
 returns-in_err-write_sectors-clause-follows g c =

@@ -7,7 +7,7 @@ use Rattle.lift_journal.specs.Steps.{IsInRange, marked, unmarked}
 use Rattle.lift_journal.specs.lemmas.Chains.{holds_either}
 use Rattle.lift_journal.proofs.Appends.{body_leaves, body_start, body_prepares, gate_opens, gate_start}
 use Rattle.lift_journal.specs.lemmas.Looking.{err_any, err_weaker}
-use Rattle.lift_journal.proofs.Stopping.{synced_image, stops_at_gate}
+use Rattle.lift_journal.proofs.FailedAppends.{synced_image, fails_at_gate}
 use Rattle.lift_disk.specs.Trace.Access.{Write, Sync}
 use Rattle.lift_journal.specs.Calls.{Performs, writes_from, puts}
 use Rattle.lift_journal.proofs.Performing.{performs_then, err_performs}
@@ -64,8 +64,8 @@ returns-clause-written g c =
       from = gate_start shape batches batch c.args.gate mid.image new.image prepared within ∙ body_start shape batches batch c.args.gate c.args.body.now old ready mid.image (touched.within honest);
     }) c.open_gate.ensures.opened
 
-pub returns-in_err-store_behind-clause-stops : goal.returns-in_err-store_behind-clause-stops
-returns-in_err-store_behind-clause-stops g c =
+pub returns-in_err-store_behind-clause-fails : goal.returns-in_err-store_behind-clause-fails
+returns-in_err-store_behind-clause-fails g c =
     err_any c.from_residual.result _ (λ shape batches batch honest inert ready.
     let old = g.D.Disk.state c.args.disk.now in
     let new = g.D.Disk.state c.store_behind.new.disk in
@@ -77,8 +77,8 @@ returns-in_err-store_behind-clause-stops g c =
       late = λ more. absurd (omega (arith, more, c.store_behind.ensures.performs.made.most_calls));
     })
 
-pub returns-clause-stops : goal.returns-clause-stops
-returns-clause-stops g c =
+pub returns-clause-fails : goal.returns-clause-fails
+returns-clause-fails g c =
     let old = g.D.Disk.state c.args.disk.now in
     let mid = g.D.Disk.state c.store_behind.new.disk in
     let new = g.D.Disk.state c.open_gate.new.disk in
@@ -94,7 +94,7 @@ returns-clause-stops g c =
     let inside : c.args.gate < length mid.image = omega (arith, c.requires.there, c.store_behind.ensures.performs.runs.size, g.met.D.Disk.whole c.store_behind.new.disk honest_mid) in
     record {
       early = λ few. absurd (⊎_elim (λ failed. omega (arith, few, failed.0, c.in_ok-store_behind.ensures.performs.made.calls)) (λ written. omega (arith, few, written.0, c.in_ok-store_behind.ensures.performs.made.calls)) missed.made);
-      late = λ _. stops_at_gate shape batches batch c.args.gate (length c.args.body.now + 2) old mid new prepared c.in_ok-store_behind.ensures.performs.made.calls
+      late = λ _. fails_at_gate shape batches batch c.args.gate (length c.args.body.now + 2) old mid new prepared c.in_ok-store_behind.ensures.performs.made.calls
           (synced_image mid stored.synced (g.met.D.Disk.may_lose c.store_behind.new.disk honest_mid)) missed within
           (λ i is. (let there = opened.loose honest_new i is in omega (arith, there.0, there.1))) inside;
     }) c.open_gate.ensures.misses

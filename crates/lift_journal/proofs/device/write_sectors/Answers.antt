@@ -4,7 +4,7 @@ use Rattle.std.proofs.lemmas.Result.{err_from_is_err_and}
 use Rattle.lift_disk.specs.lemmas.Moments.{runs_call, runs_then}
 use Rattle.lift_disk.specs.Disk.{Image, Touches, IsSteadyAt}
 use Rattle.lift_journal.proofs.Writes.{written_none, written_more, written_all, written_front, touched_more}
-use Rattle.lift_journal.specs.lemmas.Telling.{one_passes, one_fails, fails_then, err_stops}
+use Rattle.lift_journal.specs.lemmas.Telling.{one_passes, one_fails, fails_then, err_ends}
 use Rattle.lift_disk.specs.Trace.Access.{Write}
 use Rattle.lift_journal.specs.Calls.{writes_from}
 use Rattle.lift_journal.proofs.Following.{err_follows}
@@ -60,7 +60,7 @@ returns-in_err-write-clause-performs g c =
     record {
       runs = runs_then old now new so_far.runs (runs_call now new goes_on);
       cause = record { ok = rw fault.1 tt; err = rw fault.1 (let more : old.failures < new.failures = omega (arith, so_far.failures, c.in_err-write.ensures.access.fault.err) in more) };
-      told = err_stops _ c.from_residual.result old new c.from_residual.ensures.1
+      told = err_ends _ c.from_residual.result old new c.from_residual.ensures.1
           (fails_then old now new so_far.runs so_far.told (one_fails now new goes_on c.in_err-write.ensures.access.told.err c.in_err-write.ensures.access.told.short));
       made = record {
         calls = rw fault.1 tt;

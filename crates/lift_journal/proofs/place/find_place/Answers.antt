@@ -38,45 +38,45 @@ found (Err fault) old mid new shape place stands read known traced = tt
 pub returns-then-is_err-clause-examines : goal.returns-then-is_err-clause-examines
 returns-then-is_err-clause-examines g c =
     let old = g.D.Disk.state c.args.disk.now in
-    let new = g.D.Disk.state c.settle.new.disk in
+    let new = g.D.Disk.state c.sync_device.new.disk in
     record {
-      only = c.settle.ensures.looks.only;
+      only = c.sync_device.ensures.looks.only;
       ok = tt;
-      err = open_err c.settle.result (HasFailed old new) (sym c.is_err.ensures.value ∙ c.if-is_err.true) c.settle.ensures.looks.err;
+      err = open_err c.sync_device.result (HasFailed old new) (sym c.is_err.ensures.value ∙ c.if-is_err.true) c.sync_device.ensures.looks.err;
     }
 
 pub returns-in-Err-clause-examines : goal.returns-in-Err-clause-examines
 returns-in-Err-clause-examines g c =
     let old = g.D.Disk.state c.args.disk.now in
-    let mid = g.D.Disk.state c.settle.new.disk in
+    let mid = g.D.Disk.state c.sync_device.new.disk in
     let new = g.D.Disk.state c.read_shape.new.disk in
-    let well : ReadsWell old mid = open_ok c.settle.result (ReadsWell old mid) (sym c.is_err.ensures.value ∙ c.if-is_err.false) c.settle.ensures.looks.ok in
+    let well : ReadsWell old mid = open_ok c.sync_device.result (ReadsWell old mid) (sym c.is_err.ensures.value ∙ c.if-is_err.false) c.sync_device.ensures.looks.ok in
     record {
-      only = reads_then old mid new c.settle.ensures.looks.only c.read_shape.ensures.examines.only;
+      only = reads_then old mid new c.sync_device.ensures.looks.only c.read_shape.ensures.examines.only;
       ok = tt;
-      err = cause_then c.in-Err.fault old mid new c.settle.ensures.looks.only well c.in-Err.ensures.examines.err;
+      err = cause_then c.in-Err.fault old mid new c.sync_device.ensures.looks.only well c.in-Err.ensures.examines.err;
     }
 
 pub returns-clause-examines : goal.returns-clause-examines
 returns-clause-examines g c =
     let old = g.D.Disk.state c.args.disk.now in
-    let mid = g.D.Disk.state c.settle.new.disk in
+    let mid = g.D.Disk.state c.sync_device.new.disk in
     let read = g.D.Disk.state c.read_shape.new.disk in
     let new = g.D.Disk.state c.place_of.new.disk in
-    let well : ReadsWell old mid = open_ok c.settle.result (ReadsWell old mid) (sym c.is_err.ensures.value ∙ c.if-is_err.false) c.settle.ensures.looks.ok in
-    let only : ReadsOnly old read = reads_then old mid read c.settle.ensures.looks.only c.read_shape.ensures.examines.only in
-    let both : ReadsWell old read = well_then old mid read c.settle.ensures.looks.only well c.in-Ok.ensures.examines.ok in
+    let well : ReadsWell old mid = open_ok c.sync_device.result (ReadsWell old mid) (sym c.is_err.ensures.value ∙ c.if-is_err.false) c.sync_device.ensures.looks.ok in
+    let only : ReadsOnly old read = reads_then old mid read c.sync_device.ensures.looks.only c.read_shape.ensures.examines.only in
+    let both : ReadsWell old read = well_then old mid read c.sync_device.ensures.looks.only well c.in-Ok.ensures.examines.ok in
     examines_then c.place_of.result old read new only both c.place_of.ensures.examines
 
 pub returns-clause-finds : goal.returns-clause-finds
 returns-clause-finds g c =
     let old = g.D.Disk.state c.args.disk.now in
-    let mid = g.D.Disk.state c.settle.new.disk in
+    let mid = g.D.Disk.state c.sync_device.new.disk in
     let read = g.D.Disk.state c.read_shape.new.disk in
     let new = g.D.Disk.state c.place_of.new.disk in
-    let first = c.settle.ensures.looks.only in
-    let synced = open_ok c.settle.result (mid.trace ≡ old.trace ++ Sync ∷ []) (sym c.is_err.ensures.value ∙ c.if-is_err.false) c.settle.ensures.recorded.ok in
-    let safe : old.is_honest → IsSynced mid = open_ok c.settle.result (old.is_honest → IsSynced mid) (sym c.is_err.ensures.value ∙ c.if-is_err.false) c.settle.ensures.synced in
+    let first = c.sync_device.ensures.looks.only in
+    let synced = open_ok c.sync_device.result (mid.trace ≡ old.trace ++ Sync ∷ []) (sym c.is_err.ensures.value ∙ c.if-is_err.false) c.sync_device.ensures.recorded.ok in
+    let safe : old.is_honest → IsSynced mid = open_ok c.sync_device.result (old.is_honest → IsSynced mid) (sym c.is_err.ensures.value ∙ c.if-is_err.false) c.sync_device.ensures.synced in
     found c.place_of.result old read new c.in-Ok.shape c.place_of.ensures.place c.place_of.ensures.stands c.place_of.ensures.read
     (λ honest. (let honest_mid = first.runs.honest.1 honest in
     let kept = c.in-Ok.ensures.examines.ok.kept honest_mid (safe honest) in
@@ -86,21 +86,21 @@ returns-clause-finds g c =
 pub returns-in-Err-clause-refused : goal.returns-in-Err-clause-refused
 returns-in-Err-clause-refused g c =
     let old = g.D.Disk.state c.args.disk.now in
-    let mid = g.D.Disk.state c.settle.new.disk in
-    let well : ReadsWell old mid = open_ok c.settle.result (ReadsWell old mid) (sym c.is_err.ensures.value ∙ c.if-is_err.false) c.settle.ensures.looks.ok in
-    let synced : old.is_honest → IsSynced mid = open_ok c.settle.result (old.is_honest → IsSynced mid) (sym c.is_err.ensures.value ∙ c.if-is_err.false) c.settle.ensures.synced in
-    refused_stamp c.in-Err.fault old mid (g.D.Disk.state c.read_shape.new.disk) c.settle.ensures.looks.only well.failures synced c.in-Err.ensures.examines.err c.in-Err.ensures.causes
+    let mid = g.D.Disk.state c.sync_device.new.disk in
+    let well : ReadsWell old mid = open_ok c.sync_device.result (ReadsWell old mid) (sym c.is_err.ensures.value ∙ c.if-is_err.false) c.sync_device.ensures.looks.ok in
+    let synced : old.is_honest → IsSynced mid = open_ok c.sync_device.result (old.is_honest → IsSynced mid) (sym c.is_err.ensures.value ∙ c.if-is_err.false) c.sync_device.ensures.synced in
+    refused_stamp c.in-Err.fault old mid (g.D.Disk.state c.read_shape.new.disk) c.sync_device.ensures.looks.only well.failures synced c.in-Err.ensures.examines.err c.in-Err.ensures.causes
     (λ same. c.in-Err.ensures.not_formatted (ap (λ (f : JournalFault). Err f) same))
 
 pub returns-clause-refused : goal.returns-clause-refused
 returns-clause-refused g c =
     let old = g.D.Disk.state c.args.disk.now in
-    let mid = g.D.Disk.state c.settle.new.disk in
+    let mid = g.D.Disk.state c.sync_device.new.disk in
     let read = g.D.Disk.state c.read_shape.new.disk in
     let new = g.D.Disk.state c.place_of.new.disk in
-    let well : ReadsWell old mid = open_ok c.settle.result (ReadsWell old mid) (sym c.is_err.ensures.value ∙ c.if-is_err.false) c.settle.ensures.looks.ok in
-    let synced : old.is_honest → IsSynced mid = open_ok c.settle.result (old.is_honest → IsSynced mid) (sym c.is_err.ensures.value ∙ c.if-is_err.false) c.settle.ensures.synced in
-    let first = c.settle.ensures.looks.only in
+    let well : ReadsWell old mid = open_ok c.sync_device.result (ReadsWell old mid) (sym c.is_err.ensures.value ∙ c.if-is_err.false) c.sync_device.ensures.looks.ok in
+    let synced : old.is_honest → IsSynced mid = open_ok c.sync_device.result (old.is_honest → IsSynced mid) (sym c.is_err.ensures.value ∙ c.if-is_err.false) c.sync_device.ensures.synced in
+    let first = c.sync_device.ensures.looks.only in
     let second = c.read_shape.ensures.examines.only in
     let only : ReadsOnly old read = reads_then old mid read first second in
     let read_well = c.in-Ok.ensures.examines.ok in
@@ -115,21 +115,21 @@ returns-clause-refused g c =
 pub returns-in-Err-clause-behind : goal.returns-in-Err-clause-behind
 returns-in-Err-clause-behind g c =
     let old = g.D.Disk.state c.args.disk.now in
-    let mid = g.D.Disk.state c.settle.new.disk in
+    let mid = g.D.Disk.state c.sync_device.new.disk in
     let new = g.D.Disk.state c.read_shape.new.disk in
-    let synced = open_ok c.settle.result (mid.trace ≡ old.trace ++ Sync ∷ []) (sym c.is_err.ensures.value ∙ c.if-is_err.false) c.settle.ensures.recorded.ok in
-    stamp_behind c.in-Err.fault old mid new synced c.settle.ensures.looks.only.runs.size c.in-Err.ensures.behind
+    let synced = open_ok c.sync_device.result (mid.trace ≡ old.trace ++ Sync ∷ []) (sym c.is_err.ensures.value ∙ c.if-is_err.false) c.sync_device.ensures.recorded.ok in
+    stamp_behind c.in-Err.fault old mid new synced c.sync_device.ensures.looks.only.runs.size c.in-Err.ensures.behind
 
 pub returns-clause-behind : goal.returns-clause-behind
 returns-clause-behind g c =
     let old = g.D.Disk.state c.args.disk.now in
-    let mid = g.D.Disk.state c.settle.new.disk in
+    let mid = g.D.Disk.state c.sync_device.new.disk in
     let read = g.D.Disk.state c.read_shape.new.disk in
     let new = g.D.Disk.state c.place_of.new.disk in
-    let first = c.settle.ensures.looks.only in
+    let first = c.sync_device.ensures.looks.only in
     let second = c.read_shape.ensures.examines.only in
-    let synced = open_ok c.settle.result (mid.trace ≡ old.trace ++ Sync ∷ []) (sym c.is_err.ensures.value ∙ c.if-is_err.false) c.settle.ensures.recorded.ok in
-    let safe : old.is_honest → IsSynced mid = open_ok c.settle.result (old.is_honest → IsSynced mid) (sym c.is_err.ensures.value ∙ c.if-is_err.false) c.settle.ensures.synced in
+    let synced = open_ok c.sync_device.result (mid.trace ≡ old.trace ++ Sync ∷ []) (sym c.is_err.ensures.value ∙ c.if-is_err.false) c.sync_device.ensures.recorded.ok in
+    let safe : old.is_honest → IsSynced mid = open_ok c.sync_device.result (old.is_honest → IsSynced mid) (sym c.is_err.ensures.value ∙ c.if-is_err.false) c.sync_device.ensures.synced in
     let traced : read.trace ≡ old.trace ++ Sync ∷ Read 1 ∷ [] = all_then old mid read (Sync ∷ []) (Read 1 ∷ []) synced c.in-Ok.ensures.read in
     if_err_weaker c.place_of.result _ (λ fault. RefusedBehind fault old new)
     (λ fault _ behind. half_behind fault old read new traced (second.runs.size ∙ first.runs.size) c.place_of.ensures.examines.only
@@ -138,8 +138,8 @@ returns-clause-behind g c =
 pub returns-then-is_err-clause-behind : goal.returns-then-is_err-clause-behind
 returns-then-is_err-clause-behind g c =
     let old = g.D.Disk.state c.args.disk.now in
-    let new = g.D.Disk.state c.settle.new.disk in
-    let same = open_err c.settle.result (new.trace ≡ old.trace) (sym c.is_err.ensures.value ∙ c.if-is_err.true) c.settle.ensures.recorded.err in
+    let new = g.D.Disk.state c.sync_device.new.disk in
+    let same = open_err c.sync_device.result (new.trace ≡ old.trace) (sym c.is_err.ensures.value ∙ c.if-is_err.true) c.sync_device.ensures.recorded.err in
     inl (record { count = 0; some_left = omega arith; made = same ∙ sym (append-nil old.trace) })
 
 pub returns-then-is_err-clause-shown_some : goal.returns-then-is_err-clause-shown_some
@@ -150,12 +150,12 @@ returns-in-Err-clause-shown_some g c = taken_none g.V.Visitor.takes 1000000 c.ar
 
 pub returns-clause-shown : goal.returns-clause-shown
 returns-clause-shown g c =
-    let mid = g.D.Disk.state c.settle.new.disk in
+    let mid = g.D.Disk.state c.sync_device.new.disk in
     let read = g.D.Disk.state c.read_shape.new.disk in
     let new = g.D.Disk.state c.place_of.new.disk in
-    let first = c.settle.ensures.looks.only in
+    let first = c.sync_device.ensures.looks.only in
     let second = c.read_shape.ensures.examines.only in
-    let safe = open_ok c.settle.result ((g.D.Disk.state c.args.disk.now).is_honest → IsSynced mid) (sym c.is_err.ensures.value ∙ c.if-is_err.false) c.settle.ensures.synced in
+    let safe = open_ok c.sync_device.result ((g.D.Disk.state c.args.disk.now).is_honest → IsSynced mid) (sym c.is_err.ensures.value ∙ c.if-is_err.false) c.sync_device.ensures.synced in
     if_ok_weaker c.place_of.result _ _
     (λ place all honest batches holds.
     (let honest_mid = first.runs.honest.1 honest in
@@ -167,28 +167,28 @@ returns-clause-shown g c =
 pub returns-then-is_err-clause-shown_before : goal.returns-then-is_err-clause-shown_before
 returns-then-is_err-clause-shown_before g c =
     let old = g.D.Disk.state c.args.disk.now in
-    let new = g.D.Disk.state c.settle.new.disk in
-    let same = open_err c.settle.result (new.trace ≡ old.trace) (sym c.is_err.ensures.value ∙ c.if-is_err.true) c.settle.ensures.recorded.err in
+    let new = g.D.Disk.state c.sync_device.new.disk in
+    let same = open_err c.sync_device.result (new.trace ≡ old.trace) (sym c.is_err.ensures.value ∙ c.if-is_err.true) c.sync_device.ensures.recorded.err in
     inl (record { count = 0; some_left = omega arith; made = same ∙ sym (append-nil old.trace) }, refl)
 
 pub returns-in-Err-clause-shown_before : goal.returns-in-Err-clause-shown_before
 returns-in-Err-clause-shown_before g c =
     let old = g.D.Disk.state c.args.disk.now in
-    let mid = g.D.Disk.state c.settle.new.disk in
+    let mid = g.D.Disk.state c.sync_device.new.disk in
     let new = g.D.Disk.state c.read_shape.new.disk in
-    let synced = open_ok c.settle.result (mid.trace ≡ old.trace ++ Sync ∷ []) (sym c.is_err.ensures.value ∙ c.if-is_err.false) c.settle.ensures.recorded.ok in
+    let synced = open_ok c.sync_device.result (mid.trace ≡ old.trace ++ Sync ∷ []) (sym c.is_err.ensures.value ∙ c.if-is_err.false) c.sync_device.ensures.recorded.ok in
     stamp_shown g.V.Visitor.takes c.in-Err.fault old mid new c.args.visitor.now synced c.in-Err.ensures.behind
 
 pub returns-clause-shown_before : goal.returns-clause-shown_before
 returns-clause-shown_before g c =
     let old = g.D.Disk.state c.args.disk.now in
-    let mid = g.D.Disk.state c.settle.new.disk in
+    let mid = g.D.Disk.state c.sync_device.new.disk in
     let read = g.D.Disk.state c.read_shape.new.disk in
     let new = g.D.Disk.state c.place_of.new.disk in
-    let first = c.settle.ensures.looks.only in
+    let first = c.sync_device.ensures.looks.only in
     let second = c.read_shape.ensures.examines.only in
-    let synced = open_ok c.settle.result (mid.trace ≡ old.trace ++ Sync ∷ []) (sym c.is_err.ensures.value ∙ c.if-is_err.false) c.settle.ensures.recorded.ok in
-    let safe : old.is_honest → IsSynced mid = open_ok c.settle.result (old.is_honest → IsSynced mid) (sym c.is_err.ensures.value ∙ c.if-is_err.false) c.settle.ensures.synced in
+    let synced = open_ok c.sync_device.result (mid.trace ≡ old.trace ++ Sync ∷ []) (sym c.is_err.ensures.value ∙ c.if-is_err.false) c.sync_device.ensures.recorded.ok in
+    let safe : old.is_honest → IsSynced mid = open_ok c.sync_device.result (old.is_honest → IsSynced mid) (sym c.is_err.ensures.value ∙ c.if-is_err.false) c.sync_device.ensures.synced in
     let traced : read.trace ≡ old.trace ++ Sync ∷ Read 1 ∷ [] = all_then old mid read (Sync ∷ []) (Read 1 ∷ []) synced c.in-Ok.ensures.read in
     if_err_weaker c.place_of.result _ _
     (λ fault _ both. half_shown g.V.Visitor.takes fault old read new c.in-Ok.shape c.args.visitor.now c.place_of.new.visitor both.0 traced c.place_of.ensures.examines.only
@@ -200,27 +200,27 @@ returns-clause-shown_before g c =
 pub returns-then-is_err-clause-fixed : goal.returns-then-is_err-clause-fixed
 returns-then-is_err-clause-fixed g c =
     let old = g.D.Disk.state c.args.disk.now in
-    let new = g.D.Disk.state c.settle.new.disk in
-    inl (open_err c.settle.result (new.trace ≡ old.trace) (sym c.is_err.ensures.value ∙ c.if-is_err.true) c.settle.ensures.recorded.err)
+    let new = g.D.Disk.state c.sync_device.new.disk in
+    inl (open_err c.sync_device.result (new.trace ≡ old.trace) (sym c.is_err.ensures.value ∙ c.if-is_err.true) c.sync_device.ensures.recorded.err)
 
 pub returns-in-Err-clause-fixed : goal.returns-in-Err-clause-fixed
 returns-in-Err-clause-fixed g c =
     let old = g.D.Disk.state c.args.disk.now in
-    let mid = g.D.Disk.state c.settle.new.disk in
+    let mid = g.D.Disk.state c.sync_device.new.disk in
     let new = g.D.Disk.state c.read_shape.new.disk in
-    let first = c.settle.ensures.looks.only in
+    let first = c.sync_device.ensures.looks.only in
     let second = c.read_shape.ensures.examines.only in
-    let safe : old.is_honest → IsSynced mid = open_ok c.settle.result (old.is_honest → IsSynced mid) (sym c.is_err.ensures.value ∙ c.if-is_err.false) c.settle.ensures.synced in
+    let safe : old.is_honest → IsSynced mid = open_ok c.sync_device.result (old.is_honest → IsSynced mid) (sym c.is_err.ensures.value ∙ c.if-is_err.false) c.sync_device.ensures.synced in
     inr (settled_behind old mid new first second safe (reads_then old mid new first second))
 
 pub returns-clause-fixed : goal.returns-clause-fixed
 returns-clause-fixed g c =
     let old = g.D.Disk.state c.args.disk.now in
-    let mid = g.D.Disk.state c.settle.new.disk in
+    let mid = g.D.Disk.state c.sync_device.new.disk in
     let read = g.D.Disk.state c.read_shape.new.disk in
     let new = g.D.Disk.state c.place_of.new.disk in
-    let first = c.settle.ensures.looks.only in
+    let first = c.sync_device.ensures.looks.only in
     let second = reads_then mid read new c.read_shape.ensures.examines.only c.place_of.ensures.examines.only in
-    let safe : old.is_honest → IsSynced mid = open_ok c.settle.result (old.is_honest → IsSynced mid) (sym c.is_err.ensures.value ∙ c.if-is_err.false) c.settle.ensures.synced in
+    let safe : old.is_honest → IsSynced mid = open_ok c.sync_device.result (old.is_honest → IsSynced mid) (sym c.is_err.ensures.value ∙ c.if-is_err.false) c.sync_device.ensures.synced in
     err_any c.place_of.result ((new.trace ≡ old.trace) ⊎ (old.is_honest → FixesImage old new))
     (inr (settled_behind old mid new first second safe (reads_then old mid new first second)))

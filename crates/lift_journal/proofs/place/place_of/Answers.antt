@@ -8,7 +8,7 @@ use Rattle.lift_journal.specs.Visits.{TakesBefore}
 use Rattle.lift_journal.specs.Layout.{start_of}
 use Rattle.lift_journal.proofs.Visiting.{taken_none, taken_weaker, before_then}
 use Rattle.lift_disk.specs.Disk.{IsSynced}
-use Rattle.lift_journal.proofs.place.place_of.Goals.{then-is_second, else-is_second}
+use Rattle.lift_journal.proofs.place.place_of.Goals.{then-is_in_second_half, else-is_in_second_half}
 use Rattle.lift_journal.proofs.place.place_of.Goals as goal
 
 pub returns-in-Ok-walk-clause-examines : goal.returns-in-Ok-walk-clause-examines
@@ -44,9 +44,9 @@ returns-in-Err-clause-behind g c =
     let new = g.D.Disk.state c.walk.new.disk in
     let runs = c.read_mark.ensures.looks.only.runs in
     let well = c.in-Ok.ensures.looks.ok in
-    let start = c.if-is_second.start in
+    let start = c.if-is_in_second_half.start in
     let end = start + c.args.shape.half in
-    let halves : (start ≡ 2) ⊎ (start ≡ c.args.shape.half + 2) = elim c.if-is_second.branch [ then-is_second w ↦ inr w.start-is | else-is_second w ↦ inl w.start-is ] in
+    let halves : (start ≡ 2) ⊎ (start ≡ c.args.shape.half + 2) = elim c.if-is_in_second_half.branch [ then-is_in_second_half w ↦ inr w.start-is | else-is_in_second_half w ↦ inl w.start-is ] in
     inr (
       start,
       end,
@@ -60,12 +60,12 @@ returns-in_default-clause-behind g c = inl (refl, c.in_default.ensures.unread)
 
 pub returns-in-Ok-walk-clause-shown_some : goal.returns-in-Ok-walk-clause-shown_some
 returns-in-Ok-walk-clause-shown_some g c =
-    let start = c.if-is_second.start in
+    let start = c.if-is_in_second_half.start in
     taken_weaker g.V.Visitor.takes (start + c.args.shape.half - start) 1000000 c.args.visitor.now c.walk.new.visitor (omega (arith, c.requires.within.half)) c.walk.ensures.shown_some
 
 pub returns-in-Err-clause-shown_some : goal.returns-in-Err-clause-shown_some
 returns-in-Err-clause-shown_some g c =
-    let start = c.if-is_second.start in
+    let start = c.if-is_in_second_half.start in
     taken_weaker g.V.Visitor.takes (start + c.args.shape.half - start) 1000000 c.args.visitor.now c.walk.new.visitor (omega (arith, c.requires.within.half)) c.walk.ensures.shown_some
 
 pub returns-in_default-clause-shown_some : goal.returns-in_default-clause-shown_some
@@ -76,16 +76,16 @@ returns-in-Err-clause-shown_before g c =
     let old = g.D.Disk.state c.args.disk.now in
     let mid = g.D.Disk.state c.read_mark.new.disk in
     let new = g.D.Disk.state c.walk.new.disk in
-    let start = c.if-is_second.start in
+    let start = c.if-is_in_second_half.start in
     let half = c.args.shape.half in
     let takes = g.V.Visitor.takes in
     inr (λ honest synced.
     (let kept = c.in-Ok.ensures.looks.ok.kept honest synced in
     let begin : Bool → ℕ = λ b. if b then half + 2 else 2 in
     let marked = c.in-Ok.ensures.gives honest synced in
-    let start_is : start ≡ start_of half old.image = elim c.if-is_second.branch [
-      | then-is_second w ↦ w.start-is ∙ sym (ap begin (marked ∙ w.if-is_second.true))
-      | else-is_second w ↦ w.start-is ∙ sym (ap begin (marked ∙ w.if-is_second.false))
+    let start_is : start ≡ start_of half old.image = elim c.if-is_in_second_half.branch [
+      | then-is_in_second_half w ↦ w.start-is ∙ sym (ap begin (marked ∙ w.if-is_in_second_half.true))
+      | else-is_in_second_half w ↦ w.start-is ∙ sym (ap begin (marked ∙ w.if-is_in_second_half.false))
     ] in
     subst (λ n. TakesBefore takes c.in-Err.fault (Read 0 ∷ []) n (n + half) old.image old new c.args.visitor.now c.walk.new.visitor) start_is
     (before_then takes c.in-Err.fault (Read 0 ∷ []) [] start (start + half) old.image mid.image old mid new c.args.visitor.now c.walk.new.visitor c.in-Ok.ensures.read kept.same

@@ -1,7 +1,7 @@
 use Rattle.std.proofs.Common.{◌≡◌, ◌∙◌, length, ap, arith}
 use Rattle.lift_disk.specs.lemmas.Moments.{leaves_then, leaves_weaker}
 use Rattle.lift_keeper.specs.Images.{IsImageOf, IsInDoubt}
-use Rattle.lift_keeper.proofs.Guarding.{ok_five, append_leaves, append_keeps, in_doubt_of, guards_then, answers_then, now_after, by_disk_alone, disk_calls, append_stops, adding_stops}
+use Rattle.lift_keeper.proofs.Guarding.{ok_five, append_leaves, append_keeps, in_doubt_of, guards_then, answers_then, now_after, by_disk_alone, disk_calls, append_fails, adding_fails}
 use Rattle.std.proofs.lemmas.List.{length-map}
 use Rattle.lift_base.specs.declared.history.Record.TheVariants.{Entry as EntryRecord}
 use Rattle.lift_base.specs.declared.history.Shape.{Shape}
@@ -17,10 +17,10 @@ returns-clause-any_moment g c plan batch kept fit guards =
     let mid = g.D.Disk.state middle.device in
     let new = g.D.Disk.state c.append.new.self.device in
     let register = c.args.register.now in
-    let then = guards_then plan journal.shape middle.shape journal.is_second middle.is_second journal.used middle.used register old mid guards (c.in_ok-make_room.ensures.keeps plan guards) in
+    let then = guards_then plan journal.shape middle.shape journal.is_in_second_half middle.is_in_second_half journal.used middle.used register old mid guards (c.in_ok-make_room.ensures.keeps plan guards) in
     leaves_then old mid new (IsInDoubt plan register batch)
     (leaves_weaker old mid (IsImageOf plan register) (IsInDoubt plan register batch) (in_doubt_of plan register batch old) (c.make_room.ensures.any_moment plan guards))
-    (append_leaves plan middle.shape middle.is_second middle.used register mid then batch c.args.records.now.items kept fit new c.append.ensures.calls.runs.honest
+    (append_leaves plan middle.shape middle.is_in_second_half middle.used register mid then batch c.args.records.now.items kept fit new c.append.ensures.calls.runs.honest
     (adds_reads g.D.Disk.state middle c.append.new.self c.args.records.now.items c.append.ensures.calls.runs.honest c.append.ensures.breaks.shape c.append.result
     (c.append.ensures.becomes c.in_ok-make_room.ensures.breaks.stays) c.requires.entries))
 
@@ -35,11 +35,11 @@ returns-clause-keeps g c =
     let register = c.args.register.now in
     let same = c.append.ensures.calls.runs.honest in
     let adds = c.append.ensures.becomes c.in_ok-make_room.ensures.breaks.stays in
-    let picks = now_after mid new (Picks middle.is_second) (adds_half g.D.Disk.state middle after c.args.records.now.items same c.append.ensures.breaks.shape c.append.result adds) (g.met.D.Disk.counts_now after.device) in
+    let picks = now_after mid new (Picks middle.is_in_second_half) (adds_half g.D.Disk.state middle after c.args.records.now.items same c.append.ensures.breaks.shape c.append.result adds) (g.met.D.Disk.counts_now after.device) in
     ok_five c.append.result _ _ _ _ _ _ (λ acknowledged listed used second stays plan batch kept fit guards honest_new.
-    append_keeps plan middle.shape middle.is_second middle.used register mid
-    (guards_then plan journal.shape middle.shape journal.is_second middle.is_second journal.used middle.used register old mid guards (c.in_ok-make_room.ensures.keeps plan guards))
-    batch c.args.records.now.items kept fit new after.shape after.is_second after.used same c.append.ensures.breaks.shape acknowledged listed second picks used honest_new)
+    append_keeps plan middle.shape middle.is_in_second_half middle.used register mid
+    (guards_then plan journal.shape middle.shape journal.is_in_second_half middle.is_in_second_half journal.used middle.used register old mid guards (c.in_ok-make_room.ensures.keeps plan guards))
+    batch c.args.records.now.items kept fit new after.shape after.is_in_second_half after.used same c.append.ensures.breaks.shape acknowledged listed second picks used honest_new)
     (added_reads g.D.Disk.state middle after c.args.records.now.items same c.append.ensures.breaks.shape c.append.result adds c.requires.entries)
     (added_lists g.D.Disk.state middle after c.args.records.now.items same c.append.ensures.breaks.shape c.append.result adds) c.append.ensures.goes.used c.append.ensures.goes.second c.append.ensures.breaks.stays
 
@@ -48,8 +48,8 @@ returns-clause-told g c =
     answers_then c.append.result (g.D.Disk.state c.args.journal.now.device) (g.D.Disk.state c.make_room.new.journal.device) (g.D.Disk.state c.append.new.self.device)
     c.make_room.ensures.runs c.in_ok-make_room.ensures.told.ok c.append.ensures.calls.told
 
-pub returns-clause-stops : goal.returns-clause-stops
-returns-clause-stops g c =
+pub returns-clause-fails : goal.returns-clause-fails
+returns-clause-fails g c =
     let journal = c.args.journal.now in
     let middle = c.make_room.new.journal in
     let after = c.append.new.self in
@@ -61,18 +61,18 @@ returns-clause-stops g c =
     let room = c.in_ok-make_room.ensures in
     let count : c.len.result ≡ length records = c.len.ensures.value in
     let same = c.append.ensures.calls.runs.honest in
-    let picks = now_after mid new (Picks middle.is_second)
+    let picks = now_after mid new (Picks middle.is_in_second_half)
     (adds_half g.D.Disk.state middle after records same c.append.ensures.breaks.shape c.append.result (c.append.ensures.becomes room.breaks.stays)) (g.met.D.Disk.counts_now after.device) in
     by_disk_alone c.append.result _ c.append.ensures.refuses.causes
     (λ is. absurd (omega (arith, (c.append.ensures.refuses.full.0 is).1, room.room, ap body_size count)))
     (λ is. cc (c.append.ensures.breaks.broken.0 is, room.breaks.stays))
     (λ is plan batch kept fit guards honest inert.
-    let then = guards_then plan journal.shape middle.shape journal.is_second middle.is_second journal.used middle.used register old mid guards (room.keeps plan guards) in
+    let then = guards_then plan journal.shape middle.shape journal.is_in_second_half middle.is_in_second_half journal.used middle.used register old mid guards (room.keeps plan guards) in
     let honest_mid = c.make_room.ensures.runs.honest.1 honest in
     let inert_mid = c.make_room.ensures.runs.inert.1 inert in
     let honest_new = same.1 honest_mid in
     let keeps = then.keeps honest_mid in
-    adding_stops plan journal.shape.half journal.is_second journal.used register batch old mid new c.len.result middle.shape.half middle.is_second middle.used
+    adding_fails plan journal.shape.half journal.is_in_second_half journal.used register batch old mid new c.len.result middle.shape.half middle.is_in_second_half middle.used
     (count ∙ ap length kept ∙ length-map batch EntryRecord) (ap (λ (s : Shape). s.half) c.make_room.ensures.breaks.shape) room.second room.used room.made.calls (disk_calls c.append.result mid new is c.append.ensures.calls.told)
-    (append_stops plan middle.shape middle.is_second middle.used register mid then batch records kept fit new honest_mid honest_new c.requires.entries picks (g.met.D.Disk.may_lose after.device)
-    (c.append.ensures.stops is honest_mid inert_mid keeps.batches keeps.holds)))
+    (append_fails plan middle.shape middle.is_in_second_half middle.used register mid then batch records kept fit new honest_mid honest_new c.requires.entries picks (g.met.D.Disk.may_lose after.device)
+    (c.append.ensures.fails is honest_mid inert_mid keeps.batches keeps.holds)))

@@ -33,7 +33,7 @@ returns-in-Ok-recovered-clause-opens g c =
     let found = c.in-Ok-recovered.ensures in
     reopens c.args.building.now (g.D.Disk.state c.args.journal.now.device) (g.D.Disk.state journal.device) journal.shape journal.used c.in-Ok.ensures.reopens.opens.opens reading
     (λ honest batches holds. subst (λ (s : ReadingState). TakesAll ReadsBatch s batches reading) c.new-reading.ensures (c.in-Ok.ensures.shown honest batches holds))
-    c.in-Ok-recovered.register found.shape found.gives journal.is_second c.in-Ok.ensures.reopens.opens.half
+    c.in-Ok-recovered.register found.shape found.gives journal.is_in_second_half c.in-Ok.ensures.reopens.opens.half
 
 pub returns-in-Ok-recovered-clause-guards : goal.returns-in-Ok-recovered-clause-guards
 returns-in-Ok-recovered-clause-guards g c =
@@ -43,7 +43,7 @@ returns-in-Ok-recovered-clause-guards g c =
     let some = c.reopen_from.ensures.shown_some in
     guards c.args.building.now (g.D.Disk.state c.args.journal.now.device) (g.D.Disk.state journal.device) journal.shape journal.used c.in-Ok.ensures.reopens.opens.opens reading
     (λ honest batches holds. subst (λ (s : ReadingState). TakesAll ReadsBatch s batches reading) c.new-reading.ensures (c.in-Ok.ensures.shown honest batches holds))
-    c.in-Ok-recovered.register found.shape found.gives journal.is_second c.in-Ok.ensures.reopens.opens.half
+    c.in-Ok-recovered.register found.shape found.gives journal.is_in_second_half c.in-Ok.ensures.reopens.opens.half
     (plan_read c.new-reading.result some.batches reading some.taken ∙ ap (λ (s : ReadingState). s.recovery.plan) c.new-reading.ensures)
 
 pub returns-in-Err-clause-calls_before : goal.returns-in-Err-clause-calls_before
@@ -55,7 +55,7 @@ pub returns-in-Ok-recovered-clause-calls : goal.returns-in-Ok-recovered-clause-c
 returns-in-Ok-recovered-clause-calls g c =
     let journal = c.reopen_from.new.self in
     let is = c.in-Ok.ensures.reopens.opens in
-    opening_calls c.args.building.now (g.D.Disk.state c.args.journal.now.device) (g.D.Disk.state journal.device) journal.shape journal.used is.opens journal.is_second is.half is.calls
+    opening_calls c.args.building.now (g.D.Disk.state c.args.journal.now.device) (g.D.Disk.state journal.device) journal.shape journal.used is.opens journal.is_in_second_half is.half is.calls
 
 pub returns-in-Err-recovered-clause-calls_before : goal.returns-in-Err-recovered-clause-calls_before
 returns-in-Err-recovered-clause-calls_before g c =
@@ -63,5 +63,5 @@ returns-in-Err-recovered-clause-calls_before g c =
     let old = g.D.Disk.state c.args.journal.now.device in
     let is = c.in-Ok.ensures.reopens.opens in
     subst (λ (d : g.row.D.Denot). RefusedCalls old (g.D.Disk.state d) c.in-Err-recovered.fault) (sym c.return_to.ensures.device)
-    (refused_calls c.args.building.now old (g.D.Disk.state journal.device) journal.shape journal.used is.opens journal.is_second is.half is.calls
+    (refused_calls c.args.building.now old (g.D.Disk.state journal.device) journal.shape journal.used is.opens journal.is_in_second_half is.half is.calls
     c.reopen_from.new.visitor c.in-Err-recovered.fault c.in-Err-recovered.ensures.refused)

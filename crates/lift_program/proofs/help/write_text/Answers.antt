@@ -32,7 +32,7 @@ returns-in-Ok g c =
 pub returns-in-Err : goal.returns-in-Err
 returns-in-Err g c =
     let before = g.W.Write.contents c.args.writer.now in
-    let after = g.W.Write.contents c.settle.new.self in
+    let after = g.W.Write.contents c.flush_once.new.self in
     let taken = takes_put g.W.Outlet.gives c.as_bytes.result.now _ _ c.put_all.result (sym c.is_err.ensures.value ∙ c.if-is_err.false) c.put_all.ensures.each in
     inr (
       inr (c.put_all.new.writer, taken, c.in-Err.ensures.failed),

@@ -4,31 +4,31 @@ use Rattle.std.specs.Io.KnownBytes.{Appends}
 use Rattle.lift_program.proofs.Flushing.{put_failed, takes_put}
 use Rattle.lift_program.proofs.output.write_out.Goals as goal
 
-pub returns-then-is_err-clause-settled : goal.returns-then-is_err-clause-settled
-returns-then-is_err-clause-settled g c = record {
+pub returns-then-is_err-clause-passed_on : goal.returns-then-is_err-clause-passed_on
+returns-then-is_err-clause-passed_on g c = record {
   flushed = tt;
   failed = λ same. put_failed g.W.Outlet.gives g.W.Outflow.flushes c.args.bytes.now _ _ c.put_all.result (sym c.is_err.ensures.value ∙ c.if-is_err.true) c.put_all.ensures.within c.put_all.ensures.each_so_far;
-  wanting = λ same. absurd (cc same);
+  out_of_memory = λ same. absurd (cc same);
 }
 
-pub returns-in-Ok-clause-settled : goal.returns-in-Ok-clause-settled
-returns-in-Ok-clause-settled g c = record {
+pub returns-in-Ok-clause-passed_on : goal.returns-in-Ok-clause-passed_on
+returns-in-Ok-clause-passed_on g c = record {
   flushed = (
     c.put_all.new.writer,
     takes_put g.W.Outlet.gives c.args.bytes.now _ _ c.put_all.result (sym c.is_err.ensures.value ∙ c.if-is_err.false) c.put_all.ensures.each,
     c.in-Ok.ensures.flushed,
   );
   failed = λ same. absurd (cc same);
-  wanting = λ same. absurd (cc same);
+  out_of_memory = λ same. absurd (cc same);
 }
 
-pub returns-in-Err-clause-settled : goal.returns-in-Err-clause-settled
-returns-in-Err-clause-settled g c =
+pub returns-in-Err-clause-passed_on : goal.returns-in-Err-clause-passed_on
+returns-in-Err-clause-passed_on g c =
     let taken = takes_put g.W.Outlet.gives c.args.bytes.now _ _ c.put_all.result (sym c.is_err.ensures.value ∙ c.if-is_err.false) c.put_all.ensures.each in
     record {
       flushed = tt;
       failed = λ same. inr (c.put_all.new.writer, taken, c.in-Err.ensures.failed);
-      wanting = λ same. (c.put_all.new.writer, taken, inr c.in-Err.ensures.failed);
+      out_of_memory = λ same. (c.put_all.new.writer, taken, inr c.in-Err.ensures.failed);
     }
 
 pub returns-in-Err-clause-front : goal.returns-in-Err-clause-front

@@ -28,8 +28,8 @@ returns-in-Ok-outcome-clause-shown g c =
     (subst (λ d. ShowsRegister c.in-Ok.building (state c.in-Ok-image_to_show.disk) (state d) before after) is shows)
     (subst (λ d. IsOnlyRead (sector_file_state_of g.I.Told.ToldFile.holds (unwritten_file_of (below d)))) is only_read)
 
-pub returns-in-Err-outcome-clause-undone : goal.returns-in-Err-outcome-clause-undone
-returns-in-Err-outcome-clause-undone g c =
+pub returns-in-Err-outcome-clause-failure : goal.returns-in-Err-outcome-clause-failure
+returns-in-Err-outcome-clause-failure g c =
     let before = g.W.Write.contents c.args.writer.now in
     let after = g.W.Write.contents c.show_on-disk.new.writer in
     showing_left _ _ _ c.in-Ok.building c.in-Ok-image_to_show.disk c.show_on-disk.result.0 _ before after c.in-Err-outcome.fault c.new-in-Err-outcome.ensures c.in-Ok.ensures.found
@@ -59,7 +59,7 @@ pub returns-in-Err-clause-failed : goal.returns-in-Err-clause-failed
 returns-in-Err-clause-failed g c = λ same. absurd (building_no_output _ _ _ c.in-Err.ensures.fault same)
 
 pub returns-in-Err-image_to_show-clause-failed : goal.returns-in-Err-image_to_show-clause-failed
-returns-in-Err-image_to_show-clause-failed g c = λ same. absurd (image_no_output _ c.in-Err-image_to_show.ensures.unhad.is_fault same)
+returns-in-Err-image_to_show-clause-failed g c = λ same. absurd (image_no_output _ c.in-Err-image_to_show.ensures.no_image.is_fault same)
 
 pub returns-in-Err-outcome-clause-failed : goal.returns-in-Err-outcome-clause-failed
 returns-in-Err-outcome-clause-failed g c = λ same. c.show_on-disk.ensures.failed (c.in-Err-outcome.is ∙ ap Err same)

@@ -1,9 +1,9 @@
 use Rattle.std.proofs.Common.{inl, refl, rules}
 use Rattle.lift_program.proofs.show.write_rows.Goals as goal
 
-pub returns-in_err-push_rows-clause-settled : goal.returns-in_err-push_rows-clause-settled
-returns-in_err-push_rows-clause-settled g c = record {
+pub returns-in_err-push_rows-clause-passed_on : goal.returns-in_err-push_rows-clause-passed_on
+returns-in_err-push_rows-clause-passed_on g c = record {
   flushed = search rules;
   failed = search rules;
-  wanting = λ same. (c.args.writer.now, (0, refl), inl refl);
+  out_of_memory = λ same. (c.args.writer.now, (0, refl), inl refl);
 }

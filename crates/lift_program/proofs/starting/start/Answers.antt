@@ -4,7 +4,7 @@ use Rattle.lift_base.specs.Output.{OutputState}
 use Rattle.lift_disk.specs.Below.{buffered_state_of}
 use Rattle.lift_disk.specs.Files.{sector_file_state_of}
 use Rattle.lift_program.specs.Images.{CommandFiles, IsTextRead, image_files}
-use Rattle.lift_program.specs.Ends.{EndOver, IsEndOf, IsPassedOn, TellsLine, line_at_once, line_at_once_in, undone_for}
+use Rattle.lift_program.specs.Ends.{EndOver, IsEndOf, IsPassedOn, TellsLine, line_at_once, line_at_once_in, failed_for}
 use Rattle.lift_program.specs.Listening.{local}
 use Rattle.lift_program.specs.Stages.{IsNoText}
 use Rattle.lift_program.specs.Output.{IsFlushed, WriterHasFailed}
@@ -48,8 +48,8 @@ returns-clause-answered g c =
 pub returns-clause-unwritten : goal.returns-clause-unwritten
 returns-clause-unwritten g c =
     elim c.match-outcome.branch [
-      | in-Ok w ↦ λ is. some_none (File Output) (sym is ∙ ap undone_for w.end-is)
-      | in-Err w ↦ λ is. (rw w.in-Err.is at c.prepare-input.ensures.unwritten) (subst (λ e. undone_for e ≡ Some (File Output)) w.end-is is)
+      | in-Ok w ↦ λ is. some_none (File Output) (sym is ∙ ap failed_for w.end-is)
+      | in-Err w ↦ λ is. (rw w.in-Err.is at c.prepare-input.ensures.unwritten) (subst (λ e. failed_for e ≡ Some (File Output)) w.end-is is)
     ]
 
 pub returns-clause-passed_on : goal.returns-clause-passed_on

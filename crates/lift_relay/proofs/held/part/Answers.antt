@@ -11,17 +11,17 @@ use Rattle.lift_policy.specs.Run.{Run}
 use Rattle.lift_parts.specs.declared.taken.NotedCommand.{NotedCommand}
 use Rattle.lift_parts.specs.Batch.{BatchState, turns_of, commands_in, replies_in}
 use Rattle.lift_parts.specs.Line.{ReceiveState}
-use Rattle.lift_parts.specs.Flusher.{IsSettled}
-use Rattle.lift_relay.proofs.Flushed.{settled_first}
+use Rattle.lift_parts.specs.Flusher.{AllAnsweredBy}
+use Rattle.lift_relay.proofs.Flushed.{answered_first}
 use Rattle.lift_relay.proofs.held.part.Goals as goal
 
-pub new-flusher-requires-clause-settled : goal.new-flusher-requires-clause-settled
-new-flusher-requires-clause-settled g c =
+pub new-flusher-requires-clause-all_answered : goal.new-flusher-requires-clause-all_answered
+new-flusher-requires-clause-all_answered g c =
     let seat = c.into_parts-seat.result.0 in
     let split = c.split-ahead.ensures in
     let turns : turns_of (ahead_from seat) ≡ c.in-Ok.ends.1.turns =
     sym (ap turns_of (c.of-3.ensures ∙ split.ahead)) ∙ sym (ap (λ (b : BatchState). b.turns) c.new-first.ensures) ∙ sym (ap (λ (r : ReceiveState). r.turns) c.in-Ok.ensures.receiver_is) in
-    subst (λ (p : List ClerkPlace × List ℕ). IsSettled p.0 p.1) (λ k. (sym split.clerk k, turns k)) (settled_first seat c.into_parts-seat.ensures.answered)
+    subst (λ (p : List ClerkPlace × List ℕ). AllAnsweredBy p.0 p.1) (λ k. (sym split.clerk k, turns k)) (answered_first seat c.into_parts-seat.ensures.answered)
 
 pub new-first-requires-clause-decided : goal.new-first-requires-clause-decided
 new-first-requires-clause-decided g c =
@@ -47,7 +47,7 @@ returns-clause-history g c = λ base safe given h.
     let keeper = c.into_parts-seat.result.1 in
     let same : keeper ≡ c.args.clerk.keeper = c.into_parts-seat.ensures.keeper in
     let sealed : c.args.clerk.keeper.writer.is_broken ≡ false → keeper.state.batch ≡ [] = λ whole.
-    ⊎_elim (λ none. none) (λ is. not_broken keeper.writer.is_broken is (ap (λ (k : KeeperView g.row.D.Denot). k.writer.is_broken) same ∙ whole)) c.into_parts-seat.ensures.settled in
+    ⊎_elim (λ none. none) (λ is. not_broken keeper.writer.is_broken is (ap (λ (k : KeeperView g.row.D.Denot). k.writer.is_broken) same ∙ whole)) c.into_parts-seat.ensures.empty_batch in
     let begun : c.new-flusher.result.end.state ≡ c.of.result =
     ap (λ (f : FlusherState g.row.D.Denot). f.end.state) c.new-flusher.ensures.value ∙ ap (λ (r : ReceiveState). r.state) c.in-Ok.ensures.receiver_is ∙ ap (λ (b : BatchState). b.before) c.new-first.ensures in
     c.parts_are_clerks.ensures.split c.args.clerk c.new-flusher.result base safe given (search rules) (search rules) (search rules)

@@ -23,6 +23,6 @@ pub returns-in-Err : goal.returns-in-Err
 returns-in-Err g c =
     let i = c.loop.invariant in
     record {
-      turns = subst (λ (a : AllocatorState g.row.P.Denot). AllocatorTurns (g.P.Policy.chooses c.args.allocator.policy) c.args.allocator a) (sym c.in-Err.ensures.stops.0) i.turns;
-      closed = c.in-Err.ensures.stops.1;
+      turns = subst (λ (a : AllocatorState g.row.P.Denot). AllocatorTurns (g.P.Policy.chooses c.args.allocator.policy) c.args.allocator a) (sym c.in-Err.ensures.closes.0) i.turns;
+      closed = c.in-Err.ensures.closes.1;
     }

@@ -66,7 +66,7 @@ returns-clause-fits g c =
     let start = c.args.decider.now in
     let scans = c.loop-t.invariant.scans in
     (run-keeps (g.P.Policy.chooses c.args.policy.now) c.decisions_keep.ensures.joins start.plan start.state c.loop-t.decider.state (commands_in c.loop-t.taken.items) (replies_in c.loop-t.taken.items)
-    (nothing_more start.state.register c.register-shown.result.now shown.value shown.lawful) c.requires.settled scans.run).fits
+    (nothing_more start.state.register c.register-shown.result.now shown.value shown.lawful) c.requires.empty_batch scans.run).fits
     refl
 
 pub returns-clause-shows : goal.returns-clause-shows
@@ -75,7 +75,7 @@ returns-clause-shows g c =
     let start = c.args.decider.now in
     let scans = c.loop-t.invariant.scans in
     (run-keeps (g.P.Policy.chooses c.args.policy.now) c.decisions_keep.ensures.joins start.plan start.state c.loop-t.decider.state (commands_in c.loop-t.taken.items) (replies_in c.loop-t.taken.items)
-    (nothing_more start.state.register c.register-shown.result.now shown.value shown.lawful) c.requires.settled scans.run).shows
+    (nothing_more start.state.register c.register-shown.result.now shown.value shown.lawful) c.requires.empty_batch scans.run).shows
     refl
 
 pub returns-clause-apart : goal.returns-clause-apart

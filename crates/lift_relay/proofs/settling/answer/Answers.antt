@@ -38,8 +38,8 @@ returns-clause-answers c =
           (ap (λ v. v.taken) (sym here) ∙ (l.noted ask c.requires.due.says).1),
     )
 
-pub returns-clause-settled : goal.returns-clause-settled
-returns-clause-settled c turns settled counted =
+pub returns-clause-all_answered : goal.returns-clause-all_answered
+returns-clause-all_answered c turns all_answered counted =
     let seat = c.args.seat.now in
     let taken = c.args.taken in
     let t = taken.command.terminal in
@@ -49,4 +49,4 @@ returns-clause-settled c turns settled counted =
     let here : view_at c.look_for-found.new.clerk t ≡ with_taking (view_at seat t) l.looked.0 = ap (λ s. view_at s t) l.looked.1 ∙ view_at-here seat t (with_taking (view_at seat t) l.looked.0) (omega arith) in
     let ask : Ask = record { number = taken.command.number; body = taken.command.body } in
     settles_one seat c.look_for-found.new.clerk c.answer.new.clerk turns taken (with_taking (view_at seat t) l.looked.0) _ (omega arith) counted
-    l.looked.1 (ap (λ v. v.taken) (sym here) ∙ (l.noted ask c.requires.due.says).1) c.answer.ensures.answered (ap (λ v. v.taken) here) c.answer.ensures.rests settled
+    l.looked.1 (ap (λ v. v.taken) (sym here) ∙ (l.noted ask c.requires.due.says).1) c.answer.ensures.answered (ap (λ v. v.taken) here) c.answer.ensures.rests all_answered

@@ -49,7 +49,7 @@ returns-in_ok-push_fault-in-Err-clause-tells c =
       broken = e.is.breaks;
       register = e.is.unmoved;
       calls = c.in-Err.ensures.calls.made.most_calls;
-      stops = c.turn.ensures.calls.stops failed tt tt;
+      fails = c.turn.ensures.calls.fails failed tt tt;
       last_fails = subst (λ f. FailsBy f (device_of before) (device_of after)) disk c.in-Err.ensures.calls.told;
     })
     (λ broken. t.is.broken.0 (c.in-Err.is ∙ ap Err broken)) c.turn.ensures.rests in

@@ -1,7 +1,7 @@
 use Rattle.std.proofs.Common.{◌++◌, ap, ◌∙◌, refl, subst, string_bytes, IfSome}
 use Rattle.std.proofs.lemmas.List.{append_assoc}
 use Rattle.lift_replay.specs.Told.{HasTaken, OutcomeTells}
-use Rattle.lift_replay.proofs.Ready.{settled_behind}
+use Rattle.lift_replay.proofs.Ready.{others_told_behind}
 use Rattle.lift_replay.proofs.Told.{on_ok}
 use Rattle.lift_replay.proofs.lines.push_turn_of.Goals as goal
 
@@ -26,8 +26,8 @@ returns-clause-outcome c =
       heard.2 ∙ ap (λ before. before ++ heard.0) taken.2 ∙ append_assoc (string_bytes c.args.report.now) taken.0 heard.0,
     )) c.push_all_heard.ensures.hears
 
-pub tell_behind-requires-clause-settled : goal.tell_behind-requires-clause-settled
-tell_behind-requires-clause-settled c = λ as_many.
+pub tell_behind-requires-clause-others_told : goal.tell_behind-requires-clause-others_told
+tell_behind-requires-clause-others_told c = λ as_many.
     let before = c.args.station.now in
-    settled_behind before.terminals.seats.items before.clerk.seat c.push_taken.new.clerk.seat c.requires.ready
+    others_told_behind before.terminals.seats.items before.clerk.seat c.push_taken.new.clerk.seat c.requires.ready
     (subst (λ taken. IfSome taken (λ count. HasTaken before.clerk.seat c.push_taken.new.clerk.seat count)) as_many c.in_ok-taken.ensures.took)

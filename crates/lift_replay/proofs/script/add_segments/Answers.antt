@@ -27,7 +27,7 @@ loop-init g c =
       called = (0, refl);
       left = omega (arith, long);
       plan = c.in-Ok.ensures.plan;
-      settled = ap (λ (state : State). state.batch) c.in-Ok.ensures.state;
+      empty_batch = ap (λ (state : State). state.batch) c.in-Ok.ensures.state;
     }
 
 pub loop-preserved : goal.loop-preserved
@@ -42,7 +42,7 @@ loop-preserved g c =
       called = takes_more g.W.Outlet.gives _ _ _ c.loop.invariant.called c.in-Ok-Cut.ensures.writes.calls;
       left = omega (arith, c.loop.invariant.left, shorter);
       plan = subst (λ (end : SegmentEnd). IfCut end (λ keeper. keeper.writer.plan ≡ c.args.building.now)) c.in-Ok-Cut.field-0-is c.in-Ok-Cut.ensures.plan;
-      settled = subst (λ (end : SegmentEnd). IfCut end (λ keeper. keeper.state.batch ≡ [])) c.in-Ok-Cut.field-0-is c.in-Ok-Cut.ensures.settled;
+      empty_batch = subst (λ (end : SegmentEnd). IfCut end (λ keeper. keeper.state.batch ≡ [])) c.in-Ok-Cut.field-0-is c.in-Ok-Cut.ensures.empty_batch;
     }
 
 pub returns-in-Ok-Run-clause-tells : goal.returns-in-Ok-Run-clause-tells

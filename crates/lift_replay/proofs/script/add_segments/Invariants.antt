@@ -16,5 +16,5 @@ invariant-loop g l = record {
   called : TakesSomeEachCall g.W.Outlet.gives l.fn.writer l.writer;
   left : l.counter + length l.lines.rest.now ≤ length l.fn.text;
   plan : l.keeper.writer.plan ≡ l.fn.building;
-  settled : l.keeper.state.batch ≡ [];
+  empty_batch : l.keeper.state.batch ≡ [];
 }

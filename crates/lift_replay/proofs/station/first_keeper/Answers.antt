@@ -15,7 +15,7 @@ returns-clause-empty c =
 pub returns-clause-kept : goal.returns-clause-kept
 returns-clause-kept c =
     let reads = subst (λ s. ReadsAs s [] [] (fuse_state_of c.format.new.disk).image) c.shape.ensures.value (c.in-Ok.ensures.empty tt) in
-    kept_of c.args.building.now (record { register = empty; is_second = false; used = 0 }) c.format.new.disk c.keeper_over.result
+    kept_of c.args.building.now (record { register = empty; is_in_second_half = false; used = 0 }) c.format.new.disk c.keeper_over.result
     (empty_found c.args.building.now (fuse_state_of c.format.new.disk).image reads (c.in-Ok.ensures.half tt))
     c.keeper_over.ensures.opens c.keeper_over.ensures.calls c.keeper_over.ensures.image c.keeper_over.ensures.unarmed c.keeper_over.ensures.state c.keeper_over.ensures.plan c.keeper_over.ensures.whole
 

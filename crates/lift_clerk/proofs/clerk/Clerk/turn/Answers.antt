@@ -39,7 +39,7 @@ invariant_of-self g c =
     record {
       seated = c.answer_all.ensures.seated;
       answered = serves_rest s.seat c.answer_all.new.seat scans.visits (replies_told true answers) serves c.self.invariant.answered;
-      settled = inl (ap (λ (t : State). t.batch) c.in-Ok.ensures.begins);
+      empty_batch = inl (ap (λ (t : State). t.batch) c.in-Ok.ensures.begins);
     }
 
 pub invariant_of-self-in-Err : goal.invariant_of-self-in-Err
@@ -51,7 +51,7 @@ invariant_of-self-in-Err g c =
     record {
       seated = c.answer_all-in-Err.ensures.seated;
       answered = serves_rest s.seat c.answer_all-in-Err.new.seat scans.visits (replies_told false answers) serves c.self.invariant.answered;
-      settled = inr c.in-Err.ensures.commits.breaks;
+      empty_batch = inr c.in-Err.ensures.commits.breaks;
     }
 
 pub returns-in-Ok-clause-commits : goal.returns-in-Ok-clause-commits
@@ -100,7 +100,7 @@ returns-in-Err-clause-fails g c = λ of_disk.
     let whole : between.writer.is_broken ≡ false = is_whole between.writer.is_broken (λ broken. let other = commit.broken.1 broken in cc) in
     let shown = c.register-shown.ensures in
     subst (λ (v : ClerkState g.row.D.Denot g.row.P.Denot). IsFailedTurn (g.P.Policy.chooses v.policy) v new) c.self.view_is
-    (failed_turn s.desk.now (g.P.Policy.chooses s.policy) old new c.scan.new.seat between.state answers c.self.invariant.seated scans (c.answer_all-in-Err.ensures.stored s.seat scans.visits scans.scanned) c.answer_all-in-Err.ensures.in_range refl c.self.invariant.settled
+    (failed_turn s.desk.now (g.P.Policy.chooses s.policy) old new c.scan.new.seat between.state answers c.self.invariant.seated scans (c.answer_all-in-Err.ensures.stored s.seat scans.visits scans.scanned) c.answer_all-in-Err.ensures.in_range refl c.self.invariant.empty_batch
     (sym (ap (λ (w : WriterView g.row.D.Denot). w.is_broken) writer) ∙ whole)
     c.in-Err.ensures.unmoved
     (λ none. let no = (commit.empty whole none).0 in cc)

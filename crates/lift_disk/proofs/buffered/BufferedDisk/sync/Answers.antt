@@ -3,16 +3,16 @@ use Rattle.std.proofs.lemmas.Result.{err_from_is_err_and}
 use Rattle.lift_disk.specs.Runs.{run_calls}
 use Rattle.lift_disk.specs.Trace.Access.{Sync}
 use Rattle.lift_disk.proofs.Joined.{ends_there}
-use Rattle.lift_disk.proofs.Waiting.{sync_settles}
+use Rattle.lift_disk.proofs.Waiting.{sync_written}
 use Rattle.lift_disk.proofs.buffered.BufferedDisk.sync.Goals as goal
 
 pub returns-clause-saves : goal.returns-clause-saves
 returns-clause-saves g c honest =
     let d = c.args.self.now in
     record {
-      settled = λ i bytes was.
-          sync_settles (g.R.Disk.state d.device) (g.R.Disk.state c.flush.new.self.device) (g.R.Disk.state c.sync.new.self) d.from c.flush.new.self.from c.flush.new.self.from d.pending.items c.flush.new.self.pending.items
-          c.flush.ensures.none c.in_ok-flush.ensures.keeps c.flush.ensures.rests.honest.1 (λ honest2. (c.in_ok-sync.ensures.saves honest2).settled) honest i bytes was;
+      as_written = λ i bytes was.
+          sync_written (g.R.Disk.state d.device) (g.R.Disk.state c.flush.new.self.device) (g.R.Disk.state c.sync.new.self) d.from c.flush.new.self.from c.flush.new.self.from d.pending.items c.flush.new.self.pending.items
+          c.flush.ensures.none c.in_ok-flush.ensures.keeps c.flush.ensures.rests.honest.1 (λ honest2. (c.in_ok-sync.ensures.saves honest2).as_written) honest i bytes was;
       touched = search rules;
       synced = search rules;
       steady = search rules;

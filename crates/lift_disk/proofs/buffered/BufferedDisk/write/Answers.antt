@@ -1,5 +1,5 @@
 use Rattle.std.proofs.Common.{ap, ◌∙◌, rules}
-use Rattle.lift_disk.proofs.Waiting.{push_goes_on, push_touched, push_settles, push_steady}
+use Rattle.lift_disk.proofs.Waiting.{push_goes_on, push_touched, push_written, push_steady}
 use Rattle.lift_disk.proofs.buffered.BufferedDisk.write.Goals as goal
 
 pub returns-clause-access : goal.returns-clause-access
@@ -28,7 +28,7 @@ returns-clause-stores g c =
     let d = c.args.self.now in
     let m = c.make_room.new.self in
     record {
-      settles = λ honest. rw c.push.ensures.items (push_settles (g.R.Disk.state d.device) (g.R.Disk.state m.device) d.from m.from c.args.sector d.pending.items m.pending.items c.args.bytes.now c.in_ok-make_room.ensures.opens c.in_ok-make_room.ensures.keeps c.in_ok-make_room.ensures.next m.announced
+      written = λ honest. rw c.push.ensures.items (push_written (g.R.Disk.state d.device) (g.R.Disk.state m.device) d.from m.from c.args.sector d.pending.items m.pending.items c.args.bytes.now c.in_ok-make_room.ensures.opens c.in_ok-make_room.ensures.keeps c.in_ok-make_room.ensures.next m.announced
           d.calls.count m.calls.count d.writes.count m.writes.count d.trace.calls c.then-self.result.calls honest);
       steady = λ honest steady. rw c.push.ensures.items (push_steady (g.R.Disk.state d.device) (g.R.Disk.state m.device) d.from m.from c.args.sector d.pending.items m.pending.items c.args.bytes.now c.in_ok-make_room.ensures.opens c.in_ok-make_room.ensures.keeps c.in_ok-make_room.ensures.next m.announced
           d.calls.count m.calls.count d.writes.count m.writes.count d.trace.calls c.then-self.result.calls honest steady);

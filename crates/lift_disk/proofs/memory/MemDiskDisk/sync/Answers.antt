@@ -50,7 +50,7 @@ returns-clause-saves c honest =
     let m = c.args.self.now in
     let none : (i : ℕ) → ¬ IsFlagged c.clear.new.flags.items i = λ i is. none_flagged (length m.loose.items) i (subst (λ (l : List Bool). IsFlagged l i) c.clear.ensures is) in
     record {
-      settled = λ i bytes was. was;
+      as_written = λ i bytes was. was;
       touched = record { loose = λ i is. absurd (none i is); within = changes_nothing (IsFlagged m.loose.items) m.image.items };
       synced = record { steady = refl; none_loose = none };
       steady = λ _. record { steady = refl; same = refl };

@@ -34,7 +34,7 @@ returns-clause-announced c =
       image = refl;
       synced = refl;
       loose = λ _ i. flagged_set m.loose.items c.args.sector i within;
-      settles = λ i bytes was. was;
+      written = λ i bytes was. was;
       steady = λ steady. steady;
       time = λ honest. let t = failed.time honest in record { later = t.later; nothing_else = t.nothing_else; keeps = t.keeps };
     }

@@ -1,7 +1,7 @@
 use Rattle.std.proofs.Common.{◌∙◌, length, slice_get, ap, refl, sym, arith, rules}
 use Rattle.lift_disk.specs.Memory.{IsFlagged}
 use Rattle.lift_disk.specs.Runs.{run_length, run_outside, run_loose}
-use Rattle.lift_disk.proofs.MemoryRuns.{run_recorded, run_kept, run_goes_on, run_settles}
+use Rattle.lift_disk.proofs.MemoryRuns.{run_recorded, run_kept, run_goes_on, run_written}
 use Rattle.lift_disk.proofs.memory.MemDiskRunDisk.write_run.Goals as goal
 
 pub invariant_of-self : goal.invariant_of-self
@@ -49,8 +49,8 @@ pub returns-clause-stores : goal.returns-clause-stores
 returns-clause-stores c =
     let m = c.args.self.now in
     record {
-      settles = λ _. record {
-        here = λ i bytes late is. ap (λ l. slice_get l i) c.write_sectors.ensures ∙ run_settles m.image.items c.args.sector c.args.run.now i bytes c.requires.inside late is;
+      written = λ _. record {
+        here = λ i bytes late is. ap (λ l. slice_get l i) c.write_sectors.ensures ∙ run_written m.image.items c.args.sector c.args.run.now i bytes c.requires.inside late is;
         others = λ i other not was. ap (λ l. slice_get l i) c.write_sectors.ensures ∙ run_outside c.args.run.now c.args.sector m.image.items i not ∙ was;
       };
       steady = λ _ steady. record { steady = steady; same = c.write_sectors.ensures };

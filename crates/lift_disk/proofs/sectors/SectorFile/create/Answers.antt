@@ -31,7 +31,7 @@ returns-in-Err-named-clause-refused g c =
     let gives = g.F.ToldFile.gives in
     let file = c.in-Ok.opened.0 in
     let opened : g.O.FileOpener.opens c.args.opener to_be_made c.args.path.now (Some file) = search rules in
-    let stopped = c.in-Err-named.stopped.file in
-    let led = subst (λ (f : g.row.F.Denot). LeadsBy gives (making_calls c.args.sectors) file f) (sym c.in-Err-named.ensures.stopped) c.in-Ok-zeroed.ensures.led in
-    let unnamed = subst (λ (o : g.row.O.Denot). g.O.FileOpener.unnamed o c.args.path.now stopped) c.in-Ok.ensures.folder c.in-Err-named.ensures.unnamed in
+    let failed = c.in-Err-named.failed.file in
+    let led = subst (λ (f : g.row.F.Denot). LeadsBy gives (making_calls c.args.sectors) file f) (sym c.in-Err-named.ensures.failed) c.in-Ok-zeroed.ensures.led in
+    let unnamed = subst (λ (o : g.row.O.Denot). g.O.FileOpener.unnamed o c.args.path.now failed) c.in-Ok.ensures.folder c.in-Err-named.ensures.unnamed in
     (file, opened, inr (led, unnamed))

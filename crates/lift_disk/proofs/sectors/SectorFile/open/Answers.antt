@@ -28,4 +28,4 @@ returns-in-Ok-locked-clause-measured g c =
 pub returns-in-Err-locked-clause-refused : goal.returns-in-Err-locked-clause-refused
 returns-in-Err-locked-clause-refused g c =
     let opened : g.O.FileOpener.opens c.args.opener to_be_used c.args.path.now (Some c.in-Ok.file) = search rules in
-    (c.in-Ok.file, opened, c.in-Err-locked.ensures.stopped)
+    (c.in-Ok.file, opened, c.in-Err-locked.ensures.failed)

@@ -28,4 +28,4 @@ returns-in-Ok-measured-clause-measured g c =
 pub returns-in-Err-measured-clause-refused : goal.returns-in-Err-measured-clause-refused
 returns-in-Err-measured-clause-refused g c =
     let opened : g.O.FileOpener.opens c.args.opener to_be_read c.args.path.now (Some c.in-Ok.file) = search rules in
-    (c.in-Ok.file, opened, c.in-Err-measured.ensures.stopped)
+    (c.in-Ok.file, opened, c.in-Err-measured.ensures.failed)

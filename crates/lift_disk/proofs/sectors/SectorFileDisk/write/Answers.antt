@@ -4,7 +4,7 @@ use Rattle.lift_disk.specs.FileCalls.FileCall.{Write as WriteBytes}
 use Rattle.lift_disk.specs.lemmas.History.{ok_items}
 use Rattle.lift_disk.proofs.Synced.{same_then, stays_known}
 use Rattle.lift_disk.proofs.Traces.{one_more}
-use Rattle.lift_disk.proofs.OnFile.{announced_one, err_items, file_goes_on, opened_settles, opened_steady, opened_time, opened_touches}
+use Rattle.lift_disk.proofs.OnFile.{announced_one, err_items, file_goes_on, opened_written, opened_steady, opened_time, opened_touches}
 use Rattle.lift_disk.specs.Holding.{WritesRun}
 use Rattle.lift_disk.specs.Runs.{Rests}
 use Rattle.lift_disk.specs.Traced.{file_of}
@@ -137,7 +137,7 @@ returns-clause-stores g c =
     λ honest. (ok_items r.result c.is_err.ensures.value c.if-is_err.false r.ensures.held.made) (opens.same.honest.1 honest.0) c.args.sector c.offset_of.ensures (omega (arith, opens.same.size, inside honest))
     (announced_one old mid c.args.sector opens honest.0 (inside honest)) in
     record {
-      settles = λ honest. opened_settles old new d.sectors d.file.failures.count r.new.self.failures.count d.calls.count c.next-self.result.count d.writes.count c.next-self-2.result.count d.trace.calls c.then-self.result.calls mid c.args.sector c.args.bytes.now opens (did honest).settles;
+      written = λ honest. opened_written old new d.sectors d.file.failures.count r.new.self.failures.count d.calls.count c.next-self.result.count d.writes.count c.next-self-2.result.count d.trace.calls c.then-self.result.calls mid c.args.sector c.args.bytes.now opens (did honest).written;
       steady = λ honest steady. opened_steady old new d.sectors d.file.failures.count r.new.self.failures.count d.calls.count c.next-self.result.count d.writes.count c.next-self-2.result.count d.trace.calls c.then-self.result.calls mid c.args.sector c.args.bytes.now opens (did honest).steady steady;
       image = λ _ inert. absurd inert;
     }

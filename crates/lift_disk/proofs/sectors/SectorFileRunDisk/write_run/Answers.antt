@@ -4,7 +4,7 @@ use Rattle.lift_disk.specs.FileCalls.FileCall.{Write as WriteBytes}
 use Rattle.lift_disk.specs.lemmas.History.{ok_items}
 use Rattle.lift_disk.proofs.Synced.{stays_known}
 use Rattle.lift_disk.proofs.Traces.{one_more}
-use Rattle.lift_disk.proofs.OnFile.{err_items, file_goes_on, file_rests, file_settles, file_steady}
+use Rattle.lift_disk.proofs.OnFile.{err_items, file_goes_on, file_rests, file_written, file_steady}
 use Rattle.lift_disk.specs.Holding.{WritesRun}
 use Rattle.lift_disk.specs.Runs.{Rests, with_run}
 use Rattle.lift_disk.specs.Traced.{file_of}
@@ -92,6 +92,6 @@ returns-clause-stores g c =
     let did : (honest : old.is_honest × (old.size ≡ d.sectors)) → WritesRun c.args.sector c.args.run.now old new =
     λ honest. (ok_items r.result c.is_err.ensures.value c.if-is_err.false r.ensures.held.made) honest.0 c.args.sector c.offset_of.ensures (omega (arith, honest.1, c.requires.inside)) (c.requires.announced honest) in
     record {
-      settles = λ honest. file_settles old new d.sectors d.file.failures.count r.new.self.failures.count d.calls.count c.next-self.result.count d.writes.count c.next-self-2.result.count d.trace.calls c.then-self.result.calls c.args.sector c.args.run.now (did honest).settles;
+      written = λ honest. file_written old new d.sectors d.file.failures.count r.new.self.failures.count d.calls.count c.next-self.result.count d.writes.count c.next-self-2.result.count d.trace.calls c.then-self.result.calls c.args.sector c.args.run.now (did honest).written;
       steady = λ honest steady. file_steady old new d.sectors d.file.failures.count r.new.self.failures.count d.calls.count c.next-self.result.count d.writes.count c.next-self-2.result.count d.trace.calls c.then-self.result.calls (with_run c.args.sector c.args.run.now old.image) ((did honest).steady steady);
     }

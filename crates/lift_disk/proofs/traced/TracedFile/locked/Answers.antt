@@ -4,11 +4,11 @@ use Rattle.lift_disk.specs.FileCalls.FileCall.{GetLength, Lock}
 use Rattle.lift_disk.specs.Traced.{file_of}
 use Rattle.lift_disk.proofs.traced.TracedFile.locked.Goals as goal
 
-pub returns-in-Err-clause-stopped : goal.returns-in-Err-clause-stopped
-returns-in-Err-clause-stopped g c = λ bytes.
+pub returns-in-Err-clause-failed : goal.returns-in-Err-clause-failed
+returns-in-Err-clause-failed g c = λ bytes.
     let gives = g.F.ToldFile.gives in
     let fails = g.F.ToldFile.fails in
     let calls = Lock ∷ GetLength bytes ∷ [] in
     let all : (bytes : ℕ) → FailsIn gives fails (Lock ∷ GetLength bytes ∷ []) (file_of c.over-traced.result) (file_of c.lock_and_measure.new.self) = search rules in
-    subst (λ (f : g.row.F.Denot). FailsIn gives fails calls f c.stopped.result.file) c.over-traced.ensures.same
-    (subst (λ (f : g.row.F.Denot). FailsIn gives fails calls (file_of c.over-traced.result) f) (sym c.stopped.ensures) (all bytes))
+    subst (λ (f : g.row.F.Denot). FailsIn gives fails calls f c.failed.result.file) c.over-traced.ensures.same
+    (subst (λ (f : g.row.F.Denot). FailsIn gives fails calls (file_of c.over-traced.result) f) (sym c.failed.ensures) (all bytes))

@@ -4,7 +4,7 @@ use Rattle.lift_disk.specs.Disk.{Image, LeavesNow, LeavesOnly}
 use Rattle.lift_record.specs.declared.version.Version.TheVariants.{Two}
 use Rattle.lift_journal.specs.declared.fault.JournalFault.TheVariants.{Full, Broken}
 use Rattle.lift_journal.specs.Layout.{Batch, new_batch, body_size, size_of, IsBody, Holds, HoldsIn}
-use Rattle.lift_journal.specs.Stops.{StopsAppend}
+use Rattle.lift_journal.specs.Failed.{IsFailedAppend}
 use Rattle.lift_journal.specs.Journal.{JournalView, JournalHolds}
 use Rattle.lift_journal.specs.lemmas.Looking.{open_ok, open_err}
 use Rattle.lift_journal.proofs.Standing.{append_picks, gate_high, ready, same_batches, stands_then, stands_seen, seen_then, leaves_in, becomes_none}
@@ -53,9 +53,9 @@ returns-then-used-bodies-clause-becomes g c _ honest_seen =
     let view = c.args.self.now in
     let honest : (g.D.Disk.state j.device).is_honest = subst (λ (v : JournalView g.row.D.Denot). (g.D.Disk.state v.device).is_honest) (sym c.self.view_is) honest_seen in
     let at = c.self.invariant.stands c.if-self.false honest in
-    becomes_none g.D.Disk.state view view.is_second (λ bs. bs ++ new_batch c.args.batch.now.items ∷ []) Full at.batches
+    becomes_none g.D.Disk.state view view.is_in_second_half (λ bs. bs ++ new_batch c.args.batch.now.items ∷ []) Full at.batches
     (subst (λ (v : JournalView g.row.D.Denot). JournalHolds g.D.Disk.state v at.batches) c.self.view_is
-    (stands_seen g.D.Disk.state j.device j.place.shape j.place.start j.place.gate j.place.number j.is_broken (g.D.Disk.state j.opened.value).failures at))
+    (stands_seen g.D.Disk.state j.device j.place.shape j.place.start j.place.gate j.place.number j.is_broken (g.D.Disk.state j.at_opening.value).failures at))
     (g.met.D.Disk.only_now view.device)
 
 pub returns-then-is_err-clause-becomes : goal.returns-then-is_err-clause-becomes
@@ -75,8 +75,8 @@ returns-then-is_err-clause-becomes g c _ honest_seen =
     let picks = append_picks j.place.shape j.place.start j.place.gate j.place.number high old new (gate_high old.size j.place.shape j.place.start j.place.gate j.place.number c.self.invariant.place) (c.self.invariant.stands c.if-self.false) c.write_batch.ensures.touched in
     record {
       batches = at.batches;
-      held = subst (λ (v : JournalView g.row.D.Denot). JournalHolds g.D.Disk.state v at.batches) c.self.view_is (stands_seen g.D.Disk.state j.device j.place.shape j.place.start j.place.gate j.place.number j.is_broken (g.D.Disk.state j.opened.value).failures at);
-      any_moment = subst (λ (v : JournalView g.row.D.Denot). LeavesOnly (g.D.Disk.state v.device) new (λ left. HoldsIn v.shape v.is_second at.batches left ⊎ HoldsIn v.shape v.is_second (at.batches ++ batch ∷ []) left)) c.self.view_is
+      held = subst (λ (v : JournalView g.row.D.Denot). JournalHolds g.D.Disk.state v at.batches) c.self.view_is (stands_seen g.D.Disk.state j.device j.place.shape j.place.start j.place.gate j.place.number j.is_broken (g.D.Disk.state j.at_opening.value).failures at);
+      any_moment = subst (λ (v : JournalView g.row.D.Denot). LeavesOnly (g.D.Disk.state v.device) new (λ left. HoldsIn v.shape v.is_in_second_half at.batches left ⊎ HoldsIn v.shape v.is_in_second_half (at.batches ++ batch ∷ []) left)) c.self.view_is
           (leaves_in old new j.place.shape (nat_lt 2 j.place.start) at.batches (at.batches ++ batch ∷ []) holds picks);
       done = tt;
     }
@@ -98,8 +98,8 @@ returns-clause-becomes g c _ honest_seen =
     let picks = append_picks j.place.shape j.place.start j.place.gate j.place.number high old new (gate_high old.size j.place.shape j.place.start j.place.gate j.place.number c.self.invariant.place) (c.self.invariant.stands c.if-self.false) c.write_batch.ensures.touched in
     record {
       batches = at.batches;
-      held = subst (λ (v : JournalView g.row.D.Denot). JournalHolds g.D.Disk.state v at.batches) c.self.view_is (stands_seen g.D.Disk.state j.device j.place.shape j.place.start j.place.gate j.place.number j.is_broken (g.D.Disk.state j.opened.value).failures at);
-      any_moment = subst (λ (v : JournalView g.row.D.Denot). LeavesOnly (g.D.Disk.state v.device) new (λ left. HoldsIn v.shape v.is_second at.batches left ⊎ HoldsIn v.shape v.is_second (at.batches ++ batch ∷ []) left)) c.self.view_is
+      held = subst (λ (v : JournalView g.row.D.Denot). JournalHolds g.D.Disk.state v at.batches) c.self.view_is (stands_seen g.D.Disk.state j.device j.place.shape j.place.start j.place.gate j.place.number j.is_broken (g.D.Disk.state j.at_opening.value).failures at);
+      any_moment = subst (λ (v : JournalView g.row.D.Denot). LeavesOnly (g.D.Disk.state v.device) new (λ left. HoldsIn v.shape v.is_in_second_half at.batches left ⊎ HoldsIn v.shape v.is_in_second_half (at.batches ++ batch ∷ []) left)) c.self.view_is
           (leaves_in old new j.place.shape (nat_lt 2 j.place.start) at.batches (at.batches ++ batch ∷ []) holds picks);
       done =
           (let settled = open_ok c.write_batch.result _ (sym c.is_err.ensures.value ∙ c.if-is_err.false) c.write_batch.ensures.written j.place.shape at.batches batch honest before in
@@ -110,13 +110,13 @@ pub returns-then-self-clause-calls : goal.returns-then-self-clause-calls
 returns-then-self-clause-calls g c =
     let view = c.args.self.now in
     let batch = new_batch c.args.batch.now.items in
-    device_none Broken (append_calls (half_start view.is_second view.shape.half + view.used) (batch_body view.number batch)) (size_of batch + 4) (size_of batch + 2) (g.D.Disk.state view.device) (λ is. absurd (cc is)) (none_made (g.D.Disk.state view.device))
+    device_none Broken (append_calls (half_start view.is_in_second_half view.shape.half + view.used) (batch_body view.number batch)) (size_of batch + 4) (size_of batch + 2) (g.D.Disk.state view.device) (λ is. absurd (cc is)) (none_made (g.D.Disk.state view.device))
 
 pub returns-then-used-bodies-clause-calls : goal.returns-then-used-bodies-clause-calls
 returns-then-used-bodies-clause-calls g c =
     let view = c.args.self.now in
     let batch = new_batch c.args.batch.now.items in
-    device_none Full (append_calls (half_start view.is_second view.shape.half + view.used) (batch_body view.number batch)) (size_of batch + 4) (size_of batch + 2) (g.D.Disk.state view.device) (λ is. absurd (cc is)) (none_made (g.D.Disk.state view.device))
+    device_none Full (append_calls (half_start view.is_in_second_half view.shape.half + view.used) (batch_body view.number batch)) (size_of batch + 4) (size_of batch + 2) (g.D.Disk.state view.device) (λ is. absurd (cc is)) (none_made (g.D.Disk.state view.device))
 
 pub returns-clause-calls : goal.returns-clause-calls
 returns-clause-calls g c =
@@ -134,7 +134,7 @@ returns-clause-calls g c =
     ap (take (body_size (length items))) c.sectors_of-body.ensures.cut
     ∙ subst (λ (l : List Record). take (body_size (length l)) (take 512 c.put_body.new.text ∷ drop 512 c.put_body.new.text ∷ []) ≡ batch_body j.place.number (record { version = Two; records = l })) c.deref.ensures.0 c.put_body.ensures.exact in
     let performed = performs_body c.write_batch.result old new j.place.gate _ c.body_count-bodies.result (length items) sectors (batch_body j.place.number batch) c.sectors_of-body.ensures.length is exact (sym gate) c.write_batch.ensures.performs in
-    calls_seen g.D.Disk.state (λ (v : JournalView g.row.D.Denot). append_calls (half_start v.is_second v.shape.half + v.used) (batch_body v.number batch)) c.self.view_is
+    calls_seen g.D.Disk.state (λ (v : JournalView g.row.D.Denot). append_calls (half_start v.is_in_second_half v.shape.half + v.used) (batch_body v.number batch)) c.self.view_is
     (device_ok _ _ _ old new c.write_batch.result (sym c.is_err.ensures.value ∙ c.if-is_err.false) performed)
 
 pub returns-then-is_err-clause-calls : goal.returns-then-is_err-clause-calls
@@ -153,11 +153,11 @@ returns-then-is_err-clause-calls g c =
     ap (take (body_size (length items))) c.sectors_of-body.ensures.cut
     ∙ subst (λ (l : List Record). take (body_size (length l)) (take 512 c.put_body.new.text ∷ drop 512 c.put_body.new.text ∷ []) ≡ batch_body j.place.number (record { version = Two; records = l })) c.deref.ensures.0 c.put_body.ensures.exact in
     let performed = performs_body c.write_batch.result old new j.place.gate _ c.body_count-bodies.result (length items) sectors (batch_body j.place.number batch) c.sectors_of-body.ensures.length is exact (sym gate) c.write_batch.ensures.performs in
-    calls_seen g.D.Disk.state (λ (v : JournalView g.row.D.Denot). append_calls (half_start v.is_second v.shape.half + v.used) (batch_body v.number batch)) c.self.view_is
+    calls_seen g.D.Disk.state (λ (v : JournalView g.row.D.Denot). append_calls (half_start v.is_in_second_half v.shape.half + v.used) (batch_body v.number batch)) c.self.view_is
     (device_err _ _ _ old new c.write_batch.result (sym c.is_err.ensures.value ∙ c.if-is_err.true) performed)
 
-pub returns-then-is_err-clause-stops : goal.returns-then-is_err-clause-stops
-returns-then-is_err-clause-stops g c _ =
+pub returns-then-is_err-clause-fails : goal.returns-then-is_err-clause-fails
+returns-then-is_err-clause-fails g c _ =
     let j = c.self.inside in
     let old = g.D.Disk.state j.device in
     let new = g.D.Disk.state c.write_batch.new.disk in
@@ -170,8 +170,8 @@ returns-then-is_err-clause-stops g c _ =
     let stopped = λ (honest : old.is_honest) (inert : old.is_inert) (batches : List Batch) (lists : LeavesNow old (Holds j.place.shape batches)).
     (let at = stands honest in
     let before = ready j.place.shape j.place.start j.place.gate j.place.number c.body_count-bodies.result old items sectors at is c.if-used-bodies.false c.sectors_of-body.ensures.length body c.requires.entries in
-    let stops = open_err c.write_batch.result _ (sym c.is_err.ensures.value ∙ c.if-is_err.true) c.write_batch.ensures.stops j.place.shape at.batches batch honest inert before in
-    subst (λ (bs : List Batch). StopsAppend j.place.shape bs batch (size_of batch) old new) (same_batches j.place.shape j.place.start j.place.gate j.place.number old stands batches lists honest)
-    (subst (λ n. StopsAppend j.place.shape at.batches batch n old new) before.size stops)) in
+    let stops = open_err c.write_batch.result _ (sym c.is_err.ensures.value ∙ c.if-is_err.true) c.write_batch.ensures.fails j.place.shape at.batches batch honest inert before in
+    subst (λ (bs : List Batch). IsFailedAppend j.place.shape bs batch (size_of batch) old new) (same_batches j.place.shape j.place.start j.place.gate j.place.number old stands batches lists honest)
+    (subst (λ n. IsFailedAppend j.place.shape at.batches batch n old new) before.size stops)) in
     subst (λ (v : JournalView g.row.D.Denot). (g.D.Disk.state v.device).is_honest → (g.D.Disk.state v.device).is_inert → (batches : List Batch) → LeavesNow (g.D.Disk.state v.device) (Holds v.shape batches)
-    → StopsAppend v.shape batches batch (size_of batch) (g.D.Disk.state v.device) new) c.self.view_is stopped
+    → IsFailedAppend v.shape batches batch (size_of batch) (g.D.Disk.state v.device) new) c.self.view_is stopped

@@ -117,7 +117,7 @@ returns-in-Ok-Batch-clause-calls g c =
     let new = g.D.Disk.state c.look.new.disk in
     let more = 1 + body_size (length c.in-Ok-Batch.stored.records.items) in
     let gate : half_start (nat_lt 2 j.place.start) j.place.shape.half ≡ j.place.start = begins_at j.place.shape.half j.place.start (omega (arith, place.within.half.0)) place.halves in
-    let made = subst (λ (v : JournalView g.row.D.Denot). new.trace ≡ (g.D.Disk.state v.device).trace ++ reads_from (half_start v.is_second v.shape.half + c.args.cursor.now.skipped) more) c.self.view_is
+    let made = subst (λ (v : JournalView g.row.D.Denot). new.trace ≡ (g.D.Disk.state v.device).trace ++ reads_from (half_start v.is_in_second_half v.shape.half + c.args.cursor.now.skipped) more) c.self.view_is
     (subst (λ (w : CursorView). new.trace ≡ (g.D.Disk.state j.device).trace ++ reads_from (half_start (nat_lt 2 j.place.start) j.place.shape.half + w.skipped) more) c.cursor.view_is
     (c.in-Ok-Batch.ensures.whole c.in-Ok-Batch.stored c.in-Ok-Batch.field-0-is ∙ ap (λ n. (g.D.Disk.state j.device).trace ++ reads_from (n + c.cursor.inside.skipped) more) (sym gate))) in
     record {
@@ -134,7 +134,7 @@ returns-in-Err-clause-calls g c =
     let place = c.self.invariant.place in
     let new = g.D.Disk.state c.look.new.disk in
     let gate : half_start (nat_lt 2 j.place.start) j.place.shape.half ≡ j.place.start = begins_at j.place.shape.half j.place.start (omega (arith, place.within.half.0)) place.halves in
-    let made = subst (λ (v : JournalView g.row.D.Denot). HasRead (half_start v.is_second v.shape.half + c.args.cursor.now.skipped) 2 (half_start v.is_second v.shape.half + v.shape.half) (g.D.Disk.state v.device) new) c.self.view_is
+    let made = subst (λ (v : JournalView g.row.D.Denot). HasRead (half_start v.is_in_second_half v.shape.half + c.args.cursor.now.skipped) 2 (half_start v.is_in_second_half v.shape.half + v.shape.half) (g.D.Disk.state v.device) new) c.self.view_is
     (subst (λ (w : CursorView). HasRead (half_start (nat_lt 2 j.place.start) j.place.shape.half + w.skipped) 2 (half_start (nat_lt 2 j.place.start) j.place.shape.half + j.place.shape.half) (g.D.Disk.state j.device) new) c.cursor.view_is
     (subst (λ n. HasRead (n + c.cursor.inside.skipped) 2 (n + j.place.shape.half) (g.D.Disk.state j.device) new) (sym gate) c.in-Err.ensures.unread)) in
     record {
@@ -158,7 +158,7 @@ returns-in-Ok-Damaged-clause-calls g c =
       failed = λ never. absurd (cc never);
       damaged = λ s is.
           (let here : j.place.start + c.cursor.inside.skipped ≡ s = cc is in
-          subst (λ (v : JournalView g.row.D.Denot). (s ≡ half_start v.is_second v.shape.half + c.args.cursor.now.skipped) × (new.failures ≡ (g.D.Disk.state v.device).failures) × HasReadAt s (half_start v.is_second v.shape.half + v.shape.half) (g.D.Disk.state v.device) new) c.self.view_is
+          subst (λ (v : JournalView g.row.D.Denot). (s ≡ half_start v.is_in_second_half v.shape.half + c.args.cursor.now.skipped) × (new.failures ≡ (g.D.Disk.state v.device).failures) × HasReadAt s (half_start v.is_in_second_half v.shape.half + v.shape.half) (g.D.Disk.state v.device) new) c.self.view_is
           (subst (λ (w : CursorView). (s ≡ half_start (nat_lt 2 j.place.start) j.place.shape.half + w.skipped) × (new.failures ≡ (g.D.Disk.state j.device).failures) × HasReadAt s (half_start (nat_lt 2 j.place.start) j.place.shape.half + j.place.shape.half) (g.D.Disk.state j.device) new) c.cursor.view_is
           (subst (λ k. (k ≡ half_start (nat_lt 2 j.place.start) j.place.shape.half + c.cursor.inside.skipped) × (new.failures ≡ (g.D.Disk.state j.device).failures) × HasReadAt k (half_start (nat_lt 2 j.place.start) j.place.shape.half + j.place.shape.half) (g.D.Disk.state j.device) new) here
           (ap (λ n. n + c.cursor.inside.skipped) (sym gate), c.in-Ok-Damaged.ensures.looks.ok.failures, (subst (λ n. HasReadAt (j.place.start + c.cursor.inside.skipped) (n + j.place.shape.half) (g.D.Disk.state j.device) new) (sym gate) (c.in-Ok-Damaged.ensures.damaged c.in-Ok-Damaged.field-0-is))))));
@@ -178,7 +178,7 @@ returns-in-Ok-Closed-clause-calls g c =
       damaged = λ s is.
           (let here : j.place.start + c.cursor.inside.skipped ≡ s = cc is in
           let low : j.place.start + c.cursor.inside.skipped + 0 < j.place.start + j.place.shape.half = omega (arith, c.if-cursor-self.false, place.low, place.below) in
-          subst (λ (v : JournalView g.row.D.Denot). (s ≡ half_start v.is_second v.shape.half + c.args.cursor.now.skipped) × (new.failures ≡ (g.D.Disk.state v.device).failures) × HasReadAt s (half_start v.is_second v.shape.half + v.shape.half) (g.D.Disk.state v.device) new) c.self.view_is
+          subst (λ (v : JournalView g.row.D.Denot). (s ≡ half_start v.is_in_second_half v.shape.half + c.args.cursor.now.skipped) × (new.failures ≡ (g.D.Disk.state v.device).failures) × HasReadAt s (half_start v.is_in_second_half v.shape.half + v.shape.half) (g.D.Disk.state v.device) new) c.self.view_is
           (subst (λ (w : CursorView). (s ≡ half_start (nat_lt 2 j.place.start) j.place.shape.half + w.skipped) × (new.failures ≡ (g.D.Disk.state j.device).failures) × HasReadAt s (half_start (nat_lt 2 j.place.start) j.place.shape.half + j.place.shape.half) (g.D.Disk.state j.device) new) c.cursor.view_is
           (subst (λ k. (k ≡ half_start (nat_lt 2 j.place.start) j.place.shape.half + c.cursor.inside.skipped) × (new.failures ≡ (g.D.Disk.state j.device).failures) × HasReadAt k (half_start (nat_lt 2 j.place.start) j.place.shape.half + j.place.shape.half) (g.D.Disk.state j.device) new) here (
             ap (λ n. n + c.cursor.inside.skipped) (sym gate),

@@ -15,7 +15,7 @@ returns-in-Ok-clause-opens g c =
       opens = opens old new place.shape place.start place.gate place.number
           c.find_place.ensures.examines.only well.failures well.told (λ honest. (found.stands honest).synced) found.stands;
       whole = refl;
-      opened = ap (λ (d : g.row.D.Denot). (g.D.Disk.state d).failures) c.of-opened.ensures;
+      failures_at_opening = ap (λ (d : g.row.D.Denot). (g.D.Disk.state d).failures) c.of-at_opening.ensures;
       half = picks_synced place.shape place.start place.gate place.number new
           (λ honest_new. found.stands (c.find_place.ensures.examines.only.runs.honest.0 honest_new));
       calls = opening_at old new place.shape.half place.start (place.gate - place.start + 1)

@@ -20,8 +20,8 @@ invariant_of-self g c =
     let failed : j.is_broken ≡ true → old.failures < new.failures =
     subst (λ (v : JournalView g.row.D.Denot). v.is_broken ≡ true → old.failures < (g.D.Disk.state v.device).failures) (sym c.self.view_is)
     (subst (λ (v : JournalView g.row.D.Denot). c.args.self.now.is_broken ≡ true → (g.D.Disk.state v.device).failures < (g.D.Disk.state c.args.self.now.device).failures) (sym c.former.view_is) c.requires.failed) in
-    let next : (j.is_broken ≡ true → c.if-self.self ≡ true) → (j.is_broken ≡ false → c.if-self.self ≡ f.is_broken) → IsJournal f.place c.if-self.self (g.D.Disk.state f.opened.value).failures new =
-    stands_again f.place j.is_broken f.is_broken c.if-self.self (g.D.Disk.state f.opened.value).failures old new c.former.invariant only safe failed in
+    let next : (j.is_broken ≡ true → c.if-self.self ≡ true) → (j.is_broken ≡ false → c.if-self.self ≡ f.is_broken) → IsJournal f.place c.if-self.self (g.D.Disk.state f.at_opening.value).failures new =
+    stands_again f.place j.is_broken f.is_broken c.if-self.self (g.D.Disk.state f.at_opening.value).failures old new c.former.invariant only safe failed in
     elim c.if-self.branch [
       | then-self w ↦ next (λ is. w.self-is ∙ is) (λ isnt. absurd (cc (w.if-self.true, isnt)))
       | else-self w ↦ next (λ is. absurd (cc (is, w.if-self.false))) (λ _. w.self-is)

@@ -8,5 +8,5 @@ use Rattle.lift_keeper.proofs.writer.Writer.register.Goals as goal
 pub returns-clause-placed : goal.returns-clause-placed
 returns-clause-placed g c =
     let w = c.self.inside in
-    subst (λ (v : WriterView g.row.D.Denot). v.is_broken ≡ false → LeavesNow (g.D.Disk.state v.device) (IsImageIn v.plan v.half v.is_second v.used w.register)) c.self.view_is
-    (placed_of w.building.now w.journal w.register w.doubt.value.items (g.D.Disk.state w.opened.value.device).failures w.is_broken (g.D.Disk.state w.journal.device) c.self.invariant)
+    subst (λ (v : WriterView g.row.D.Denot). v.is_broken ≡ false → LeavesNow (g.D.Disk.state v.device) (IsImageIn v.plan v.half v.is_in_second_half v.used w.register)) c.self.view_is
+    (placed_of w.building.now w.journal w.register w.doubt.value.items (g.D.Disk.state w.at_opening.value.device).failures w.is_broken (g.D.Disk.state w.journal.device) c.self.invariant)

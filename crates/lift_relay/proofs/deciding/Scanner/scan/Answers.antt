@@ -5,7 +5,7 @@ use Rattle.lift_register.specs.Register.{register_of}
 use Rattle.lift_policy.specs.Eligible.{any_eligible}
 use Rattle.lift_policy.specs.Step.{State}
 use Rattle.lift_policy.specs.Run.{Run}
-use Rattle.lift_clerk.specs.Turn.{settled}
+use Rattle.lift_clerk.specs.Turn.{without_batch}
 use Rattle.lift_world.specs.lemmas.Policies.{runs_are_any}
 use Rattle.lift_parts.specs.Batch.{commands_in, replies_in}
 use Rattle.lift_relay.proofs.deciding.Scanner.scan.Goals as goal
@@ -19,7 +19,7 @@ new-batch-requires-clause-decided g c =
     let entries = c.seal-entries.ensures.batch in
     let plan : c.building.result.now ≡ s.decider.plan = c.building.ensures ∙ ap (λ (d : DeciderState). d.plan) c.seal-entries.ensures.kept ∙ scans.plan in
     let before : c.of_decider-before.result ≡ state = c.of_decider-before.ensures ∙ (λ i. record state { batch = sym c.self.invariant.all_sealed i }) in
-    let after : c.of_decider-after.result ≡ settled decided = c.of_decider-after.ensures ∙ ap (λ (d : DeciderState). settled d.state) c.seal-entries.ensures.kept in
+    let after : c.of_decider-after.result ≡ without_batch decided = c.of_decider-after.ensures ∙ ap (λ (d : DeciderState). without_batch d.state) c.seal-entries.ensures.kept in
     let commands = commands_in c.scan-commands.result.items in
     let replies = replies_in c.scan-commands.result.items in
     record {

@@ -1,7 +1,7 @@
 use Rattle.std.proofs.Common.{◌≡◌, true, ℕ, List, sym, ap, ◌∙◌, subst}
 use Rattle.lift_policy.specs.Step.{State}
 use Rattle.lift_keeper.specs.Calls.{CommitCalls}
-use Rattle.lift_parts.specs.Flusher.{FlusherState, IsSettled}
+use Rattle.lift_parts.specs.Flusher.{FlusherState, AllAnsweredBy}
 use Rattle.lift_parts.specs.Line.{tried}
 use Rattle.lift_parts.specs.Turns.{IsFlush}
 use Rattle.lift_relay.specs.Settler.{SettlerState}
@@ -47,7 +47,7 @@ invariant_of-self-2 g c =
       of_building = receives.same.1 ∙ was.of_building ∙ sym made.commits.same.0;
       at_desk = receives.same.2 ∙ was.at_desk ∙ sym made.same;
       safe = λ whole. made.leads whole ∙ ap (λ (s : State). s.register) (sym receives.state);
-      settled = subst (λ (turns : List ℕ). IsSettled c.settle.new.self.seat turns) (sym receives.turns) made.settled;
+      all_answered = subst (λ (turns : List ℕ). AllAnsweredBy c.settle.new.self.seat turns) (sym receives.turns) made.all_answered;
     }
 
 pub returns-in-None-clause-history : goal.returns-in-None-clause-history

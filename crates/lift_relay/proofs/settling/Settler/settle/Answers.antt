@@ -24,7 +24,7 @@ returns-in-Ok-clause-settles g c =
       answered = answered.answered;
       counts = λ other is. (let same : counts ≡ other = cc in (sym (ap (λ (n : FlushCounts). n.batches) same), sym (ap (λ (n : FlushCounts). n.answers) same) ∙ answered.count));
       leads = leads_to state s.writer writer batch (Ok counts) c.entries.ensures.decided next made;
-      settled = answered.settled;
+      all_answered = answered.all_answered;
       seated = answered.seated;
       decided = c.entries.ensures.decided;
       at_desk = c.entries.ensures.at_desk;
@@ -47,7 +47,7 @@ returns-in-Err-clause-settles g c =
       answered = c.answer_all.ensures.answered;
       counts = λ other is. absurd (cc);
       leads = leads_to state s.writer writer batch (Err fault) c.entries.ensures.decided next made;
-      settled = c.answer_all.ensures.settled;
+      all_answered = c.answer_all.ensures.all_answered;
       seated = c.answer_all.ensures.seated;
       decided = c.entries.ensures.decided;
       at_desk = c.entries.ensures.at_desk;

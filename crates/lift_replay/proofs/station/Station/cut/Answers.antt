@@ -40,10 +40,10 @@ returns-clause-kept c =
     (left_unchanged c.args.outcome (fuse_state_of c.into_disk.result) (state_of c.into_inner.result) image c.into_inner.ensures.same
     (subst (λ i. IsLeftBy c.args.outcome (state_of c.into_inner.result) i) (sym same) c.cut-left.ensures.image)) in
     let may = cut_may c.args.self.clerk.keeper.writer.device c.into_disk.result c.new.result c.into_inner.result c.cut-left.result device c.into_inner.ensures.same c.cut-left.ensures.cut c.new.ensures.same.image in
-    let placed = subst (λ (k : KeeperView FusedDisk). k.writer.is_broken ≡ false → LeavesNow (fuse_state_of k.writer.device) (IsImageIn k.writer.plan k.writer.half k.writer.is_second k.writer.used k.writer.register)) c.keeper.ensures.value
-    (subst (λ r. c.keeper.result.now.writer.is_broken ≡ false → LeavesNow (fuse_state_of c.keeper.result.now.writer.device) (IsImageIn c.keeper.result.now.writer.plan c.keeper.result.now.writer.half c.keeper.result.now.writer.is_second c.keeper.result.now.writer.used r))
+    let placed = subst (λ (k : KeeperView FusedDisk). k.writer.is_broken ≡ false → LeavesNow (fuse_state_of k.writer.device) (IsImageIn k.writer.plan k.writer.half k.writer.is_in_second_half k.writer.used k.writer.register)) c.keeper.ensures.value
+    (subst (λ r. c.keeper.result.now.writer.is_broken ≡ false → LeavesNow (fuse_state_of c.keeper.result.now.writer.device) (IsImageIn c.keeper.result.now.writer.plan c.keeper.result.now.writer.half c.keeper.result.now.writer.is_in_second_half c.keeper.result.now.writer.used r))
     c.safe_register-placed.ensures.value c.safe_register-placed.ensures.placed) in
     λ g shows.
     kept_of c.args.self.building.now (left_by c.args.outcome g) c.new.result c.keeper_over.result
-    (left_found c.args.self.building.now g c.args.self.clerk.keeper c.args.outcome image g.stopped refl shows.keeper.stands shows.keeper.same_plan shows.keeper.half_is shows.keeper.register placed left may)
+    (left_found c.args.self.building.now g c.args.self.clerk.keeper c.args.outcome image g.failed refl shows.keeper.stands shows.keeper.same_plan shows.keeper.half_is shows.keeper.register placed left may)
     c.keeper_over.ensures.opens c.keeper_over.ensures.calls c.keeper_over.ensures.image c.keeper_over.ensures.unarmed c.keeper_over.ensures.state c.keeper_over.ensures.plan c.keeper_over.ensures.whole

@@ -11,7 +11,7 @@ pub loop-asker-init : goal.loop-asker-init
 loop-asker-init c = record {
   desk = refl;
   rest = refl;
-  told = front_told c.args.self.now.first c.args.self.now.seats.items c.args.clerk.now.seat c.requires.settled c.args.self.now.spanned.before;
+  told = front_told c.args.self.now.first c.args.self.now.seats.items c.args.clerk.now.seat c.requires.others_told c.args.self.now.spanned.before;
 }
 
 pub loop-asker-preserved : goal.loop-asker-preserved
@@ -38,11 +38,11 @@ loop-asker-preserved c =
           record {
             desk = rw w.self-is inv.desk;
             rest = rw w.clerk-is inv.rest;
-            told = rw (w.self-is, w.clerk-is) (quiet_more n seats mids places between c.requires.settled inside rests inv.told);
+            told = rw (w.self-is, w.clerk-is) (quiet_more n seats mids places between c.requires.others_told inside rests inv.told);
           }
     ]
 
 pub returns-clause-told : goal.returns-clause-told
 returns-clause-told c =
     all_told c.loop-asker.asker c.args.self.now.seats.items c.loop-asker.self.seats.items c.args.clerk.now.seat c.loop-asker.clerk.seat c.loop-asker.invariant.told
-    (λ i below past. c.requires.settled i below (c.args.self.now.spanned.behind i (omega (arith, past, c.loop-asker-test.false))))
+    (λ i below past. c.requires.others_told i below (c.args.self.now.spanned.behind i (omega (arith, past, c.loop-asker-test.false))))

@@ -1,4 +1,4 @@
--- Where an append or a checkpoint stops whose device fails a call, and what a cut then leaves.
+-- Where an append or a checkpoint has failed, and what a cut then leaves.
 use Rattle.std.specs.Prelude.{◌≡◌, ◌≢◌, ◌⊎◌, ◌<◌, ◌≤◌, ◌+◌, ◌++◌, ℕ, Bool, true, false, not}
 use Rattle.std.specs.Prelude.{if◌then◌else◌, List, [], ◌∷◌, slice_set}
 use Rattle.lift_base.specs.declared.history.Shape.{Shape}
@@ -13,7 +13,7 @@ pub record Misses (sector : ℕ) (bytes : List ℕ) (old new : DiskState) : Type
   pub loose : new.is_loose sector
 
 -- This many calls were made before the gate's write, and this write or its sync has failed.
-pub record StopsAtGate (shape : Shape) (batches : List Batch) (batch : Batch) (made : ℕ)
+pub record FailsAtGate (shape : Shape) (batches : List Batch) (batch : Batch) (made : ℕ)
     (old new : DiskState) : Type 0 where
   -- a cut that keeps: the batches from before where the write failed, the new one too where the
   -- sync did
@@ -28,34 +28,36 @@ pub record StopsAtGate (shape : Shape) (batches : List Batch) (batch : Batch) (m
 
 -- An append of this many body sectors has failed: before the gate's write each cut leaves the
 -- batches from before.
-pub record StopsAppend (shape : Shape) (batches : List Batch) (batch : Batch) (bodies : ℕ)
+pub record IsFailedAppend (shape : Shape) (batches : List Batch) (batch : Batch) (bodies : ℕ)
     (old new : DiskState) : Type 0 where
   pub early : new.calls ≤ old.calls + (bodies + 2) → LeavesNow new (Holds shape batches)
   pub late : old.calls + (bodies + 2) < new.calls
-      → StopsAtGate shape batches batch (bodies + 2) old new
+      → FailsAtGate shape batches batch (bodies + 2) old new
 
 -- This many calls of a checkpoint were made before the pick's write, and this write or its sync has
 -- failed. Both halves are safe, and whatever is in the pick, an image holds one of them: no fill
 -- makes damage.
-pub record StopsAtPick (shape : Shape) (is_second : Bool) (batches checkpoint : List Batch)
+pub record FailsAtPick (shape : Shape) (is_in_second_half : Bool) (batches checkpoint : List Batch)
     (made : ℕ) (old new : DiskState) : Type 0 where
   -- a cut that keeps: the other half where the pick was written
-  pub keeps_old : new.calls ≡ old.calls + made + 1 → HoldsIn shape is_second batches new.image
+  pub keeps_old : new.calls ≡ old.calls + made + 1
+      → HoldsIn shape is_in_second_half batches new.image
   pub keeps_new : new.calls ≡ old.calls + made + 2
-      → HoldsIn shape (not is_second) checkpoint new.image
+      → HoldsIn shape (not is_in_second_half) checkpoint new.image
   -- a cut that loses: the half from before
-  pub loses : HoldsIn shape is_second batches new.synced
+  pub loses : HoldsIn shape is_in_second_half batches new.synced
   -- a cut that fills: the second half just where the byte is the mark, whichever of the two that is
   pub fills_second : (left : Image) → IsFilled 165 new left
-      → HoldsIn shape true (if is_second then batches else checkpoint) left
+      → HoldsIn shape true (if is_in_second_half then batches else checkpoint) left
   pub fills_first : (byte : ℕ) (left : Image) → byte ≢ 165 → IsFilled byte new left
-      → HoldsIn shape false (if is_second then checkpoint else batches) left
+      → HoldsIn shape false (if is_in_second_half then checkpoint else batches) left
 
 -- A checkpoint of this many sectors before its closing gate has failed: before the pick's write
 -- each cut leaves the batches from before, in their half.
-pub record StopsCheckpoint (shape : Shape) (is_second : Bool) (batches checkpoint : List Batch)
+pub record IsFailedCheckpoint (shape : Shape) (is_in_second_half : Bool)
+    (batches checkpoint : List Batch)
     (sectors : ℕ) (old new : DiskState) : Type 0 where
   pub early : new.calls ≤ old.calls + (sectors + 2)
-      → LeavesNow new (HoldsIn shape is_second batches)
+      → LeavesNow new (HoldsIn shape is_in_second_half batches)
   pub late : old.calls + (sectors + 2) < new.calls
-      → StopsAtPick shape is_second batches checkpoint (sectors + 2) old new
+      → FailsAtPick shape is_in_second_half batches checkpoint (sectors + 2) old new

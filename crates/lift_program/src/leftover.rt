@@ -9,17 +9,17 @@ use std::marker::Model;
 /// A device as a command has left it, or what opens one. Nobody calls it any more: all that can be done
 /// with it is to let it go. So what is said of it is said of the end. Contracts see the device.
 #[derive(Drop)]
-pub struct Left<D> {
+pub struct Leftover<D> {
     device: D,
 }
 
-impl<D> Model for Left<D> {
+impl<D> Model for Leftover<D> {
     ghost Value = { D };
 
     ghost view = { λ l. l.device };
 }
 
-impl<D> Left<D> {
+impl<D> Leftover<D> {
     /// It is called no more.
     ///
     /// It and the calls that answer one stay calls: built into one body, the copies of a device of
@@ -28,7 +28,7 @@ impl<D> Left<D> {
     pub fn new(device: D) -> Self
         ensures { result ≡ device }
     {
-        Left { device }
+        Leftover { device }
     }
 }
 
@@ -36,16 +36,16 @@ impl<D> Left<D> {
 #[derive(Drop)]
 pub struct Refused<F: Drop, O: Drop> {
     pub fault: Fault,
-    pub cause: Left<FileFault<F, O>>,
+    pub cause: Leftover<FileFault<F, O>>,
 }
 
-/// Why a command over an image is undone.
+/// Why a command over an image has failed.
 #[derive(Drop)]
-pub enum Undone<D, F: Drop, O: Drop> {
+pub enum Failure<D, F: Drop, O: Drop> {
     /// No building was had, and nothing was asked of an image: what opens that is left.
-    NoBuilding(Fault, Left<O>),
+    NoBuilding(Fault, Leftover<O>),
     /// No image was had.
     NoImage(Refused<F, O>),
     /// One was, and was left so.
-    Opened(Fault, Left<D>),
+    Opened(Fault, Leftover<D>),
 }

@@ -1,11 +1,11 @@
--- What an append that stops leaves.
+-- What an append that fails leaves.
 use Rattle.std.proofs.Common.{◌≡◌, ◌≢◌, ◌<◌, ◌≤◌, ◌+◌, ◌==◌, ⊎_elim, ℕ, false, List, [], length, replicate, unwrap_or, refl, sym, ◌∙◌, ap, subst, arith}
 use Rattle.lift_base.specs.declared.history.Shape.{Shape}
 use Rattle.lift_disk.specs.Disk.{DiskState, Image, ChangesWithin, IsFilled, MayLeave, IsSynced}
 use Rattle.lift_disk.specs.lemmas.Moments.{changes_more, changes_twice}
 use Rattle.lift_journal.specs.Layout.{Batch, Holds, IsPrepared, is_marked, sector_at}
 use Rattle.lift_journal.specs.Steps.{marked}
-use Rattle.lift_journal.specs.Stops.{Misses, StopsAtGate}
+use Rattle.lift_journal.specs.Failed.{Misses, FailsAtGate}
 use Rattle.lift_journal.specs.lemmas.Chains.{all_same, holds_closed, holds_opened}
 use Rattle.lift_journal.proofs.Appends.{gate_opens}
 
@@ -35,8 +35,8 @@ module _ (shape : Shape) (batches : List Batch) (batch : Batch) (gate made : ℕ
   from_gate_on : (left : Image) → ChangesWithin (λ i. i ≡ gate) mid.image left → ChangesWithin (λ i. gate ≤ i) mid.image left
   from_gate_on left changed = changes_more (λ i. i ≡ gate) (λ i. gate ≤ i) mid.image left (λ i is. omega (arith, is)) changed
 
-  pub stops_at_gate : StopsAtGate shape batches batch made old new
-  stops_at_gate = record {
+  pub fails_at_gate : FailsAtGate shape batches batch made old new
+  fails_at_gate = record {
     keeps_old = λ calls. ⊎_elim (λ failed. subst (Holds shape batches) (sym failed.1) prepared.holds) (λ written. absurd (omega (arith, calls, before, written.0))) misses.made;
     keeps_new = λ calls. ⊎_elim (λ failed. absurd (omega (arith, calls, before, failed.0)))
         (λ written. gate_opens shape batches batch gate mid.image new.image prepared within inside written.1) misses.made;
