@@ -3,7 +3,7 @@ use Rattle.std.proofs.Common.{◌≡◌, ◌≢◌, ℕ, zero, suc, ◌+◌, ◌
 use Rattle.std.specs.Prelude.{IfSome, nat_eq}
 use Rattle.std.proofs.Math.Seq.{take-suc}
 use Rattle.std.proofs.lemmas.Bool.Decides.{nat_tests}
-use Rattle.std.proofs.lemmas.List.{append_cancel_left, take_all, length-set, get_or-set_same, get_or-set_other}
+use Rattle.std.proofs.lemmas.List.{append_cancel_left, length-set, get_or-set_same, get_or-set_other}
 use Rattle.atomic_table.specs.Seated.{TableId}
 use Rattle.lift_base.specs.declared.command.Reply.{Reply}
 use Rattle.lift_desk.specs.declared.view.ClerkView.{ClerkView}
@@ -110,9 +110,6 @@ more : (is_safe : Bool) (places mid next : List ClerkPlace) (batch : List NotedC
 more is_safe places mid next [] taken visit all last = (visit, next, subst (λ (l : List ClerkPlace). AnswersOne is_safe l taken visit next) all last, refl)
 more is_safe places mid next (t ∷ batch) taken visit all last = (all.0, all.1, all.2, more is_safe all.1 mid next batch taken visit all.3 last)
 
-pub answered_none : (is_safe : Bool) (places : List ClerkPlace) → Answered is_safe places [] places
-answered_none is_safe places = refl
-
 -- the commands up to one, with it
 take_one : (commands : List NotedCommand) (n : ℕ) (taken : NotedCommand) → n < length commands → taken ≡ get_or commands n taken → take (n + 1) commands ≡ take n commands ++ taken ∷ []
 take_one commands n taken inside is =
@@ -125,24 +122,18 @@ pub answered_more : (is_safe : Bool) (places mid next : List ClerkPlace) (comman
 answered_more is_safe places mid next commands n taken visit inside is before last =
     subst (λ (l : List NotedCommand). Answered is_safe places l next) (sym (take_one commands n taken inside is)) (more is_safe places mid next (take n commands) taken visit before last)
 
-pub answered_all : (is_safe : Bool) (places next : List ClerkPlace) (commands : List NotedCommand) (n : ℕ) → length commands ≤ n → Answered is_safe places (take n commands) next → Answered is_safe places commands next
-answered_all is_safe places next commands n all is = subst (λ (l : List NotedCommand). Answered is_safe places l next) (take_all n commands all) is
-
 -- the command after these, with its note
 pub noted_at : (desk : List TableId) (turns : List ℕ) (commands : List NotedCommand) (n : ℕ) (d : NotedCommand) → n < length commands → AreNoted desk turns commands → IsNoted desk (turns_after turns (take n commands)) (get_or commands n d)
 noted_at desk turns [] n d inside all = absurd (omega arith)
 noted_at desk turns (t ∷ commands) zero d inside all = all.0
 noted_at desk turns (t ∷ commands) (suc n) d inside all = noted_at desk (turns_with turns t) commands n d (omega arith) all.1
 
-after_last : (turns : List ℕ) (xs : List NotedCommand) (x : NotedCommand) → turns_after turns (xs ++ x ∷ []) ≡ turns_with (turns_after turns xs) x
+pub after_last : (turns : List ℕ) (xs : List NotedCommand) (x : NotedCommand) → turns_after turns (xs ++ x ∷ []) ≡ turns_with (turns_after turns xs) x
 after_last turns [] x = refl
 after_last turns (y ∷ xs) x = after_last (turns_with turns y) xs x
 
 pub after_more : (turns : List ℕ) (commands : List NotedCommand) (n : ℕ) (taken : NotedCommand) → n < length commands → taken ≡ get_or commands n taken → turns_with (turns_after turns (take n commands)) taken ≡ turns_after turns (take (n + 1) commands)
 after_more turns commands n taken inside is = sym (after_last turns (take n commands) taken) ∙ ap (turns_after turns) (sym (take_one commands n taken inside is))
-
-pub after_all : (turns : List ℕ) (commands : List NotedCommand) (n : ℕ) → length commands ≤ n → turns_after turns (take n commands) ≡ turns_after turns commands
-after_all turns commands n all = ap (turns_after turns) (take_all n commands all)
 
 -- each command's terminal is one of the desk's
 below_one : (count : ℕ) (commands : List NotedCommand) (n : ℕ) (d : NotedCommand) → n < length commands → AreBelow count (commands_in commands) → (get_or commands n d).command.terminal < count

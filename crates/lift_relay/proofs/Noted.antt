@@ -19,14 +19,11 @@ use Rattle.lift_parts.specs.declared.taken.NotedCommand.{NotedCommand}
 use Rattle.lift_parts.specs.Batch.{commands_in, noted_in, turns_of, turns_with, turns_after, IsNoted, AreNoted}
 use Rattle.lift_parts.specs.Scan.{word_at}
 use Rattle.lift_parts.specs.lemmas.Used.{below_is}
+use Rattle.lift_relay.proofs.Flushed.{after_last}
 
 noted_last : (desk : List TableId) (turns : List ℕ) (xs : List NotedCommand) (x : NotedCommand) → AreNoted desk turns xs → IsNoted desk (turns_after turns xs) x → AreNoted desk turns (xs ++ x ∷ [])
 noted_last desk turns [] x all one = (one, tt)
 noted_last desk turns (y ∷ xs) x all one = (all.0, noted_last desk (turns_with turns y) xs x all.1 one)
-
-after_last : (turns : List ℕ) (xs : List NotedCommand) (x : NotedCommand) → turns_after turns (xs ++ x ∷ []) ≡ turns_with (turns_after turns xs) x
-after_last turns [] x = refl
-after_last turns (y ∷ xs) x = after_last (turns_with turns y) xs x
 
 pub turns_at : (places : List ClerkPlace) (t : ℕ) → get_or (turns_of places) t 0 ≡ turn_of (last_of (view_at places t).taken)
 turns_at [] t = refl

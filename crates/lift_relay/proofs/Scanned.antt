@@ -31,10 +31,6 @@ words-more : (visits : List Visit) (v : Visit) → words_of (visits ++ v ∷ [])
 words-more [] v = append-nil (word_at v.word v.found)
 words-more (u ∷ visits) v = ap (λ l. word_at u.word u.found ++ l) (words-more visits v) ∙ sym (append_assoc (word_at u.word u.found) (words_of visits) (word_at v.word v.found))
 
--- nothing was looked at
-pub scans-none : (choice : Choice) (plan : Plan) (places : List ClerkPlace) (state : State) → ScansAhead choice plan places places state state [] 0
-scans-none choice plan places state = record { visits = []; count = refl; takes = tt; looked = refl; commands = refl; notes = refl; run = refl }
-
 -- what the call says of one look
 pub looked-at : (seat next : List ClerkPlace) (n word : ℕ) (found : Option Ask) → n < length seat → next ≡ clerk_with seat n (with_taking (view_at seat n) word) → TakesAheadOf (view_at seat n) word found
     → IfSome found IsAsk → (IsSome found → turn_of (last_of (view_at next n).taken) < 2 ^ 20) → length (view_at seat n).told ≤ turn_of (last_of (view_at next n).taken)

@@ -1,7 +1,6 @@
 -- Places of which nobody's seat is taken.
-use Rattle.std.proofs.Common.{◌≡◌, ℕ, suc, zero, List, [], ◌∷◌, ◌++◌, ap, ap₂, sym, refl, ◌∙◌, inl, inr, length, length-set, set, subst, take, drop, arith}
+use Rattle.std.proofs.Common.{◌≡◌, ℕ, suc, zero, List, [], ◌∷◌, ◌++◌, ap, ap₂, sym, refl, ◌∙◌, inl, inr, length, length-set, subst, arith}
 use Rattle.std.specs.Prelude.{Option, Some, None, slice_get, slice_set, ◌⊎◌, ◌+◌, ◌≤◌}
-use Rattle.std.specs.List.{refill}
 use Rattle.std.proofs.lemmas.List.{append-nil}
 use Rattle.atomic_table.specs.Seated.{TableId}
 use Rattle.lift_desk.specs.Rule.{no_asks}
@@ -9,18 +8,6 @@ use Rattle.lift_desk.specs.Seats.{TerminalSeat, seats_from}
 use Rattle.lift_register.specs.Register.{RegisterState, last_of}
 use Rattle.lift_serve.specs.Lobby.{IsLobbyOf, found_seats, found_at}
 use Rattle.lift_serve.specs.Visits.{AreAsFound, AreAtTheirPlaces, HeldState, known_of}
-
--- a list that is written back whole
-refill_all : {A : Type 0} (xs ws : List A) → length ws ≡ length xs → take (length ws) (ws ++ drop (length ws) xs) ≡ ws
-refill_all xs [] e = refl
-refill_all [] (w ∷ ws) e = absurd (omega arith)
-refill_all (x ∷ xs) (w ∷ ws) e = ap (λ l. w ∷ l) (refill_all xs ws (omega arith))
-
-pub refill_set : {A : Type 0} (xs ys : List A) (i : ℕ) (a : A) → ys ≡ xs → refill (length xs) xs (set ys i a) ≡ set xs i a
-refill_set xs ys i a e =
-    let same : length (set xs i a) ≡ length xs = length-set xs i a in
-    subst (λ zs. refill (length xs) xs (set zs i a) ≡ set xs i a) (sym e)
-    (subst (λ n. take n (set xs i a ++ drop (length (set xs i a)) xs) ≡ set xs i a) same (refill_all xs (set xs i a) same))
 
 -- what is found after a place's setting was there before, or is what was set
 found_in : (places : List (Option HeldState)) (at place : ℕ) (seat : Option HeldState) (held : HeldState) → slice_get (slice_set places at seat) place ≡ Some (Some held)

@@ -1,6 +1,6 @@
 -- A scan that has come one terminal further.
 use Rattle.std.proofs.Common.{◌≡◌, ℕ, suc, ◌<◌, ◌≤◌, Bool, true, false, List, [], ◌∷◌, ◌++◌, length}
-use Rattle.std.proofs.Common.{Option, Some, None, refl, sym, ap, ◌∙◌, subst, arith}
+use Rattle.std.proofs.Common.{Option, Some, None, sym, ap, ◌∙◌, subst, arith}
 use Rattle.std.specs.Prelude.{IfSome}
 use Rattle.std.specs.Option.{option_to_list}
 use Rattle.std.proofs.lemmas.List.{map-append}
@@ -38,22 +38,6 @@ decides-more true plan choice before mid after earlier later replies others join
 )
 decides-more false plan choice before mid after earlier later replies others join first second =
     join plan before mid after earlier later replies others first second
-
--- nothing was looked at
-pub scans-none : (choice : Choice) (plan : Plan) (is_broken : Bool) (places : List ClerkPlace)
-    (state : State) → Scans choice plan is_broken places places state state [] 0
-scans-none choice plan true places state = record {
-  visits = [];
-  count = refl;
-  scanned = record { finds = tt; looked = refl; terminals = refl };
-  decides = (refl, refl);
-}
-scans-none choice plan false places state = record {
-  visits = [];
-  count = refl;
-  scanned = record { finds = tt; looked = refl; terminals = refl };
-  decides = refl;
-}
 
 pub scans-more : (choice : Choice) (plan : Plan) (is_broken : Bool)
     (places seat next : List ClerkPlace) (before mid after : State) (answers others : List Answer)
