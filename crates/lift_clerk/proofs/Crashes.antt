@@ -10,7 +10,6 @@ use Rattle.lift_building.specs.Plan.{Plan, IsBuilding}
 use Rattle.lift_disk.specs.Disk.{Image}
 use Rattle.lift_keeper.specs.Images.{IsImageOf, IsInDoubt}
 use Rattle.lift_register.specs.Register.{RegisterState, register_of}
-use Rattle.lift_register.specs.Joins.{RegistersJoin}
 use Rattle.lift_policy.specs.Eligible.{any_eligible}
 use Rattle.lift_policy.specs.Step.{State}
 use Rattle.lift_policy.specs.Run.{Run}

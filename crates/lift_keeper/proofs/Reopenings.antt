@@ -25,12 +25,12 @@ use Rattle.lift_journal.specs.lemmas.Chains.{all_same}
 use Rattle.lift_keeper.specs.declared.fault.KeeperFault.{KeeperFault}
 use Rattle.lift_keeper.specs.declared.fault.KeeperFault.TheVariants.{Journal, OtherBuilding, BadEntry}
 use Rattle.lift_keeper.specs.Calls.{ReadsAll, ReadsUntilRefused, FailsBy, OpeningCalls, RefusedCalls}
-use Rattle.lift_keeper.specs.Images.{IsImageOf, IsImageIn}
+use Rattle.lift_keeper.specs.Images.{IsImageOf}
 use Rattle.lift_keeper.specs.Reading.{ReadingState, ReadsBatch, reading_from, GivesAtEnd, GivesNone}
 use Rattle.lift_keeper.specs.Recovery.{RecordFits, with_next, with_all, AllFit, IsFirstMisfit, entries_of, IsRegisterOf}
 use Rattle.lift_keeper.specs.Reopening.{Reopens, ReadsNow, RefusedFor, RefusesReopening}
 use Rattle.lift_keeper.specs.Writer.{Keeps, Guards}
-use Rattle.lift_keeper.proofs.Guarding.{image_of, keeps_safe, keeps_placed}
+use Rattle.lift_keeper.proofs.Guarding.{keeps_safe, keeps_placed}
 use Rattle.lift_keeper.proofs.Histories.{register_then}
 use Rattle.lift_keeper.proofs.Recoveries.{fit_then, base_fits_all, base_makes_all, MakesRegister}
 use Rattle.lift_keeper.proofs.Recovering.{makes, none_made}

@@ -10,7 +10,7 @@ use Rattle.std.proofs.lemmas.List.Sums.{length-filter}
 use mathlib.Core.List.{map-append}
 use Rattle.lift_base.specs.declared.command.Reply.{Reply}
 use Rattle.lift_base.specs.declared.history.Entry.{Entry}
-use Rattle.lift_register.specs.Register.{RegisterState, register_of, empty}
+use Rattle.lift_register.specs.Register.{RegisterState, register_of}
 use Rattle.lift_desk.specs.Spelled.{ask_words}
 use Rattle.lift_desk.specs.Seats.{view_at}
 use Rattle.lift_policy.specs.Step.{State}

@@ -1,6 +1,5 @@
 -- What a run leaves, of both parts.
 use Rattle.std.proofs.Common.{◌≡◌, true, List, [], ◌++◌, length, Option, Some, None, refl, ap, subst, inl, inr, sym, ◌∙◌}
-use Rattle.std.proofs.lemmas.List.{append-nil}
 use Rattle.std.specs.Prelude.{option_map}
 use Rattle.lift_base.specs.declared.history.Entry.{Entry}
 use Rattle.lift_world.specs.declared.event.Taken.{Taken}

@@ -1,22 +1,18 @@
 -- A flusher's turn, of what it received, its commit and its answers.
-use Rattle.std.proofs.Common.{◌≡◌, ◌⊎◌, inl, inr, ⊎_elim, true, false, List, [], ◌∷◌, ◌++◌, length, refl, sym, ap, ◌∙◌, subst}
+use Rattle.std.proofs.Common.{◌≡◌, ◌⊎◌, inl, inr, ⊎_elim, true, false, List, [], ◌∷◌, ◌++◌, length, sym, ap, ◌∙◌, subst}
 use Rattle.std.specs.Prelude.{Result, Ok, Err, IfOk}
 use Rattle.lift_base.specs.declared.history.Entry.{Entry}
 use Rattle.lift_disk.specs.Disk.{DiskState}
 use Rattle.lift_register.specs.Register.{register_of}
-use Rattle.lift_policy.specs.Step.{State}
-use Rattle.lift_journal.specs.declared.fault.JournalFault.TheVariants.{Disk, Broken}
 use Rattle.lift_keeper.specs.declared.fault.KeeperFault.{KeeperFault}
-use Rattle.lift_keeper.specs.declared.fault.KeeperFault.TheVariants.{Journal}
 use Rattle.lift_keeper.specs.Commits.{Commits}
 use Rattle.lift_keeper.specs.Calls.{CommitCalls}
 use Rattle.lift_keeper.specs.Writer.{WriterView}
 use Rattle.lift_keeper.specs.lemmas.Committed.{nothing_refused, nothing_safe, some_failed, whole_before}
 use Rattle.lift_parts.specs.declared.counts.FlushCounts.{FlushCounts}
-use Rattle.lift_building.specs.Plan.{Plan}
 use Rattle.lift_parts.specs.Batch.{BatchState, IsDecided}
 use Rattle.lift_parts.specs.Line.{ReceiveState, ReceivesOne, FindsNone, Tries, tried}
-use Rattle.lift_parts.specs.Flusher.{FlusherState, IsFlusher, IsEmptyTurn, IsBatchTurn, entries_received}
+use Rattle.lift_parts.specs.Flusher.{FlusherState, IsFlusher, IsBatchTurn, entries_received}
 use Rattle.lift_parts.specs.Turns.{IsFlush}
 use Rattle.lift_parts.specs.lemmas.Received.{entries_between, none_received, one_received}
 use Rattle.lift_relay.specs.Settler.{SettlerState, SettlesBatch}

@@ -7,7 +7,7 @@ use Rattle.lift_program.specs.Images.{CommandFiles, IsTextRead, image_files}
 use Rattle.lift_program.specs.Ends.{EndOver, IsEndOf, IsPassedOn, TellsLine, line_at_once, line_at_once_in, failed_for}
 use Rattle.lift_program.specs.Listening.{local}
 use Rattle.lift_program.specs.Stages.{IsNoText}
-use Rattle.lift_program.specs.Output.{IsFlushed, WriterHasFailed}
+use Rattle.lift_program.specs.Output.{IsFlushed}
 use Rattle.lift_program.specs.Unwritten.{unwritten_state_of}
 use Rattle.lift_program.specs.declared.fault.Fault.TheVariants.{File}
 use Rattle.lift_program.specs.declared.fault.Role.TheVariants.{Output}

@@ -1,4 +1,4 @@
-use Rattle.std.proofs.Common.{◌≡◌, None, inr, sym, ap, ◌∙◌, subst}
+use Rattle.std.proofs.Common.{◌≡◌, inr, sym, ap, ◌∙◌, subst}
 use Rattle.lift_parts.specs.Allocator.{AllocatorState}
 use Rattle.lift_relay.specs.declared.pair.Turned.{Turned}
 use Rattle.lift_relay.specs.Pair.{HaveTurned, HaveRun}

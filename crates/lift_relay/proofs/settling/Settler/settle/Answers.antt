@@ -1,5 +1,5 @@
 use Rattle.std.proofs.Common.{◌≡◌, false, List, length, refl, sym, ap, ◌∙◌, subst}
-use Rattle.std.specs.Prelude.{Result, Ok, Err}
+use Rattle.std.specs.Prelude.{Ok, Err}
 use Rattle.lift_base.specs.declared.history.Entry.{Entry}
 use Rattle.lift_keeper.specs.Prelude.{Commits, CommitCalls}
 use Rattle.lift_keeper.specs.lemmas.Committed.{under_ok, under_err, calls_under_ok, calls_under_err}

@@ -1,6 +1,6 @@
 use Rattle.std.proofs.Common.{◌≡◌, ℕ, sym, ap, ◌∙◌, subst}
-use Rattle.crossbeam_queue.specs.Fifo.{Pushes, Learns, Held}
-use Rattle.crossbeam_queue.specs.Passes.{ruled_capacity, view}
+use Rattle.crossbeam_queue.specs.Fifo.{Pushes, Learns}
+use Rattle.crossbeam_queue.specs.Passes.{ruled_capacity}
 use Rattle.lift_relay.specs.Rule.{IsLineKept}
 use Rattle.lift_relay.specs.Side.{SideState}
 use Rattle.lift_relay.proofs.side.Side.push.Goals as goal

@@ -1,4 +1,4 @@
-use Rattle.std.proofs.Common.{rules, ◌≡◌, [], ◌∷◌, refl, sym, ◌∙◌, subst}
+use Rattle.std.proofs.Common.{rules, ◌≡◌, [], ◌∷◌, refl, ◌∙◌, subst}
 use mir.Syntax.{Sym}
 use denote.RattleType.{RattleType}
 use denote.Exit.{no}
