@@ -1,12 +1,14 @@
 -- Bits of a set, and the halts that they stand for.
-use Rattle.std.proofs.Common.{All, take, get_or, ◌≡◌, ◌≢◌, ℕ, zero, suc, ◌+◌, ◌-◌, ◌*◌, ◌^◌, ◌/◌, ◌%◌, min, ◌<◌, ◌≤◌, ◌==◌, ◌||◌, Bool, true, false, cond, List, [], ◌∷◌, ◌++◌, map, filter, length, refl, sym, ap, subst, ◌∙◌, arith, inl, inr}
-use Rattle.std.specs.Int.{bit_at, reverse_bits, reverse_bits_onto, trailing_zeros, w64}
+use Rattle.std.proofs.Common.{All, take, get_or, ◌≡◌, ◌≢◌, ℕ, zero, suc, ◌+◌, ◌-◌, ◌*◌, ◌^◌, ◌/◌, ◌%◌, ◌<◌, ◌≤◌, ◌==◌, ◌||◌, Bool, true, false, cond, List, [], ◌∷◌, ◌++◌, map, filter, length, refl, sym, ap, subst, ◌∙◌, arith, inl, inr}
+use Rattle.std.specs.Int.{bit_at, bit_not, w64}
 use Rattle.std.specs.Int.RustNames.{bit_or}
 use lib.Bits.{bit_and}
 use Rattle.std.specs.List.{range_with_len}
-use Rattle.std.proofs.Math.Nat.{eq-or-lt_of_le}
-use Rattle.std.proofs.lemmas.Bool.{cases_eq, cases_lt, eq-eqb, ne_eqb}
-use Rattle.std.proofs.lemmas.Nat.Bits.{bit_at-zero, bit_at-trailing_zeros, bit_at_set_same, bit_at_set_other, bit_at_and, bit_at_lowest, bit_at-suc}
+use Rattle.std.proofs.Math.Nat.{eq-or-lt_of_le, pow-suc}
+use Rattle.std.proofs.lemmas.Bool.{cases_eq, eq-eqb, ne_eqb}
+use Rattle.std.proofs.lemmas.Nat.Bits.{bit_at-zero, bit_at_set_same, bit_at_set_other, bit_at_clear_same, bit_at_clear_other, bit_at_lowest, bit_at-suc, bit_at_above}
+use Rattle.std.proofs.lemmas.Nat.{leading_top}
+use Rattle.std.specs.Int.Count.{count_leading_zeros}
 use Rattle.std.proofs.lemmas.List.{take_more, take_all}
 use Rattle.std.proofs.lemmas.List.Elements.{filter_agree, filter-append}
 use Rattle.lift_base.specs.declared.travel.Dir.{Dir}
@@ -19,7 +21,7 @@ use Rattle.lift_base.specs.declared.history.Row.{Row}
 use Rattle.lift_stops.specs.declared.marks.Marks.{Marks}
 use Rattle.lift_stops.specs.Insertion.{floor_rank}
 use Rattle.lift_stops.specs.StopList.{HasFloors, legs_of, pass_of, dir_in, is_needed, floors_along, halts_in, stop_list}
-use Rattle.lift_stops.specs.Marks.{has_bit, places, marked, halt_on, halts_marked, all_marked, set_in, HasHalts, HasLegs}
+use Rattle.lift_stops.specs.Marks.{has_bit, places, marked, halt_on, halts_marked, all_marked, set_in, HasHalts}
 use Rattle.lift_stops.specs.lemmas.Insertion.{IsIn, filter-agree}
 use Rattle.lift_stops.specs.lemmas.Halts.{halt_at, or_false, stop_list-none, stop_list-push, length-put_legs}
 
@@ -52,80 +54,59 @@ places-are : places ≡ range_with_len 0 64
 unfolding places
 places-are = refl
 
-set_bit : (b : ℕ) → b ≡ 1 → (b == 1) ≡ true
+pub set_bit : (b : ℕ) → b ≡ 1 → (b == 1) ≡ true
 set_bit b is = rw is refl
 
-unset_bit : (b : ℕ) → b ≡ 0 → (b == 1) ≡ false
+pub unset_bit : (b : ℕ) → b ≡ 0 → (b == 1) ≡ false
 unset_bit b is = rw is refl
 
--- one less has other bits up to the lowest bit that is set
-one_less : (k n : ℕ) → bit_at n k ≡ 1 → ((i : ℕ) → i < k → bit_at n i ≡ 0) → (bit_at (n - 1) k ≡ 0) × ((i : ℕ) → k < i → bit_at (n - 1) i ≡ bit_at n i)
-one_less zero n is none =
-    let odd : n % 2 ≡ 1 = sym (bit_at_lowest n) ∙ is in
-    let half : (n - 1) / 2 ≡ n / 2 = omega (arith, odd) in (
-      bit_at_lowest (n - 1) ∙ omega (arith, odd),
-      λ i above. later i above half,
+-- ---- the first floor of a set in a direction
+
+-- a set without a floor
+abbrev pub cleared : ℕ → ℕ → ℕ
+cleared set floor = bit_and set (bit_not w64 (1 * 2 ^ floor % 2 ^ 64))
+
+pub rank_below : (dir : Dir) (place : ℕ) → place < 64 → floor_rank dir place < 64
+rank_below Up place below = below
+rank_below Down place below = omega arith
+
+pub rank_twice : (dir : Dir) (place : ℕ) → place < 64 → floor_rank dir (floor_rank dir place) ≡ place
+rank_twice Up place below = refl
+rank_twice Down place below = omega (arith, below)
+
+pub marked-first : (dir : Dir) (set floor : ℕ) → floor < 64 → has_bit set floor ≡ true → ((place : ℕ) → place < floor_rank dir floor → has_bit set (floor_rank dir place) ≡ false)
+    → marked dir set ≡ floor_rank dir floor ∷ marked dir (cleared set floor)
+marked-first dir set floor low there first =
+    let k : ℕ = floor_rank dir floor in
+    let back = rank_twice dir floor low in
+    first_among places 64 places-are (λ place. has_bit set (floor_rank dir place)) (λ place. has_bit (cleared set floor) (floor_rank dir place)) k (rank_below dir floor low)
+    (ap (has_bit set) back ∙ there)
+    (ap (has_bit (cleared set floor)) back ∙ unset_bit (bit_at (cleared set floor) floor) (bit_at_clear_same w64 set floor low))
+    first
+    (λ i below other. ap (λ b. b == 1) (bit_at_clear_other w64 set floor low (floor_rank dir i) (rank_below dir i below) (λ same. other (sym (rank_twice dir i below) ∙ ap (floor_rank dir) same))))
+
+-- the highest bit of a set is its last floor
+top_bit : (j set : ℕ) → 2 ^ j ≤ set → set < 2 ^ suc j → bit_at set j ≡ 1
+top_bit zero set some below = bit_at_lowest set ∙ omega (arith, some, below)
+top_bit (suc j) set some below =
+    let double : 2 ^ suc j ≡ 2 * 2 ^ j = omega (arith, pow-suc 2 j) in
+    let more : 2 ^ suc (suc j) ≡ 2 * 2 ^ suc j = omega (arith, pow-suc 2 (suc j)) in
+    bit_at-suc set j ∙ top_bit j (set / 2) (omega (arith, some, double)) (omega (arith, below, more))
+
+pub last-set : (set : ℕ) → 0 < set → set < 2 ^ 64 → (has_bit set (63 - count_leading_zeros 64 set) ≡ true) × ((place : ℕ) → place < 63 - (63 - count_leading_zeros 64 set) → has_bit set (63 - place) ≡ false)
+last-set set some fits =
+    let (j, count, low, high) = leading_top 64 set some fits in
+    let here : 63 - count_leading_zeros 64 set ≡ j = omega (arith, count) in (
+      ap (has_bit set) here ∙ set_bit (bit_at set j) (top_bit j set low high),
+      λ place before. unset_bit (bit_at set (63 - place)) (bit_at_above set (suc j) (63 - place) high (omega (arith, count, before))),
     )
-  where
-    later : (i : ℕ) → 0 < i → (n - 1) / 2 ≡ n / 2 → bit_at (n - 1) i ≡ bit_at n i
-    later zero above half = absurd (omega (arith, above))
-    later (suc i) above half = bit_at-suc (n - 1) i ∙ ap (λ (m : ℕ). bit_at m i) half ∙ sym (bit_at-suc n i)
-one_less (suc k) n is none =
-    let even : n % 2 ≡ 0 = sym (bit_at_lowest n) ∙ none 0 (omega arith) in
-    let half : (n - 1) / 2 ≡ n / 2 - 1 = omega (arith, even) in
-    let rest = one_less k (n / 2) (sym (bit_at-suc n k) ∙ is) (λ i below. sym (bit_at-suc n i) ∙ none (suc i) (omega (arith, below))) in (
-      bit_at-suc (n - 1) k ∙ ap (λ (m : ℕ). bit_at m k) half ∙ rest.0,
-      λ i above. later i above half rest.1,
-    )
-  where
-    later : (i : ℕ) → suc k < i → (n - 1) / 2 ≡ n / 2 - 1 → ((j : ℕ) → k < j → bit_at (n / 2 - 1) j ≡ bit_at (n / 2) j) → bit_at (n - 1) i ≡ bit_at n i
-    later zero above half rest = absurd (omega (arith, above))
-    later (suc i) above half rest = bit_at-suc (n - 1) i ∙ ap (λ (m : ℕ). bit_at m i) half ∙ rest i (omega (arith, above)) ∙ sym (bit_at-suc n i)
-
--- a set without its lowest bit
-abbrev pub cleared : ℕ → ℕ
-cleared set = bit_and set (set - 1)
-
-min-zero : (a : ℕ) → min a 0 ≡ 0
-min-zero a = omega arith
-
-zero-min : (a b : ℕ) → a ≡ 0 → min a b ≡ a
-zero-min a b none = omega (arith, none)
-
-min-self : (a b : ℕ) → b ≡ a → min a b ≡ a
-min-self a b same = omega (arith, same)
-
--- its bits
-lowest_cleared : (set k : ℕ) → bit_at set k ≡ 1 → ((i : ℕ) → i < k → bit_at set i ≡ 0) → (bit_at (cleared set) k ≡ 0) × ((i : ℕ) → i ≢ k → bit_at (cleared set) i ≡ bit_at set i)
-lowest_cleared set k is none =
-    let less = one_less k set is none in (
-      bit_at_and set (set - 1) k ∙ ap (λ (b : ℕ). min (bit_at set k) b) less.0 ∙ min-zero (bit_at set k),
-      λ i other. bit_at_and set (set - 1) i ∙ elim (cases_lt i k) [
-        | inl below ↦ zero-min (bit_at set i) (bit_at (set - 1) i) (none i below)
-        | inr above ↦ min-self (bit_at set i) (bit_at (set - 1) i) (less.1 i (past i other above))
-      ],
-    )
-  where
-    past : (i : ℕ) → i ≢ k → k ≤ i → k < i
-    past i other above = elim (eq-or-lt_of_le above) [ inl same ↦ absurd (other (sym same)) | inr later ↦ later ]
-
-pub marked-lowest : (set : ℕ) → 0 < set → set < 2 ^ 64 → marked set ≡ trailing_zeros w64 set ∷ marked (cleared set)
-marked-lowest set some fits =
-    let lowest = bit_at-trailing_zeros w64 set some fits in
-    let k : ℕ = trailing_zeros w64 set in
-    let less = lowest_cleared set k lowest.1 lowest.2 in
-    first_among places 64 places-are (has_bit set) (has_bit (cleared set)) k lowest.0
-    (set_bit (bit_at set k) lowest.1)
-    (unset_bit (bit_at (cleared set) k) less.0)
-    (λ i below. unset_bit (bit_at set i) (lowest.2 i below))
-    (λ i below other. ap (λ b. b == 1) (less.1 i other))
 
 keeps_none : (xs : List ℕ) → filter (λ _. false) xs ≡ []
 keeps_none [] = refl
 keeps_none (x ∷ xs) = keeps_none xs
 
-pub marked-none : marked 0 ≡ []
-marked-none = filter_agree (has_bit 0) (λ _. false) (λ i. unset_bit (bit_at 0 i) (bit_at-zero i)) places ∙ keeps_none places
+pub marked-none : (dir : Dir) → marked dir 0 ≡ []
+marked-none dir = filter_agree (λ place. has_bit 0 (floor_rank dir place)) (λ _. false) (λ i. unset_bit (bit_at 0 (floor_rank dir i)) (bit_at-zero (floor_rank dir i))) places ∙ keeps_none places
 
 -- ---- a floor joins a set
 
@@ -144,54 +125,6 @@ bit_joins set floor place below = elim (cases_eq floor place) [
       let bit : has_bit (bit_or set (1 * 2 ^ floor % 2 ^ 64)) place ≡ has_bit set place = ap (λ b. b == 1) (bit_at_set_other w64 set floor below place (λ same. other (sym same))) in
       bit ∙ or_false (has_bit set place) ∙ ap (λ b. has_bit set place || b) (sym differs)
 ]
-
--- ---- a set turned round
-
-doubled : (a n : ℕ) → (a * 2 + n % 2) / 2 ≡ a
-doubled a n = omega arith
-
-onto_kept : (k n a j : ℕ) → bit_at (reverse_bits_onto k n a) (k + j) ≡ bit_at a j
-unfolding reverse_bits_onto
-onto_kept zero n a j = ap (bit_at a) (omega arith)
-onto_kept (suc k) n a j =
-    let place : suc k + j ≡ k + suc j = omega arith in
-    ap (bit_at (reverse_bits_onto k (n / 2) (a * 2 + n % 2))) place
-    ∙ onto_kept k (n / 2) (a * 2 + n % 2) (suc j)
-    ∙ bit_at-suc (a * 2 + n % 2) j
-    ∙ ap (λ (m : ℕ). bit_at m j) (doubled a n)
-
-onto_turned : (k n a i : ℕ) → i < k → bit_at (reverse_bits_onto k n a) i ≡ bit_at n (k - 1 - i)
-unfolding reverse_bits_onto
-onto_turned zero n a i below = absurd (omega (arith, below))
-onto_turned (suc k) n a i below = elim (cases_lt i k) [
-  | inl lower ↦
-      let place : suc (k - 1 - i) ≡ suc k - 1 - i = omega (arith, lower) in
-      onto_turned k (n / 2) (a * 2 + n % 2) i lower ∙ sym (bit_at-suc n (k - 1 - i)) ∙ ap (bit_at n) place
-  | inr last ↦
-      let here : i ≡ k + 0 = omega (arith, below, last) in
-      let lowest : suc k - 1 - i ≡ 0 = omega (arith, below, last) in
-      ap (bit_at (reverse_bits_onto k (n / 2) (a * 2 + n % 2))) here
-      ∙ onto_kept k (n / 2) (a * 2 + n % 2) 0
-      ∙ bit_at_lowest (a * 2 + n % 2) ∙ omega arith
-      ∙ sym (bit_at_lowest n) ∙ ap (bit_at n) (sym lowest)
-]
-
-pub turned : (set place : ℕ) → place < 64 → has_bit (reverse_bits w64 set) place ≡ has_bit set (63 - place)
-turned set place below =
-    let other : 64 - 1 - place ≡ 63 - place = omega arith in
-    ap (λ b. b == 1) (onto_turned 64 set 0 place below ∙ ap (bit_at set) other)
-
-rank_below : (dir : Dir) (place : ℕ) → place < 64 → floor_rank dir place < 64
-rank_below Up place below = below
-rank_below Down place below = omega arith
-
--- by the places of each pass the floors that are needed are its halts
-pub legs_along : (rows : List Row) (position : Position) (legs marks : Marks) → HasLegs rows position legs
-    → ((pass : Pass) (place : ℕ) → place < 64 → has_bit (set_in marks pass) place ≡ has_bit (set_in legs pass) (floor_rank (dir_in position.dir pass) place)) → HasHalts rows position marks
-legs_along rows position legs marks has bits = record {
-  needed = λ pass place below.
-      bits pass place below ∙ has.needed pass (floor_rank (dir_in position.dir pass) place) (rank_below (dir_in position.dir pass) place below);
-}
 
 -- ---- the halts that are marked
 
@@ -222,7 +155,8 @@ pass_marked : (rows : List Row) (position : Position) (marks : Marks) (pass : Pa
 pass_marked rows position marks pass has =
     let dir : Dir = dir_in position.dir pass in
     let needed : ℕ → Bool = λ place. is_needed rows position (halt_on pass dir place) in
-    let agree : filter (has_bit (set_in marks pass)) places ≡ filter needed places = filter-agree (has_bit (set_in marks pass)) needed places (λ place member. has.needed pass place (places-below place member)) in
+    let marked_here : ℕ → Bool = λ place. has_bit (set_in marks pass) (floor_rank dir place) in
+    let agree : filter marked_here places ≡ filter needed places = filter-agree marked_here needed places (λ place member. has.needed pass (floor_rank dir place) (rank_below dir place (places-below place member))) in
     let all : halts_in position.dir pass ≡ map (halt_on pass dir) places = ap (map (halt_at pass)) (along dir) ∙ map_twice (halt_at pass) (floor_rank dir) places in
     ap (map (halt_on pass dir)) agree ∙ sym (filter_map (is_needed rows position) (halt_on pass dir) places) ∙ ap (filter (is_needed rows position)) (sym all)
 

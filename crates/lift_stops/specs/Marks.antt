@@ -11,9 +11,9 @@ use Rattle.lift_base.specs.declared.travel.Halt.{Halt}
 use Rattle.lift_base.specs.declared.history.Row.{Row}
 use Rattle.lift_stops.specs.declared.marks.Marks.{Marks}
 use Rattle.lift_stops.specs.Insertion.{floor_rank}
-use Rattle.lift_stops.specs.StopList.{dir_in, is_needed}
+use Rattle.lift_stops.specs.StopList.{is_needed}
 
--- the bit at a place is set
+-- a floor is in a set
 abbrev pub has_bit : ℕ → ℕ → Bool
 has_bit set place = bit_at set place == 1
 
@@ -21,17 +21,17 @@ has_bit set place = bit_at set place == 1
 unfoldable pub places : List ℕ
 places = range_with_len 0 64
 
--- the places whose bits are set, in order
-abbrev pub marked : ℕ → List ℕ
-marked set = filter (has_bit set) places
+-- the places of a pass in this direction whose floors are in a set, in order
+abbrev pub marked : Dir → ℕ → List ℕ
+marked dir set = filter (λ place. has_bit set (floor_rank dir place)) places
 
 -- the halt at a place of a pass in this direction
 abbrev pub halt_on : Pass → Dir → ℕ → Halt
 halt_on pass dir place = record { pass = pass; floor = floor_rank dir place }
 
--- the halts at these places
+-- the halts at these floors
 abbrev pub halts_marked : Pass → Dir → ℕ → List Halt
-halts_marked pass dir set = map (halt_on pass dir) (marked set)
+halts_marked pass dir set = map (halt_on pass dir) (marked dir set)
 
 -- the halts of all three passes of a car in this direction
 abbrev pub all_marked : Marks → Dir → List Halt
@@ -47,12 +47,6 @@ set_in marks Third = marks.third
 
 -- Those halts are marked that some call needs.
 pub record HasHalts (rows : List Row) (position : Position) (marks : Marks) : Type 0 where
-  pub needed : (pass : Pass) (place : ℕ) → place < 64
-      → has_bit (set_in marks pass) place
-      ≡ is_needed rows position (halt_on pass (dir_in position.dir pass) place)
-
--- For each pass those floors are in its set at which some call needs a halt.
-pub record HasLegs (rows : List Row) (position : Position) (marks : Marks) : Type 0 where
   pub needed : (pass : Pass) (floor : ℕ) → floor < 64
       → has_bit (set_in marks pass) floor
       ≡ is_needed rows position (record { pass = pass; floor = floor })

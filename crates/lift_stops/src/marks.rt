@@ -1,15 +1,14 @@
 //! A car's halts made from its open calls, by sets of bits.
 
 ghost use Rattle.std.specs.Prelude.{◌≡◌, ℕ, ◌+◌, ◌*◌, ◌<◌, ◌≤◌, ◌==◌, ◌||◌, List, [], ◌∷◌, ◌++◌, All};
-ghost use Rattle.std.specs.Prelude.{length};
+ghost use Rattle.std.specs.Prelude.{length, true, false};
 ghost use Rattle.std.specs.List.{list_any};
-ghost use Rattle.lift_base.specs.History.{dir_of};
 ghost use Rattle.lift_base.specs.declared.travel.Position.{Position as PositionValue};
 ghost use Rattle.lift_base.specs.declared.history.Row.{Row as RowValue};
 ghost use Rattle.lift_stops.specs.Insertion.{floor_rank};
 ghost use Rattle.lift_stops.specs.StopList.{HasFloors, legs_of, pass_of, stop_list};
 ghost use Rattle.lift_stops.specs.Leaving.{AreLeaving};
-ghost use Rattle.lift_stops.specs.Marks.{HasHalts, HasLegs, has_bit, marked, halt_on, halts_marked};
+ghost use Rattle.lift_stops.specs.Marks.{HasHalts, has_bit, marked, halts_marked};
 ghost use Rattle.lift_stops.specs.Marks.{all_marked};
 
 use crate::leaving::Leaving;
@@ -17,9 +16,7 @@ use crate::stops::pass_of;
 use arrayvec::ArrayVec;
 use lift_base::{Dir, Floor, Halt, MOST_HALTS, Pass, Position, Row};
 
-/// The halts of a car, a set for each pass. As they are gathered, bit n of a set stands for floor n;
-/// as they are written, for the floor before which a car that travels all floors in the pass's
-/// direction reaches n others.
+/// The halts of a car, a set for each pass. Bit n of a set stands for floor n.
 #[derive(Clone, Copy)]
 struct Marks {
     first: u64,
@@ -40,16 +37,12 @@ pub fn bit_of(dir: Dir, floor: Floor) -> u32
     }
 }
 
-/// The halt at a place of a pass in this direction.
-fn halt_on(pass: Pass, dir: Dir, place: u32) -> Halt
-    requires { place < 64 }
-    ensures { result ≡ halt_on pass dir place }
+/// The halt at this floor in a pass.
+fn halt_at(pass: Pass, floor: u32) -> Halt
+    requires { floor < 64 }
+    ensures { result ≡ record { pass = pass; floor = floor } }
 {
-    let number = match dir {
-        Dir::Up => place as u8,
-        Dir::Down => 63 - place as u8,
-    };
-    let floor = Floor::new(number).unwrap_or_default();
+    let floor = Floor::new(floor as u8).unwrap_or_default();
     Halt { pass, floor }
 }
 
@@ -76,35 +69,37 @@ fn mark_legs(set: u64, row: &Row) -> u64
     }
 }
 
-/// The floors of a set, by how many floors a car that travels all of them in this direction reaches
-/// before each.
-fn along(dir: Dir, set: u64) -> u64
-    ensures { (place : ℕ) → place < 64
-        → has_bit result place ≡ has_bit set (floor_rank dir place) }
+/// The floor of a set that a car reaches first in this direction.
+fn first_of(set: u64, dir: Dir) -> u32
+    requires { 0 < set }
+    ensures below { result < 64 }
+    ensures there { has_bit set result ≡ true }
+    ensures first { (place : ℕ) → place < floor_rank dir result
+        → has_bit set (floor_rank dir place) ≡ false }
 {
     match dir {
-        Dir::Up => set,
-        Dir::Down => set.reverse_bits(),
+        Dir::Up => set.trailing_zeros(),
+        Dir::Down => 63 - set.leading_zeros(),
     }
 }
 
 /// Appends the halts of a pass in this direction, in the order of travel.
 fn push_pass(halts: &mut ArrayVec<Halt, MOST_HALTS>, pass: Pass, dir: Dir, set: u64)
-    requires { length halts.old.items + length (marked set) ≤ 66 }
+    requires { length halts.old.items + length (marked dir set) ≤ 66 }
     ensures { halts.new.items ≡ halts.old.items ++ halts_marked pass dir set }
 {
     let mut left = set;
     while left != 0 {
-        let place = left.trailing_zeros();
-        halts.push(halt_on(pass, dir, place));
-        left &= left - 1;
+        let floor = first_of(left, dir);
+        halts.push(halt_at(pass, floor));
+        left &= !(1 << floor);
     }
 }
 
 impl Marks {
     /// No halts.
     fn new() -> Self
-        ensures { (position : PositionValue) → HasLegs [] position result }
+        ensures { (position : PositionValue) → HasHalts [] position result }
     {
         Marks {
             first: 0,
@@ -116,8 +111,8 @@ impl Marks {
     /// These and the halts of a call that a car makes in this pass.
     fn with(self, pass: Pass, row: &Row) -> Self
         ensures marks { (rows : List RowValue) (position : PositionValue)
-            → pass ≡ pass_of position row.now → HasLegs rows position self
-            → HasLegs (rows ++ row.now ∷ []) position result }
+            → pass ≡ pass_of position row.now → HasHalts rows position self
+            → HasHalts (rows ++ row.now ∷ []) position result }
         ensures floors { HasFloors row.now }
     {
         match pass {
@@ -133,18 +128,6 @@ impl Marks {
                 third: mark_legs(self.third, row),
                 ..self
             },
-        }
-    }
-
-    /// The same in the order in which a car in this direction makes them.
-    fn along(self, dir: Dir) -> Self
-        ensures { (rows : List RowValue) (position : PositionValue) → position.dir ≡ dir
-            → HasLegs rows position self → HasHalts rows position result }
-    {
-        Marks {
-            first: along(dir, self.first),
-            second: along(dir.reverse(), self.second),
-            third: along(dir, self.third),
         }
     }
 
@@ -170,13 +153,14 @@ fn marks_of(rows: &[Row], position: &Position, leaving: &mut Leaving) -> Marks
     ensures floors { All HasFloors rows.now }
     ensures leaving { AreLeaving rows.now position.now leaving.new }
 {
+    let Position { floor, dir } = *position;
     let mut marks = Marks::new();
     for row in rows {
-        let pass = pass_of(row, *position);
+        let pass = pass_of(row, Position { floor, dir });
         marks = marks.with(pass, row);
         leaving.add(pass, row);
     }
-    marks.along(position.dir)
+    marks
 }
 
 /// Writes the halts that a car at this position still has to make for these calls, in the order in

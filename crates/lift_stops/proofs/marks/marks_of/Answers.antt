@@ -1,10 +1,8 @@
-use Rattle.std.proofs.Common.{arith, ap, refl, subst, List, length, take}
-use Rattle.std.proofs.lemmas.List.{take_more, take_all, length-take-le}
+use Rattle.std.proofs.Common.{arith, ap, List, length, take}
+use Rattle.std.proofs.lemmas.List.{take_more, length-take-le}
 use Rattle.std.proofs.lemmas.List.Elements.{All-push, All-nil}
 use Rattle.lift_base.specs.declared.travel.Halt.{Halt}
-use Rattle.lift_base.specs.declared.history.Row.{Row}
 use Rattle.lift_stops.specs.StopList.{HasFloors}
-use Rattle.lift_stops.specs.Marks.{HasLegs}
 use Rattle.lift_stops.specs.lemmas.Halts.{stop_list-none}
 use Rattle.lift_stops.proofs.Marked.{length-push}
 use Rattle.lift_stops.proofs.marks.marks_of.Goals as goal
@@ -26,10 +24,3 @@ loop-row-preserved c =
       floors = All-push HasFloors (take c.loop-row.row-index c.args.rows.now) c.row-item.result c.loop-row.invariant.floors c.with-marks.ensures.floors;
       leaving = c.add.ensures.added (take c.loop-row.row-index c.args.rows.now) c.args.position.now (let before = length-take-le c.loop-row.row-index c.args.rows.now (omega arith) in omega (arith, before)) c.pass_of-pass.ensures c.loop-row.invariant.leaving;
     })
-
-pub returns-clause-marks : goal.returns-clause-marks
-returns-clause-marks c =
-    let rows : List Row = c.args.rows.now in
-    let position = c.args.position.now in
-    let all = take_all c.loop-row.row-index rows c.loop-row-test.false in
-    c.along.ensures rows position refl (subst (λ (rs : List Row). HasLegs rs position c.loop-row.marks) all c.loop-row.invariant.marks)
