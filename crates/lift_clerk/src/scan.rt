@@ -41,14 +41,14 @@ fn decide<D: Disk, P: Policy>(
     keeper: &mut Keeper<'_, D>,
     policy: &P,
     terminal: Terminal,
-    ask: &Ask,
+    ask: Ask,
 ) -> Reply
     requires room { keeper.old.writer.is_broken ≡ false → length keeper.old.state.batch < 63 }
     ensures broken { keeper.old.writer.is_broken ≡ true
         → (result ≡ ReplyValue.Unknown) × (keeper.new ≡ keeper.old) }
     ensures step { keeper.old.writer.is_broken ≡ false
         → Step keeper.old.writer.plan
-        (P.chooses policy.now) keeper.old.state terminal ask.now.number ask.now.body result
+        (P.chooses policy.now) keeper.old.state terminal ask.number ask.body result
         keeper.new.state }
     ensures grows { keeper.old.writer.is_broken ≡ false
         → length keeper.new.state.batch ≤ length keeper.old.state.batch + 1 }
@@ -66,14 +66,14 @@ fn answer_to<D: Disk, P: Policy>(
     keeper: &mut Keeper<'_, D>,
     policy: &P,
     terminal: Terminal,
-    ask: &Option<Ask>,
+    ask: Option<Ask>,
 ) -> Option<Answer>
     requires room { keeper.old.writer.is_broken ≡ false → length keeper.old.state.batch < 63 }
     ensures terminal { terminals_in (option_to_list result)
-        ≡ terminals_of (command_at terminal ask.now) }
+        ≡ terminals_of (command_at terminal ask) }
     ensures decides { Decides keeper.old.writer.is_broken keeper.old.writer.plan
         (P.chooses policy.now) keeper.old.state
-        (command_at terminal ask.now) (replies_in (option_to_list result)) keeper.new.state }
+        (command_at terminal ask) (replies_in (option_to_list result)) keeper.new.state }
     ensures grows { keeper.old.writer.is_broken ≡ false
         → length keeper.new.state.batch ≤ length keeper.old.state.batch + 1 }
     ensures writer { keeper.new.writer ≡ keeper.old.writer }
@@ -117,7 +117,7 @@ pub fn scan<D: Disk, P: Policy>(
     for t in 0..desk.len() {
         let terminal = terminal_at(t);
         let ask = desk.look(seat, terminal);
-        let answer = answer_to(keeper, policy, terminal, &ask);
+        let answer = answer_to(keeper, policy, terminal, ask);
         push_some(answers, answer);
     }
 }
