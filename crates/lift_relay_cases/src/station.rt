@@ -31,10 +31,8 @@ impl<'d, 'b> Station<'d, 'b> {
 
     /// What a line asks for, where it is well formed and all that it names is there.
     pub(crate) fn line(&self, text: &str) -> Option<ScriptLine> {
-        match parse(text) {
-            Some(line) if line.is_known(self.building) => Some(line),
-            _ => None,
-        }
+        let line = parse(text)?;
+        line.is_known(self.building).then_some(line)
     }
 
     /// A terminal of the building asks.
