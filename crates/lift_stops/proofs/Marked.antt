@@ -1,12 +1,12 @@
 -- Bits of a set, and the halts that they stand for.
-use Rattle.std.proofs.Common.{All, take, get_or, ◌≡◌, ◌≢◌, ℕ, zero, suc, ◌+◌, ◌-◌, ◌*◌, ◌^◌, ◌/◌, ◌%◌, ◌<◌, ◌≤◌, ◌==◌, ◌||◌, Bool, true, false, cond, List, [], ◌∷◌, ◌++◌, map, filter, length, refl, sym, ap, subst, ◌∙◌, arith, inl, inr}
-use Rattle.std.specs.Int.{bit_at, bit_not, w64}
+use Rattle.std.proofs.Common.{All, take, get_or, ◌≡◌, ◌≢◌, ℕ, zero, suc, ◌+◌, ◌-◌, ◌*◌, ◌^◌, ◌/◌, ◌%◌, min, ◌<◌, ◌≤◌, ◌==◌, ◌||◌, Bool, true, false, cond, List, [], ◌∷◌, ◌++◌, map, filter, length, refl, sym, ap, subst, ◌∙◌, arith, inl, inr}
+use Rattle.std.specs.Int.{bit_at, bit_not, trailing_zeros, w64}
 use Rattle.std.specs.Int.RustNames.{bit_or}
 use lib.Bits.{bit_and}
 use Rattle.std.specs.List.{range_with_len}
 use Rattle.std.proofs.Math.Nat.{eq-or-lt_of_le, pow-suc}
-use Rattle.std.proofs.lemmas.Bool.{cases_eq, eq-eqb, ne_eqb}
-use Rattle.std.proofs.lemmas.Nat.Bits.{bit_at-zero, bit_at_set_same, bit_at_set_other, bit_at_clear_same, bit_at_clear_other, bit_at_lowest, bit_at-suc, bit_at_above}
+use Rattle.std.proofs.lemmas.Bool.{cases_eq, cases_lt, eq-eqb, ne_eqb}
+use Rattle.std.proofs.lemmas.Nat.Bits.{bit_at-zero, bit_at_set_same, bit_at_set_other, bit_at_clear_same, bit_at_clear_other, bit_at_lowest, bit_at-suc, bit_at_above, bit_at_and, bit_at-trailing_zeros}
 use Rattle.std.proofs.lemmas.Nat.{leading_top}
 use Rattle.std.specs.Int.Count.{count_leading_zeros}
 use Rattle.std.proofs.lemmas.List.{take_more, take_all}
@@ -74,16 +74,69 @@ pub rank_twice : (dir : Dir) (place : ℕ) → place < 64 → floor_rank dir (fl
 rank_twice Up place below = refl
 rank_twice Down place below = omega (arith, below)
 
-pub marked-first : (dir : Dir) (set floor : ℕ) → floor < 64 → has_bit set floor ≡ true → ((place : ℕ) → place < floor_rank dir floor → has_bit set (floor_rank dir place) ≡ false)
-    → marked dir set ≡ floor_rank dir floor ∷ marked dir (cleared set floor)
-marked-first dir set floor low there first =
-    let k : ℕ = floor_rank dir floor in
+-- the first floor of a set in a direction, and the others
+marked-first : (dir : Dir) (set others floor : ℕ) → floor < 64 → has_bit set floor ≡ true → ((place : ℕ) → place < floor_rank dir floor → has_bit set (floor_rank dir place) ≡ false)
+    → has_bit others floor ≡ false → ((other : ℕ) → other < 64 → other ≢ floor → has_bit others other ≡ has_bit set other) → marked dir set ≡ floor_rank dir floor ∷ marked dir others
+marked-first dir set others floor low there first gone stay =
     let back = rank_twice dir floor low in
-    first_among places 64 places-are (λ place. has_bit set (floor_rank dir place)) (λ place. has_bit (cleared set floor) (floor_rank dir place)) k (rank_below dir floor low)
-    (ap (has_bit set) back ∙ there)
-    (ap (has_bit (cleared set floor)) back ∙ unset_bit (bit_at (cleared set floor) floor) (bit_at_clear_same w64 set floor low))
-    first
-    (λ i below other. ap (λ b. b == 1) (bit_at_clear_other w64 set floor low (floor_rank dir i) (rank_below dir i below) (λ same. other (sym (rank_twice dir i below) ∙ ap (floor_rank dir) same))))
+    first_among places 64 places-are (λ place. has_bit set (floor_rank dir place)) (λ place. has_bit others (floor_rank dir place)) (floor_rank dir floor) (rank_below dir floor low)
+    (ap (has_bit set) back ∙ there) (ap (has_bit others) back ∙ gone) first
+    (λ i below other. stay (floor_rank dir i) (rank_below dir i below) (λ same. other (sym (rank_twice dir i below) ∙ ap (floor_rank dir) same)))
+
+-- one less has other bits up to the lowest bit that is set
+one_less : (k n : ℕ) → bit_at n k ≡ 1 → ((i : ℕ) → i < k → bit_at n i ≡ 0) → (bit_at (n - 1) k ≡ 0) × ((i : ℕ) → k < i → bit_at (n - 1) i ≡ bit_at n i)
+one_less zero n is none =
+    let odd : n % 2 ≡ 1 = sym (bit_at_lowest n) ∙ is in
+    let half : (n - 1) / 2 ≡ n / 2 = omega (arith, odd) in (
+      bit_at_lowest (n - 1) ∙ omega (arith, odd),
+      λ i above. later i above half,
+    )
+  where
+    later : (i : ℕ) → 0 < i → (n - 1) / 2 ≡ n / 2 → bit_at (n - 1) i ≡ bit_at n i
+    later zero above half = absurd (omega (arith, above))
+    later (suc i) above half = bit_at-suc (n - 1) i ∙ ap (λ (m : ℕ). bit_at m i) half ∙ sym (bit_at-suc n i)
+one_less (suc k) n is none =
+    let even : n % 2 ≡ 0 = sym (bit_at_lowest n) ∙ none 0 (omega arith) in
+    let half : (n - 1) / 2 ≡ n / 2 - 1 = omega (arith, even) in
+    let rest = one_less k (n / 2) (sym (bit_at-suc n k) ∙ is) (λ i below. sym (bit_at-suc n i) ∙ none (suc i) (omega (arith, below))) in (
+      bit_at-suc (n - 1) k ∙ ap (λ (m : ℕ). bit_at m k) half ∙ rest.0,
+      λ i above. later i above half rest.1,
+    )
+  where
+    later : (i : ℕ) → suc k < i → (n - 1) / 2 ≡ n / 2 - 1 → ((j : ℕ) → k < j → bit_at (n / 2 - 1) j ≡ bit_at (n / 2) j) → bit_at (n - 1) i ≡ bit_at n i
+    later zero above half rest = absurd (omega (arith, above))
+    later (suc i) above half rest = bit_at-suc (n - 1) i ∙ ap (λ (m : ℕ). bit_at m i) half ∙ rest i (omega (arith, above)) ∙ sym (bit_at-suc n i)
+
+min-zero : (a : ℕ) → min a 0 ≡ 0
+min-zero a = omega arith
+
+zero-min : (a b : ℕ) → a ≡ 0 → min a b ≡ a
+zero-min a b none = omega (arith, none)
+
+min-self : (a b : ℕ) → b ≡ a → min a b ≡ a
+min-self a b same = omega (arith, same)
+
+-- its bits
+lowest_cleared : (set k : ℕ) → bit_at set k ≡ 1 → ((i : ℕ) → i < k → bit_at set i ≡ 0) → (bit_at (bit_and set (set - 1)) k ≡ 0) × ((i : ℕ) → i ≢ k → bit_at (bit_and set (set - 1)) i ≡ bit_at set i)
+lowest_cleared set k is none =
+    let less = one_less k set is none in (
+      bit_at_and set (set - 1) k ∙ ap (λ (b : ℕ). min (bit_at set k) b) less.0 ∙ min-zero (bit_at set k),
+      λ i other. bit_at_and set (set - 1) i ∙ elim (cases_lt i k) [
+        | inl below ↦ zero-min (bit_at set i) (bit_at (set - 1) i) (none i below)
+        | inr above ↦ min-self (bit_at set i) (bit_at (set - 1) i) (less.1 i (past i other above))
+      ],
+    )
+  where
+    past : (i : ℕ) → i ≢ k → k ≤ i → k < i
+    past i other above = elim (eq-or-lt_of_le above) [ inl same ↦ absurd (other (sym same)) | inr later ↦ later ]
+
+pub first-up : (set : ℕ) → 0 < set → set < 2 ^ 64 → marked Up set ≡ trailing_zeros w64 set ∷ marked Up (bit_and set (set - 1))
+first-up set some fits =
+    let lowest = bit_at-trailing_zeros w64 set some fits in
+    let k : ℕ = trailing_zeros w64 set in
+    let less = lowest_cleared set k lowest.1 lowest.2 in
+    marked-first Up set (bit_and set (set - 1)) k lowest.0 (set_bit (bit_at set k) lowest.1) (λ i below. unset_bit (bit_at set i) (lowest.2 i below))
+    (unset_bit (bit_at (bit_and set (set - 1)) k) less.0) (λ i below other. ap (λ b. b == 1) (less.1 i other))
 
 -- the highest bit of a set is its last floor
 top_bit : (j set : ℕ) → 2 ^ j ≤ set → set < 2 ^ suc j → bit_at set j ≡ 1
@@ -93,13 +146,18 @@ top_bit (suc j) set some below =
     let more : 2 ^ suc (suc j) ≡ 2 * 2 ^ suc j = omega (arith, pow-suc 2 (suc j)) in
     bit_at-suc set j ∙ top_bit j (set / 2) (omega (arith, some, double)) (omega (arith, below, more))
 
-pub last-set : (set : ℕ) → 0 < set → set < 2 ^ 64 → (has_bit set (63 - count_leading_zeros 64 set) ≡ true) × ((place : ℕ) → place < 63 - (63 - count_leading_zeros 64 set) → has_bit set (63 - place) ≡ false)
-last-set set some fits =
+pub first-down : (set : ℕ) → 0 < set → set < 2 ^ 64
+    → marked Down set ≡ (63 - (63 - count_leading_zeros 64 set)) ∷ marked Down (cleared set (63 - count_leading_zeros 64 set))
+first-down set some fits =
     let (j, count, low, high) = leading_top 64 set some fits in
-    let here : 63 - count_leading_zeros 64 set ≡ j = omega (arith, count) in (
-      ap (has_bit set) here ∙ set_bit (bit_at set j) (top_bit j set low high),
-      λ place before. unset_bit (bit_at set (63 - place)) (bit_at_above set (suc j) (63 - place) high (omega (arith, count, before))),
-    )
+    let floor : ℕ = 63 - count_leading_zeros 64 set in
+    let here : floor ≡ j = omega (arith, count) in
+    let below : floor < 64 = omega arith in
+    marked-first Down set (cleared set floor) floor below
+    (ap (has_bit set) here ∙ set_bit (bit_at set j) (top_bit j set low high))
+    (λ place before. unset_bit (bit_at set (63 - place)) (bit_at_above set (suc j) (63 - place) high (omega (arith, count, before))))
+    (unset_bit (bit_at (cleared set floor) floor) (bit_at_clear_same w64 set floor below))
+    (λ i low other. ap (λ b. b == 1) (bit_at_clear_other w64 set floor below i low other))
 
 keeps_none : (xs : List ℕ) → filter (λ _. false) xs ≡ []
 keeps_none [] = refl

@@ -69,17 +69,18 @@ fn mark_legs(set: u64, row: &Row) -> u64
     }
 }
 
-/// The floor of a set that a car reaches first in this direction.
-fn first_of(set: u64, dir: Dir) -> u32
+/// The floor of a set that a car reaches first in this direction, and the set of the others.
+fn first_of(set: u64, dir: Dir) -> (u32, u64)
     requires { 0 < set }
-    ensures below { result < 64 }
-    ensures there { has_bit set result ≡ true }
-    ensures first { (place : ℕ) → place < floor_rank dir result
-        → has_bit set (floor_rank dir place) ≡ false }
+    ensures below { result.0 < 64 }
+    ensures first { marked dir set ≡ floor_rank dir result.0 ∷ marked dir result.1 }
 {
     match dir {
-        Dir::Up => set.trailing_zeros(),
-        Dir::Down => 63 - set.leading_zeros(),
+        Dir::Up => (set.trailing_zeros(), set & (set - 1)),
+        Dir::Down => {
+            let floor = 63 - set.leading_zeros();
+            (floor, set & !(1 << floor))
+        }
     }
 }
 
@@ -90,9 +91,9 @@ fn push_pass(halts: &mut ArrayVec<Halt, MOST_HALTS>, pass: Pass, dir: Dir, set: 
 {
     let mut left = set;
     while left != 0 {
-        let floor = first_of(left, dir);
+        let (floor, others) = first_of(left, dir);
         halts.push(halt_at(pass, floor));
-        left &= !(1 << floor);
+        left = others;
     }
 }
 
