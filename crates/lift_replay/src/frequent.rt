@@ -88,6 +88,7 @@ fn car_before_space(text: &[u8]) -> Option<(u8, &[u8])>
 }
 
 /// The direction that a whole text names.
+#[inline(always)]
 fn last_dir(text: &[u8]) -> Option<Dir>
     ensures { IfSome result (λ dir. text.now ≡ dir_text dir) }
 {

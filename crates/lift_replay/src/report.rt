@@ -35,6 +35,7 @@ fn push_number(report: &mut String, number: u64) -> Result<(), NoMemory>
 }
 
 /// Adds the name of a terminal.
+#[inline(always)]
 fn push_terminal(report: &mut String, terminal: Terminal) -> Result<(), NoMemory>
     ensures { OnOk result (string_bytes report.new ≡ string_bytes report.old
         ++ terminal_text terminal) }
@@ -209,6 +210,7 @@ pub fn push_halt(report: &mut String, halt: &Halt) -> Result<(), NoMemory>
 }
 
 /// Adds what a terminal heard.
+#[inline(always)]
 pub fn push_heard(
     report: &mut String,
     terminal: Terminal,

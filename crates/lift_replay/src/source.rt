@@ -11,6 +11,7 @@ use memchr::memchr;
 use std::alloc::Global;
 
 /// The text before the first line feed and the text after it, none where there is no line feed.
+#[inline(always)]
 fn split_at_end(text: &str) -> Option<(&str, &str)>
     ensures cut { IfSome result (λ parts. text.now ≡ parts.0.now ++ 10 ∷ parts.1.now) }
     ensures first { IfSome result (λ parts. All (λ other. other ≢ 10) parts.0.now) }
