@@ -239,8 +239,8 @@ impl<'s> Pace<'s> {
         }
     }
 
-    /// Whether no more than so many batches are still to be flushed.
-    fn is_behind(&self, sent: u64, batches: u64) -> bool {
+    /// Whether no more than so many batches of those that were sent are still to be flushed.
+    fn has_flushed_all_but(&self, sent: u64, batches: u64) -> bool {
         sent <= self
             .bells
             .flushed
@@ -251,7 +251,7 @@ impl<'s> Pace<'s> {
     /// Waits until the flusher has one batch in hand at most.
     fn wait_for_room<R: Wait>(&self, rt: &R, sent: u64) {
         for _ in rt.forever() {
-            if self.is_behind(sent, 1) || !self.go_on() {
+            if self.has_flushed_all_but(sent, 1) || !self.go_on() {
                 break;
             }
             self.bells.room.park(rt);
@@ -265,7 +265,7 @@ impl<'s> Pace<'s> {
         let asks = &self.bells.asks;
         let last = self.last.load(Ordering::SeqCst);
         let enough = last.max(self.before.load(Ordering::SeqCst));
-        if asks.wants(enough) && !self.is_behind(sent, 0) && self.go_on() {
+        if asks.wants(enough) && !self.has_flushed_all_but(sent, 0) && self.go_on() {
             asks.parker
                 .park_timeout(rt, Duration::from_millis(AHEAD_MS));
         }
