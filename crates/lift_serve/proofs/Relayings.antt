@@ -140,7 +140,7 @@ not_run choice state a f of_one = record {
   broken = λ of is. absurd (not_spawn of (sym is));
   stay = record {
     same_allocator = record { line = refl; desk = refl; plan = refl; policy = refl; start = refl };
-    same_flusher = record { line = refl; desk = refl; plan = refl; half = refl; opened = refl };
+    same_flusher = record { line = refl; desk = refl; plan = refl; half = refl; failures_at_opening = refl };
     of_one = of_one;
   };
 }
