@@ -59,6 +59,63 @@ fn cut(relay: Relay<'_, '_>, outcome: Outcome) -> Result<MemDisk, Trouble> {
     Ok(keeper.into_disk().into_inner().cut(outcome))
 }
 
+/// Carries out a line that asks or turns.
+fn serve<R: Wait>(
+    rt: &R,
+    station: &mut Station,
+    relay: &mut Relay,
+    line: &ScriptLine,
+    report: &mut String,
+) -> Result<(), Trouble> {
+    if *line != ScriptLine::Turn {
+        return station.ask_line(report, line);
+    }
+    let turned = relay.turn(rt)?;
+    station.push_turned(report, turned)
+}
+
+/// Whether a line asks or turns.
+fn is_served(line: &ScriptLine) -> bool {
+    matches!(
+        line,
+        ScriptLine::Place { .. }
+            | ScriptLine::Stop { .. }
+            | ScriptLine::Call { .. }
+            | ScriptLine::Turn
+    )
+}
+
+/// Carries out a line that cuts no power.
+fn carry_out<'d, 'b, R: Wait>(
+    rt: &R,
+    alloc: Global,
+    station: &mut Station<'d, 'b>,
+    relay: Relay<'d, 'b>,
+    line: &ScriptLine,
+    report: &mut String,
+) -> Result<Relay<'d, 'b>, Trouble> {
+    if !is_served(line) {
+        return on_clerk(alloc, report, relay, line);
+    }
+    let mut relay = relay;
+    serve(rt, station, &mut relay, line, report)?;
+    Ok(relay)
+}
+
+/// What a line asks for, or the report tells that it is malformed.
+fn line_of(
+    station: &Station,
+    number: usize,
+    text: &str,
+    report: &mut String,
+) -> Result<ScriptLine, Trouble> {
+    let Some(line) = station.line(text) else {
+        push_bad(report, number)?;
+        return Err(Trouble::Bad);
+    };
+    Ok(line)
+}
+
 /// Carries out lines at a desk, up to the end of the run or to a power cut, which has left what it
 /// gives.
 fn run_at<'d, 'b, R: Wait>(
@@ -77,18 +134,11 @@ fn run_at<'d, 'b, R: Wait>(
         if text.is_empty() || text.starts_with('#') {
             continue;
         }
-        let Some(line) = station.line(text) else {
-            push_bad(report, number)?;
-            return Err(Trouble::Bad);
-        };
-        match line {
-            ScriptLine::Place { .. } | ScriptLine::Stop { .. } | ScriptLine::Call { .. } => {
-                station.ask_line(report, &line)?;
-            }
-            ScriptLine::Turn => station.push_turned(report, relay.turn(rt)?)?,
-            ScriptLine::Cut { outcome } => return Ok(Some(cut(relay, outcome)?)),
-            _ => relay = on_clerk(alloc, report, relay, &line)?,
+        let line = line_of(station, number, text, report)?;
+        if let ScriptLine::Cut { outcome } = line {
+            return Ok(Some(cut(relay, outcome)?));
         }
+        relay = carry_out(rt, alloc, station, relay, &line, report)?;
     }
     Ok(None)
 }
