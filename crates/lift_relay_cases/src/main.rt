@@ -60,7 +60,7 @@ fn cut(relay: Relay<'_, '_>, outcome: Outcome) -> Result<MemDisk, Trouble> {
 }
 
 /// Carries out a line that asks or turns.
-fn serve<R: Wait>(
+fn ask_or_turn<R: Wait>(
     rt: &R,
     station: &mut Station,
     relay: &mut Relay,
@@ -74,15 +74,9 @@ fn serve<R: Wait>(
     station.push_turned(report, turned)
 }
 
-/// Whether a line asks or turns.
-fn is_served(line: &ScriptLine) -> bool {
-    matches!(
-        line,
-        ScriptLine::Place { .. }
-            | ScriptLine::Stop { .. }
-            | ScriptLine::Call { .. }
-            | ScriptLine::Turn
-    )
+/// Whether a line shows something or sets a fuse, for which the clerk has to be whole.
+fn is_on_clerk(line: &ScriptLine) -> bool {
+    matches!(line, ScriptLine::Show(_) | ScriptLine::Fuse { .. })
 }
 
 /// Carries out a line that cuts no power.
@@ -94,11 +88,11 @@ fn carry_out<'d, 'b, R: Wait>(
     line: &ScriptLine,
     report: &mut String,
 ) -> Result<Relay<'d, 'b>, Trouble> {
-    if !is_served(line) {
+    if is_on_clerk(line) {
         return on_clerk(alloc, report, relay, line);
     }
     let mut relay = relay;
-    serve(rt, station, &mut relay, line, report)?;
+    ask_or_turn(rt, station, &mut relay, line, report)?;
     Ok(relay)
 }
 
