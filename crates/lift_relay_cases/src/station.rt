@@ -32,7 +32,11 @@ impl<'d, 'b> Station<'d, 'b> {
     /// What a line asks for, where it is well formed and all that it names is there.
     pub(crate) fn line(&self, text: &str) -> Option<ScriptLine> {
         let line = parse(text)?;
-        line.is_known(self.building).then_some(line)
+        if line.is_known(self.building) {
+            Some(line)
+        } else {
+            None
+        }
     }
 
     /// A terminal of the building asks.
