@@ -1,6 +1,6 @@
 //! What the program is given, and what its words come to before anything is served.
 
-ghost use Rattle.std.specs.Prelude.{◌≡◌, None, Some, Err, map, IfOk, IfErr, OnOk};
+ghost use Rattle.std.specs.Prelude.{◌≡◌, ◌≢◌, None, Some, Err, map, IfOk, IfErr, OnOk};
 ghost use Rattle.lift_program.specs.declared.fault.Role.TheVariants.{Output};
 ghost use Rattle.lift_program.specs.declared.words.Request.TheVariants.{Replay};
 ghost use Rattle.lift_program.specs.Ends.{AreReadyFor, IsAnswered, IsEndFor, IsEndOf, IsReadyFor};
@@ -44,7 +44,7 @@ pub struct Given<'w, B, I, L, S, R, E> {
     told: PhantomData<E>,
 }
 
-/// Does what the request asks for; but what is to be served is only made ready.
+/// Does what a request asks for of an image; but what is to be served is only made ready.
 #[inline(never)]
 fn done<'b, B: TextOpener, I: FileOpener, L: Listens, R: Read + Drop, W: Outflow, E: Write + Drop>(
     openers: Openers<B, I, ForServing<L>>,
@@ -55,6 +55,7 @@ fn done<'b, B: TextOpener, I: FileOpener, L: Listens, R: Read + Drop, W: Outflow
     writer: &mut W,
 ) -> Result<Ready<'b, BufferedFile<I::Told>, E>, EndBy<I, I::Told>>
     requires range { IsRequestInRange request }
+    requires image { request ≢ Replay }
     requires uncalled { IsUncalled input.old }
     ensures ready { IfOk result (λ ready. IsReadyFor
         (⟦<Files<B, I> as FilesView>⟧.view openers.files) (L.gives openers.socket local) request.entry
@@ -81,10 +82,7 @@ fn done<'b, B: TextOpener, I: FileOpener, L: Listens, R: Read + Drop, W: Outflow
     ensures quiet { IfErr result (λ end. line_at_once end ≡ None) }
 {
     match request {
-        Request::Replay => match replay(alloc, input, writer) {
-            Ok(verdict) => Err(End::Replayed(verdict, openers.unused())),
-            Err(fault) => Err(End::Failed(fault, openers.unused())),
-        },
+        Request::Replay => unreachable!(),
         Request::Format {
             image,
             building,
@@ -206,6 +204,13 @@ impl<'w, B: TextOpener, I: FileOpener, L: Listens, S: AsStr, R: Read + Drop, E: 
         let openers = Openers { files, socket };
         let mut input = Counted::new(reader);
         match request_of(alloc, words) {
+            Ok(Some(Request::Replay)) => {
+                let end = match replay(alloc, &mut input, writer) {
+                    Ok(verdict) => End::Replayed(verdict, openers.unused()),
+                    Err(fault) => End::Failed(fault, openers.unused()),
+                };
+                (Leftover::new(input), Err(end))
+            }
             Ok(Some(request)) => {
                 let outcome = done(openers, alloc, place, request, &mut input, writer);
                 (Leftover::new(input), outcome)

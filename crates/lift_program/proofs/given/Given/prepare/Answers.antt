@@ -1,4 +1,4 @@
-use Rattle.std.proofs.Common.{◌≡◌, ℕ, Option, ap, map, subst, sym}
+use Rattle.std.proofs.Common.{◌≡◌, ℕ, Option, rules, ap, map, subst, sym}
 use Rattle.std.specs.declared.net.tcp.TcpListener.{TcpListener as Listener}
 use Rattle.lift_base.specs.Input.{InputState}
 use Rattle.lift_disk.specs.Below.{buffered_state_of}
@@ -10,7 +10,9 @@ use Rattle.lift_program.specs.Stages.{IsNoText}
 use Rattle.lift_program.specs.Unwritten.{unwritten_state_of}
 use Rattle.lift_program.specs.Words.{AskForRequest}
 use Rattle.lift_program.specs.declared.words.Request.TheVariants.{Replay}
-use Rattle.lift_program.proofs.Asked.{asked_ended, asked_left}
+use Rattle.lift_program.proofs.Asked.{asked_end, asked_ended, asked_left}
+use Rattle.lift_program.proofs.Writing.{report_front}
+use Rattle.lift_program.proofs.given.Given.prepare.Goals.{in-Ok, in-Err-replay}
 use Rattle.lift_program.proofs.given.Given.prepare.Goals as goal
 
 pub returns-in-Ok-Some-clause-end : goal.returns-in-Ok-Some-clause-end
@@ -34,6 +36,27 @@ returns-in-Ok-Some-clause-left g c =
     } in
     let gives : ℕ → Option Listener → Type 0 = g.L.Listens.gives c.args.self.socket local in
     let words = map g.S.AsStr.text c.args.self.words.now in
-    subst (λ (p : InputState g.row.R.Denot × InputState g.row.R.Denot). IsInputLeft g.R.Read.remaining (AskForRequest words Replay) c.args.self.files.image c.done-outcome.result p.0 p.1) (λ i. (c.new-input.ensures i, sym c.new.ensures i))
+    subst (λ (p : InputState g.row.R.Denot × InputState g.row.R.Denot). IsInputLeft g.R.Read.remaining (AskForRequest words Replay) c.args.self.files.image c.done-outcome.result p.0 p.1) (λ i. (c.new-input.ensures i, sym c.new-in-Ok-Some.ensures i))
     (asked_left files gives g.R.Read.remaining words (g.W.Write.contents c.args.writer.now) (g.W.Write.contents c.done-outcome.new.writer) c.in-Ok-Some.request c.done-outcome.result c.new-input.result c.done-outcome.new.input
     (rw c.in-Ok-Some.field-0-is at c.in-Ok-Some.ensures.asked) c.done-outcome.ensures.end c.done-outcome.ensures.left)
+
+pub returns-after-replay-clause-end : goal.returns-after-replay-clause-end
+returns-after-replay-clause-end g c =
+    let files : CommandFiles = record {
+      image = image_files c.args.self.files.image (g.I.FileOpener.stands c.args.self.files.image) (g.I.FileOpener.opens c.args.self.files.image) (g.I.FileOpener.names c.args.self.files.image) (g.I.FileOpener.unnamed c.args.self.files.image) g.I.Told.ToldFile.gives g.I.Told.ToldFile.fails g.I.Told.ToldFile.holds (buffered_state_of (sector_file_state_of g.I.Told.ToldFile.holds)) (buffered_state_of (unwritten_state_of g.I.Told.ToldFile.holds));
+      is_text = λ path. IsTextRead (g.B.TextOpener.opens c.args.self.files.building path) g.B.Text.Read.remaining;
+      is_no_text = λ path. IsNoText (g.B.TextOpener.opens c.args.self.files.building path) g.B.Text.Read.remaining g.B.TextOpener.reads;
+    } in
+    let gives : ℕ → Option Listener → Type 0 = g.L.Listens.gives c.args.self.socket local in
+    let input = g.R.Read.remaining c.args.self.reader in
+    let before = g.W.Write.contents c.args.writer.now in
+    let after = g.W.Write.contents c.replay.new.writer in
+    asked_end files gives input (map g.S.AsStr.text c.args.self.words.now) before after c.match-replay.end Replay (search rules)
+    (elim c.match-replay.branch [
+      | in-Ok w ↦ rw w.end-is (search rules)
+      | in-Err-replay w ↦ rw w.end-is (search rules)
+    ])
+    (elim c.match-replay.branch [
+      | in-Ok w ↦ report_front input before after w.in-Ok.verdict (search rules)
+      | in-Err-replay w ↦ search rules
+    ])
