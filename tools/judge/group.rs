@@ -1880,7 +1880,7 @@ fn run<W: Write>(mut group: Group, lines: &str, report: &mut Report<W>) -> io::R
 
 // The program
 
-/// Why a command ends undone, as it is told on the standard error.
+/// Why a command failed, as it is told on the standard error.
 enum Fault {
     Usage,
     File,

@@ -43,7 +43,7 @@ asked_ended files gives remaining reader read words before after request (Ok rea
 asked_ended {T} {R} files gives remaining reader read words before after request (Err end) same asks is writes =
     asked_end files gives (remaining read) words before after end request asks is (subst (λ (r : R). WritesFor files (remaining r) request before after) same writes)
 
--- only a replay is undone for the standard output with nothing asked of an image
+-- only a replay fails for the standard output with nothing asked of an image
 pub output_of_replay : {T : Type 0} (files : CommandFiles) (gives : ℕ → Option Listener → Type 0) (before after : Option (List ℕ)) (request : Request) (result : Result T (EndOver files)) (unused : files.image.Opener) (P : Type 0) → IfErr result (IsEndFor files gives request before after)
     → (request ≡ Replay → result ≡ Err (Failed (File Output) unused) → P) → result ≡ Err (Failed (File Output) unused) → P
 output_of_replay files gives before after Replay result unused P is holds same = holds refl same

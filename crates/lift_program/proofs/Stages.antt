@@ -221,7 +221,7 @@ recovered_left is_text is_fresh state plan opened left before after fault has fr
       unwritten = r.reopens.writes;
     }
 
--- how the showing of a journal that is undone has left its image
+-- how the showing of a journal that failed has left its image
 shown_left : {D : Type 0} (is_text : List ℕ → Type 0) (is_fresh : D → Type 0) (state : D → DiskState) (plan : Plan) (opened left : D) (before after : Option (List ℕ)) (fault : Fault) → HasBuilding is_text plan
     → is_fresh opened → IsShowingFault fault
     → ((refusal : KeeperFault) → fault ≡ Journal refusal → RefusesReopening plan (state opened) (state left) refusal)

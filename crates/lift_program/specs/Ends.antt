@@ -89,7 +89,7 @@ line_at_once_in (Some (Memory no_memory)) = None
 line_at_once_in (Some Network) = None
 line_at_once_in (Some Thread) = None
 
--- and what else a serving is undone for at its end
+-- and what else a serving has failed for at its end
 abbrev pub line_at_end_in : Option Fault → Option (List ℕ)
 line_at_end_in None = None
 line_at_end_in (Some (Building fault)) = told_line (Building fault)
@@ -262,8 +262,8 @@ abbrev pub IsUnread : {R : Type 0} → InputState R → Type 0
 IsUnread new = (new.failed ≡ true) ⊎ ((new.calls ≡ 2097152) × (new.ended ≡ false))
 
 -- How the input is left: only a replay reads it, and nothing that becomes ready does. A good script
--- was read to its end; one undone for the standard input could not be read, and one undone for the
--- standard output was.
+-- was read to its end; one that failed for the standard input could not be read, and one that failed
+-- for the standard output was.
 pub record IsInputLeft {T M S V F O R : Type 0} (remaining : R → Option (List ℕ)) (replays : Type 0)
     (unused : O) (result : Result T (End M S V F O)) (old new : InputState R) : Type 0 where
   pub unasked : ¬ replays → new ≡ old
@@ -346,7 +346,7 @@ IsReadyFor files gives (Serve image building asked count named) keeper listener 
 abbrev pub IsSocketHad : (gives : Option Listener → Type 0) → Type 0
 IsSocketHad gives = (listener : Listener) × gives (Some listener)
 
--- how much is written by a command that is undone: nothing until this was had
+-- how much is written by a command that fails: nothing until this was had
 abbrev pub IsQuietUntil : {D F O : Type 0} → (had : Type 0) → Failure D F O
     → (before after : Option (List ℕ)) → Type 0
 IsQuietUntil had (NoBuilding fault unused) before after = after ≡ before

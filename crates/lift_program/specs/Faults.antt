@@ -61,14 +61,14 @@ abbrev pub of_building : BuildingFault → Fault
 of_building (NoRoom no_memory) = Memory tt
 of_building fault = Building fault
 
--- a script whose reading failed is undone for the standard input, one whose report could not be
+-- a script whose reading failed has failed for the standard input, one whose report could not be
 -- written for the standard output
 abbrev pub of_replay : ReplayFault → Fault
 of_replay (NoMemory no_memory) = Memory tt
 of_replay Read = File Input
 of_replay Write = File Output
 
--- what a serving is undone for: a device that failed, whatever else there was, and else the first
+-- why a serving failed: for a device that failed, whatever else there was, and else for the first
 -- fault of the rest
 abbrev pub served_fault : (is_broken : Bool) → Option ServeFault → Option Fault
 served_fault true fault = Some (Journal (OfJournal Disk))

@@ -133,7 +133,7 @@ GoesNoFurther plan old new (Memory no_memory) = HasRecovered plan old new
 GoesNoFurther plan old new Network = HasRecovered plan old new
 GoesNoFurther plan old new Thread = ⊥
 
--- A building was read, and an image opened as such a device. The command is undone for this, and has
+-- A building was read, and an image opened as such a device. The command has failed for this, and
 -- left the device so: nothing was written, and each image that a crash at any moment since the
 -- opening may leave is one that it might have left before. So what was kept is kept.
 pub record IsLeftAs {D : Type 0} (is_text : List ℕ → Type 0) (is_fresh : D → Type 0)

@@ -28,7 +28,7 @@ pub enum End<M, S, V, F: Drop, O: Drop> {
     /// The building was served on this port, over this image, and the serving ended so: only a serving
     /// makes that. What is reported of it is a fault of the device, and else what it was refused.
     Served(u16, Option<Fault>, Leftover<V>, ServingEnd),
-    /// The work is undone, and nothing was asked of an image.
+    /// The work failed, and nothing was asked of an image.
     Failed(Fault, Leftover<O>),
     /// No image was had, for this.
     NoImage(Fault, Leftover<FileFault<F, O>>),

@@ -1,4 +1,4 @@
-//! Why the program ends with its work undone, and the line that says so.
+//! Why the program's work failed, and the line that says so.
 
 ghost use Rattle.std.specs.Prelude.{◌≡◌, ◌≤◌, ◌+◌, ◌++◌, ◌∷◌, [], Some, length};
 ghost use Rattle.std.specs.Fmt.{decimal};
@@ -33,7 +33,7 @@ pub enum Role {
     Output,
 }
 
-/// Why the program ends with its work undone.
+/// Why the program's work failed.
 #[derive(Clone, Copy, Error)]
 pub enum Fault {
     /// The building's text is no building.

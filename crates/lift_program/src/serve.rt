@@ -25,7 +25,7 @@ use std::sync::Wait;
 use std::thread::Threads;
 use std::time::Clock;
 
-/// What the serving was undone for: a device that failed, and else the fault of the rest.
+/// Why the serving failed: for a device that failed, and else for the fault of the rest.
 fn fault_of(is_broken: bool, end: &ServingEnd) -> Option<Fault>
     ensures { result ≡ served_fault is_broken end.now.fault }
 {
