@@ -247,7 +247,7 @@ pub showing_left : {D : Type 0} (is_text : List ℕ → Type 0) (is_fresh : D �
 showing_left {D} is_text is_fresh state plan opened left told before after fault same has fresh is refused front =
     subst (λ (d : D). IsLeftAs is_text is_fresh state fault d) (sym same) (shown_left is_text is_fresh state plan opened left before after fault has fresh is refused front)
 
--- what was written of a journal on an image whose showing is undone
+-- what was written of a journal on an image whose showing failed
 pub showing_part : (files : CommandFiles) (path building : List ℕ) (plan : Plan) (opened left : files.image.Shown) (before after : Option (List ℕ)) (fault : Fault) → HasBuilding (files.is_text building) plan
     → files.image.is_to_be_shown path opened → IsShowingFault fault → IsReportOfFault fault before after
     → (IsFileFault Output fault → ShowsFront plan (files.image.shown_state opened) (files.image.shown_state left) before after) → ShowsPart files path building before after
