@@ -1,5 +1,5 @@
 -- What a car's lines ask for, and which answers it keeps.
-use Rattle.std.specs.Prelude.{ℕ, ◌≡◌, ◌<◌, ◌≤◌, List, [], ◌∷◌, codes, length, Option, Some, None}
+use Rattle.std.specs.Prelude.{ℕ, ◌≡◌, ◌<◌, ◌≤◌, List, [], ◌∷◌, codes, Option, Some, None}
 use Rattle.std.specs.Prelude.{IfSome, IfNone}
 use Rattle.std.specs.Fmt.{decimal}
 use Rattle.lift_base.specs.Text.{AreWords, dir_text}
@@ -10,6 +10,7 @@ use Rattle.lift_base.specs.declared.command.Reply.TheVariants.{Car, Stopped, Pla
 use Rattle.lift_base.specs.declared.command.Reply.TheVariants.{Unknown}
 use Rattle.lift_desk.specs.declared.words.Ask.{Ask}
 use Rattle.lift_car.specs.declared.lines.Move.{Move}
+use Rattle.lift_kiosk.specs.Lines.{IsShort}
 use Rattle.lift_kiosk.specs.Session.{later}
 use Rattle.lift_kiosk.specs.declared.terms.LastLetter.{LastLetter}
 use Rattle.lift_kiosk.specs.declared.dialect.Wanted.{Wanted}
@@ -37,9 +38,9 @@ pub record ReadsMove (words : List (List ℕ)) (found : Option Move) : Type 0 wh
   pub some : IfSome found (IsMove words)
   pub none : IfNone found ((move : Move) → IsMove words move → ⊥)
 
--- a line of a session has at most 64 bytes, and this one spells a move
+-- a line of a session that spells a move
 pub record SpellsMove (line : List ℕ) (move : Move) : Type 0 where
-  pub short : length line ≤ 64
+  pub short : IsShort line
   pub words : List (List ℕ)
   pub spaced : AreWords line words
   pub moves : IsMove words move
@@ -66,8 +67,8 @@ keeps_stop last number (Placed next) = last
 keeps_stop last number (Refused reason) = last
 keeps_stop last number Unknown = last
 
--- what a car's line asks for is spelled in 64 bytes
-pub moves_are_short : (line : List ℕ) (wanted : Wanted) → WantsMove line wanted → length line ≤ 64
+-- what a car's line asks for is spelled in a short line
+pub moves_are_short : (line : List ℕ) (wanted : Wanted) → WantsMove line wanted → IsShort line
 moves_are_short line (Asks ask) wants = wants.1.short
 moves_are_short line NoFloor wants = wants.1.short
 

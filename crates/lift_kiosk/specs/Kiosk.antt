@@ -1,11 +1,12 @@
 -- What a kiosk's lines ask for, and which answers it keeps.
-use Rattle.std.specs.Prelude.{ℕ, ◌≡◌, ◌<◌, ◌≤◌, List, ◌∷◌, codes, length, Some}
+use Rattle.std.specs.Prelude.{ℕ, ◌≡◌, ◌<◌, ◌≤◌, List, ◌∷◌, codes, Some}
 use Rattle.std.specs.Fmt.{decimal}
 use Rattle.lift_base.specs.Text.{AreWords, ArePartyWords}
 use Rattle.lift_base.specs.declared.command.Body.TheVariants.{Call}
 use Rattle.lift_base.specs.declared.command.Reply.{Reply}
 use Rattle.lift_base.specs.declared.command.Reply.TheVariants.{Car, Stopped, Placed, Refused}
 use Rattle.lift_base.specs.declared.command.Reply.TheVariants.{Unknown}
+use Rattle.lift_kiosk.specs.Lines.{IsShort}
 use Rattle.lift_kiosk.specs.Session.{later}
 use Rattle.lift_kiosk.specs.declared.terms.LastLetter.{LastLetter}
 use Rattle.lift_kiosk.specs.declared.dialect.Wanted.{Wanted}
@@ -20,9 +21,9 @@ pub record AreCallWords (words : List (List ℕ)) (number floor party : ℕ) : T
   pub floor_range : floor < 1000
   pub party_range : (1 ≤ party) × (party ≤ 15)
 
--- a line of a session has at most 64 bytes, and this one spells a call
+-- a line of a session that spells a call
 pub record SpellsCall (line : List ℕ) (number floor party : ℕ) : Type 0 where
-  pub short : length line ≤ 64
+  pub short : IsShort line
   pub words : List (List ℕ)
   pub spaced : AreWords line (codes "CALL" ∷ words)
   pub call : AreCallWords words number floor party
@@ -42,7 +43,7 @@ keeps_letter last number (Placed next) = last
 keeps_letter last number (Refused reason) = last
 keeps_letter last number Unknown = last
 
--- what a kiosk's line asks for is spelled in 64 bytes
-pub calls_are_short : (line : List ℕ) (wanted : Wanted) → WantsCall line wanted → length line ≤ 64
+-- what a kiosk's line asks for is spelled in a short line
+pub calls_are_short : (line : List ℕ) (wanted : Wanted) → WantsCall line wanted → IsShort line
 calls_are_short line (Asks ask) spells = spells.2.short
 calls_are_short line NoFloor spells = spells.3.short

@@ -1,5 +1,5 @@
 -- How the lines of a session come and go.
-use Rattle.std.specs.Prelude.{◌≡◌, ◌≢◌, ℕ, ◌+◌, Bool, true, List, [], ◌∷◌, ◌++◌, length, take}
+use Rattle.std.specs.Prelude.{◌≡◌, ◌≢◌, ◌≤◌, ℕ, ◌+◌, Bool, true, List, [], ◌∷◌, ◌++◌, length, take}
 use Rattle.std.specs.Prelude.{nat_lt, Option}
 use Rattle.std.specs.List.{AllByRecursion}
 use Rattle.std.specs.Str.{IsAscii}
@@ -55,6 +55,10 @@ pub record GivesPart (part : List ℕ) (before after : Source) : Type 0 where
 
 abbrev pub AreAscii : List (List ℕ) → Type 0
 AreAscii words = AllByRecursion IsAscii words
+
+-- what a session's line may have, its end apart
+abbrev pub IsShort : List ℕ → Type 0
+IsShort line = length line ≤ 64
 
 -- what is kept of a line: its first 65 bytes, and whether there are more
 pub record Keeps65 (line kept : List ℕ) (longer : Bool) : Type 0 where

@@ -1,7 +1,8 @@
 //! What a kind of terminal says in its sessions.
 
-ghost use Rattle.std.specs.Prelude.{◌≡◌, ℕ, ◌≤◌, List, length, IfSome, IfNone};
+ghost use Rattle.std.specs.Prelude.{◌≡◌, ℕ, List, IfSome, IfNone};
 ghost use Rattle.lift_base.specs.declared.command.Reply.{Reply as ReplyValue};
+ghost use Rattle.lift_kiosk.specs.Lines.{IsShort};
 ghost use Rattle.lift_kiosk.specs.declared.terms.LastLetter.{LastLetter as LastValue};
 ghost use Rattle.lift_kiosk.specs.declared.dialect.Wanted.{Wanted as WantedValue};
 
@@ -34,5 +35,5 @@ pub trait Dialect {
     fn keep(last: &LastLetter, number: Number, reply: &Reply) -> LastLetter
         ensures { result ≡ keeps last.now number reply.now };
 
-    ghost short: { (line : List ℕ) (wanted : WantedValue) → wants line wanted → length line ≤ 64 };
+    ghost short: { (line : List ℕ) (wanted : WantedValue) → wants line wanted → IsShort line };
 }

@@ -1,7 +1,8 @@
 -- What a connection's first line says.
-use Rattle.std.specs.Prelude.{ℕ, ◌≡◌, ◌<◌, ◌≤◌, ◌+◌, ◌⊎◌, List, [], ◌∷◌, codes, length}
+use Rattle.std.specs.Prelude.{ℕ, ◌≡◌, ◌<◌, ◌≤◌, ◌+◌, ◌⊎◌, List, [], ◌∷◌, codes}
 use Rattle.std.specs.Fmt.{decimal}
 use Rattle.lift_base.specs.Text.{AreWords, letter_text}
+use Rattle.lift_kiosk.specs.Lines.{IsShort}
 
 -- the terminal of a kiosk: its number and 16
 abbrev pub IsKioskWord : (kiosks : ℕ) → List ℕ → (terminal : ℕ) → Type 0
@@ -18,9 +19,9 @@ AreTerminalWords cars kiosks words terminal =
     ((word : List ℕ) × (words ≡ codes "KIOSK" ∷ word ∷ []) × IsKioskWord kiosks word terminal)
     ⊎ ((word : List ℕ) × (words ≡ codes "CAR" ∷ word ∷ []) × IsCarWord cars word terminal)
 
--- a line of at most 64 bytes that names a terminal of a building with so many cars and kiosks
+-- a session's line that names a terminal of a building with so many cars and kiosks
 pub record SpeaksFor (cars kiosks : ℕ) (line : List ℕ) (terminal : ℕ) : Type 0 where
-  pub short : length line ≤ 64
+  pub short : IsShort line
   pub words : List (List ℕ)
   pub spaced : AreWords line words
   pub names : AreTerminalWords cars kiosks words terminal
