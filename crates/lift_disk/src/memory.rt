@@ -8,7 +8,7 @@ ghost use Rattle.lift_disk.specs.Blank.{IsBlankDisk};
 ghost use Rattle.lift_disk.specs.Memory.{IsFlagged, IsWithin, image_after, no_other};
 
 use crate::call::ProofHistory;
-use crate::record::{clear, copy_flagged, leave, no_flags, read_sectors, write_sectors, zeros};
+use crate::in_memory::{clear, copy_flagged, leave, no_flags, read_sectors, write_sectors, zeros};
 use crate::runs::{Ahead, RunDisk};
 use crate::span::Span;
 use crate::trace::{Made, ProofTrace};

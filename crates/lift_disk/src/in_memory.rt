@@ -1,4 +1,5 @@
-//! The work on the fields of a device in memory.
+//! The work on the sectors of a device in memory, and on the flags of those that no sync has made
+//! safe.
 ghost use Rattle.std.specs.Prelude.{◌≡◌, ◌≤◌, ◌+◌, ℕ, length, replicate, slice_get, Some, false};
 ghost use Rattle.std.specs.Prelude.{IfOk};
 ghost use Rattle.lift_disk.specs.Disk.{ChangesWithin};

@@ -1,5 +1,5 @@
 use Rattle.lift_disk.proofs.Fills.{IsFilledTo}
-use Rattle.lift_disk.proofs.record.fill.Given as goal
+use Rattle.lift_disk.proofs.in_memory.fill.Given as goal
 
 abbrev pub invariant-loop-i : goal.invariant-loop-i
 invariant-loop-i l = IsFilledTo l.byte l.i l.loose l.fn.sectors.items l.sectors.items

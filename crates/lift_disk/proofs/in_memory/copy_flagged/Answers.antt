@@ -1,6 +1,6 @@
 use Rattle.std.proofs.Common.{arith}
 use Rattle.lift_disk.proofs.Fills.{all_copied}
-use Rattle.lift_disk.proofs.record.copy_flagged.Goals as goal
+use Rattle.lift_disk.proofs.in_memory.copy_flagged.Goals as goal
 
 pub loop-i-init : goal.loop-i-init
 loop-i-init c = record {

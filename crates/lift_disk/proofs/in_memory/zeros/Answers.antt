@@ -1,7 +1,7 @@
 use Rattle.std.proofs.Common.{ℕ, List, [], ◌∷◌, ◌++◌, ◌∙◌, ap, replicate}
 use Rattle.std.proofs.lemmas.List.{replicate_more}
 use Rattle.lift_disk.specs.Disk.{Image}
-use Rattle.lift_disk.proofs.record.zeros.Goals as goal
+use Rattle.lift_disk.proofs.in_memory.zeros.Goals as goal
 
 pub loop-i-preserved : goal.loop-i-preserved
 loop-i-preserved c =
