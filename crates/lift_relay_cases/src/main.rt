@@ -15,13 +15,13 @@ use lift_base::text::Counted;
 use lift_building::{Building, BuildingFault};
 use lift_clerk::Clerk;
 use lift_desk::{Desk, DeskParts};
-use lift_disk::{FuseDisk, MemDisk, Outcome};
+use lift_disk::{FuseDisk, MemDisk};
 use lift_keeper::Keeper;
 use lift_policy::Etd;
 use lift_replay::report::{push_bad, push_building_fault, push_cut};
 use lift_replay::{
-    Lines, MOST_BYTES, MOST_CALLS, Query, ScriptLine, Terminals, first_keeper, read_all,
-    split_script,
+    DeviceAction, Lines, MOST_BYTES, MOST_CALLS, Query, ScriptLine, Terminals, first_keeper,
+    read_all, split_script,
 };
 use std::alloc::Global;
 use std::process::ExitCode;
@@ -37,49 +37,29 @@ fn show(report: &mut String, keeper: &Keeper<'_, FuseDisk>, query: &Query) -> Re
     Ok(())
 }
 
-/// Carries out a line that shows or arms: it works on the whole clerk. Of the others none comes here.
-fn on_clerk<'d, 'b>(
+/// Where a line leaves the group.
+enum Left<'d, 'b> {
+    /// Its relay goes on.
+    Relay(Relay<'d, 'b>),
+    /// The power was cut, which left this of the device.
+    Device(MemDisk),
+}
+
+/// Does something to the device: for that the clerk has to be whole.
+fn on_device<'d, 'b>(
     alloc: Global,
-    report: &mut String,
     relay: Relay<'d, 'b>,
-    line: &ScriptLine,
-) -> Result<Relay<'d, 'b>, Trouble> {
+    action: &DeviceAction,
+) -> Result<Left<'d, 'b>, Trouble> {
     let mut clerk = relay.rejoined()?;
-    match *line {
-        ScriptLine::Fuse { calls } => clerk.arm(calls),
-        ScriptLine::Show(query) => show(report, clerk.keeper(), &query)?,
-        _ => {}
-    }
-    Relay::of(alloc, clerk)
+    let Some(outcome) = action.carry_out(&mut clerk) else {
+        return Ok(Left::Relay(Relay::of(alloc, clerk)?));
+    };
+    let (_seat, keeper, _policy) = clerk.into_parts();
+    Ok(Left::Device(keeper.into_disk().into_inner().cut(outcome)))
 }
 
-/// What a power cut leaves of the device.
-fn cut(relay: Relay<'_, '_>, outcome: Outcome) -> Result<MemDisk, Trouble> {
-    let (_seat, keeper, _policy) = relay.rejoined()?.into_parts();
-    Ok(keeper.into_disk().into_inner().cut(outcome))
-}
-
-/// Carries out a line that asks or turns.
-fn ask_or_turn<R: Wait>(
-    rt: &R,
-    station: &mut Station,
-    relay: &mut Relay,
-    line: &ScriptLine,
-    report: &mut String,
-) -> Result<(), Trouble> {
-    if *line != ScriptLine::Turn {
-        return station.ask_line(report, line);
-    }
-    let turned = relay.turn(rt)?;
-    station.push_turned(report, turned)
-}
-
-/// Whether a line shows something or sets a fuse, for which the clerk has to be whole.
-fn is_on_clerk(line: &ScriptLine) -> bool {
-    matches!(line, ScriptLine::Show(_) | ScriptLine::Fuse { .. })
-}
-
-/// Carries out a line that cuts no power.
+/// Carries out a line.
 fn carry_out<'d, 'b, R: Wait>(
     rt: &R,
     alloc: Global,
@@ -87,13 +67,22 @@ fn carry_out<'d, 'b, R: Wait>(
     relay: Relay<'d, 'b>,
     line: &ScriptLine,
     report: &mut String,
-) -> Result<Relay<'d, 'b>, Trouble> {
-    if is_on_clerk(line) {
-        return on_clerk(alloc, report, relay, line);
-    }
+) -> Result<Left<'d, 'b>, Trouble> {
     let mut relay = relay;
-    ask_or_turn(rt, station, &mut relay, line, report)?;
-    Ok(relay)
+    match *line {
+        ScriptLine::Ask(ask) => station.ask(report, &ask)?,
+        ScriptLine::Turn => {
+            let turned = relay.turn(rt)?;
+            station.push_turned(report, turned)?;
+        }
+        ScriptLine::Show(query) => {
+            let clerk = relay.rejoined()?;
+            show(report, clerk.keeper(), &query)?;
+            relay = Relay::of(alloc, clerk)?;
+        }
+        ScriptLine::Device(action) => return on_device(alloc, relay, &action),
+    }
+    Ok(Left::Relay(relay))
 }
 
 /// What a line asks for, or the report tells that it is malformed.
@@ -129,10 +118,10 @@ fn run_at<'d, 'b, R: Wait>(
             continue;
         }
         let line = line_of(station, number, text, report)?;
-        if let ScriptLine::Cut { outcome } = line {
-            return Ok(Some(cut(relay, outcome)?));
+        match carry_out(rt, alloc, station, relay, &line, report)? {
+            Left::Relay(left) => relay = left,
+            Left::Device(device) => return Ok(Some(device)),
         }
-        relay = carry_out(rt, alloc, station, relay, &line, report)?;
     }
     Ok(None)
 }

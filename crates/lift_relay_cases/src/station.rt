@@ -7,8 +7,9 @@ use lift_building::Building;
 use lift_clerk::Counts;
 use lift_desk::AskRefusal;
 use lift_keeper::KeeperFault;
+use lift_policy::Command;
 use lift_replay::report::{push_fault, push_spent, push_turn, push_waiting};
-use lift_replay::{ScriptLine, Terminals, parse};
+use lift_replay::{ScriptAsk, ScriptLine, Terminals, parse};
 
 /// The terminals of a building, at one desk.
 #[derive(Drop)]
@@ -46,51 +47,22 @@ impl<'d, 'b> Station<'d, 'b> {
         self.terminals.ask(terminal, number, body)
     }
 
-    /// A terminal asks, or the report says why it can't.
-    fn ask(
-        &mut self,
-        report: &mut String,
-        terminal: Terminal,
-        number: Number,
-        body: Body,
-    ) -> Result<(), Trouble> {
-        if terminal.get() >= 16 + self.building.kiosks() {
+    /// A terminal asks what a line says, or the report says why it can't.
+    pub(crate) fn ask(&mut self, report: &mut String, ask: &ScriptAsk) -> Result<(), Trouble> {
+        if !ask.is_known(self.building) {
             return Err(Trouble::Lacking);
         }
+        let Command {
+            terminal,
+            number,
+            body,
+        } = ask.command(self.building);
         match self.ask_at(terminal, number, body) {
             Ok(()) => {}
             Err(AskRefusal::Waiting) => push_waiting(report, terminal, number)?,
             Err(AskRefusal::Spent) => push_spent(report, terminal, number)?,
         }
         Ok(())
-    }
-
-    /// A terminal asks what a line says, if it is one that asks.
-    pub(crate) fn ask_line(
-        &mut self,
-        report: &mut String,
-        line: &ScriptLine,
-    ) -> Result<(), Trouble> {
-        match *line {
-            ScriptLine::Place { car, position } => {
-                let body = Body::Place(position.floor, position.dir);
-                self.ask(report, Terminal::of_car(car), Number::default(), body)
-            }
-            ScriptLine::Stop { car, number, stop } => {
-                let body = Body::Stop(stop.floor, stop.dir);
-                self.ask(report, Terminal::of_car(car), number, body)
-            }
-            ScriptLine::Call {
-                kiosk,
-                number,
-                floor,
-                party,
-            } => {
-                let terminal = Terminal::of_kiosk(kiosk).ok_or(Trouble::Lacking)?;
-                self.ask(report, terminal, number, Body::Call(floor, party))
-            }
-            _ => Ok(()),
-        }
     }
 
     /// What a turn came to, and what each terminal hears after it.

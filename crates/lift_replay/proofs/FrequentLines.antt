@@ -11,7 +11,8 @@ use Rattle.lift_base.specs.declared.travel.Dir.{Dir}
 use Rattle.lift_base.specs.declared.travel.Dir.TheVariants.{Up, Down}
 use Rattle.lift_base.specs.declared.travel.Stop.{Stop as StopAt}
 use Rattle.lift_replay.specs.Grammar.{Spells}
-use Rattle.lift_replay.specs.declared.line.ScriptLine.TheVariants.{Call, Stop, Show}
+use Rattle.lift_replay.specs.declared.line.ScriptLine.TheVariants.{Ask, Show}
+use Rattle.lift_replay.specs.declared.ask.ScriptAsk.TheVariants.{Call, Stop}
 use Rattle.lift_replay.specs.declared.query.Query.TheVariants.{Cost}
 
 -- a digit more is printed after the others
@@ -52,7 +53,7 @@ four_letters a b c d la lb lc ld = (λ e. omega (arith, la, e), (λ e. omega (ar
 pub stop_line : (line r s t u : List ℕ) (car letter number first : ℕ) (stop : StopAt) (floor : ℕ)
     → line ≡ codes "stop " ++ r → r ≡ letter_text letter ++ (32 ∷ s) → s ≡ decimal first ++ (32 ∷ t)
     → t ≡ decimal floor ++ (32 ∷ u) → u ≡ dir_text stop.dir → car ≡ letter → number ≡ first → stop.floor ≡ floor
-    → car < 16 → number < 16777216 → stop.floor < 64 → Spells line (Stop car number stop)
+    → car < 16 → number < 16777216 → stop.floor < 64 → Spells line (Ask (Stop car number stop))
 stop_line line r s t u car letter number first stop floor of_line of_r of_s of_t of_u is_car is_number is_floor few low within = (
   codes "stop" ∷ letter_text car ∷ decimal number ∷ decimal stop.floor ∷ dir_text stop.dir ∷ [],
   record {
@@ -83,7 +84,7 @@ stop_line line r s t u car letter number first stop floor of_line of_r of_s of_t
 pub call_line : (line r s t : List ℕ) (kiosk number first floor party : ℕ)
     → line ≡ codes "call " ++ r → r ≡ decimal kiosk ++ (32 ∷ s) → s ≡ decimal first ++ (32 ∷ t)
     → t ≡ decimal floor → number ≡ first → party ≡ 1
-    → kiosk < 47 → number < 16777216 → floor < 64 → Spells line (Call kiosk number floor party)
+    → kiosk < 47 → number < 16777216 → floor < 64 → Spells line (Ask (Call kiosk number floor party))
 call_line line r s t kiosk number first floor party of_line of_r of_s of_t is_number one few low within = (
   codes "call" ∷ decimal kiosk ∷ decimal number ∷ decimal floor ∷ [],
   record {

@@ -6,6 +6,10 @@ pub mod Sources
 pub mod Recovered
 pub mod Runs
 pub mod Told
+pub mod Heads
+pub mod Asks
+pub mod Queries
+pub mod DeviceActions
 pub mod InStep
 pub mod Groups
 pub mod LineSteps

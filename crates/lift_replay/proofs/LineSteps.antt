@@ -1,11 +1,10 @@
 -- What a line makes of a script's group.
-use Rattle.std.proofs.Common.{◌≡◌, ◌≢◌, ◌↔◌, ℕ, suc, ◌+◌, ◌<◌, ◌==◌, true, false, cond, List, [], ◌∷◌, ◌++◌, length, Option, Some, None, refl, sym, ap, ◌∙◌, subst, inl, inr, arith, get_or-set_other, slice_set, length-append}
+use Rattle.std.proofs.Common.{◌≡◌, ◌≢◌, ℕ, suc, ◌+◌, ◌<◌, ◌==◌, true, false, cond, List, [], ◌∷◌, ◌++◌, length, Option, Some, None, refl, sym, ap, ◌∙◌, subst, inl, inr, arith, get_or-set_other, slice_set, length-append}
 use Rattle.std.specs.Option.{is_some}
 use Rattle.std.proofs.lemmas.List.{length-set, append_assoc, append-nil}
 use Rattle.std.proofs.lemmas.Grind.{get_or-set_at}
 use Rattle.std.proofs.lemmas.Bool.{cases_eq, eq-eqb, ne_eqb}
 use Rattle.lift_base.specs.declared.command.Body.{Body}
-use Rattle.lift_base.specs.declared.command.Body.TheVariants.{Call as Calls, Stop as Stopping, Place as Placing}
 use Rattle.lift_building.specs.Plan.{Plan}
 use Rattle.lift_desk.specs.declared.words.Ask.{Ask}
 use Rattle.lift_desk.specs.Words.{ask_word}
@@ -18,7 +17,7 @@ use Rattle.lift_policy.specs.Laws.{StepsAreDecisions}
 use Rattle.lift_policy.specs.Step.{view_of}
 use Rattle.lift_keeper.specs.Keeper.{KeeperView}
 use Rattle.lift_replay.specs.declared.line.ScriptLine.{ScriptLine}
-use Rattle.lift_replay.specs.declared.line.ScriptLine.TheVariants.{Place, Call, Stop, Turn, Show, Fuse, Cut}
+use Rattle.lift_replay.specs.declared.line.ScriptLine.TheVariants.{Ask as AskThis, Turn, Show, Device}
 use Rattle.lift_register.specs.Balanced.{open_count}
 use Rattle.lift_replay.specs.declared.lines.End.{End}
 use Rattle.lift_replay.specs.declared.lines.End.TheVariants.{Run as Over, Cut as Power}
@@ -26,17 +25,22 @@ use Rattle.lift_replay.specs.declared.lines.Verdict.{Verdict}
 use Rattle.lift_replay.specs.declared.lines.Verdict.TheVariants.{Bad}
 use Rattle.lift_replay.specs.Running.{TellsLines, Continues, LinesEnd}
 use Rattle.lift_replay.specs.Grammar.{IsKnown, IsLineInRange, IsSkipped, Spells}
-use Rattle.lift_replay.specs.Group.{Asking, ScriptGroup, FailedBatch, asking_at, asking_more, after_ask, after_asking, asked_text, ask_text, unasked, policy_view, line_text, left_by}
-use Rattle.lift_replay.specs.Group.{after as after_line}
+use Rattle.lift_replay.specs.Group.{Asking, ScriptGroup, FailedBatch, asking_at, asking_more, after_ask, after_asking, asked_text, ask_text, unasked, policy_view, left_by, recovered}
+use Rattle.lift_replay.specs.Lines.{Tells, LineTells, end_by, end_of, line_text}
+use Rattle.lift_replay.specs.Lines.{after as after_line}
 use Rattle.lift_replay.specs.Report.{spent_text, bad_text, cut_text}
 use Rattle.lift_replay.specs.Query.{shown_text}
 use Rattle.lift_replay.specs.declared.query.Query.{Query}
 use Rattle.lift_replay.specs.Terminals.{no_seat, seat_at, told_seat, having_asked}
-use Rattle.lift_replay.specs.Told.{ScriptClerk, Asks, HasAsked, IsArmed, KeepsKeeper, ScriptRests, Tells, LineTells, device_of, end_of}
-use Rattle.lift_replay.specs.Shows.{WaitsFor, IsInStep, AreInStep, IsFound, Stands, IsKeeperOf, Shows}
+use Rattle.lift_replay.specs.Told.{ScriptClerk, Asks, HasAsked, KeepsKeeper, ScriptRests, device_of}
+use Rattle.lift_replay.specs.Shows.{WaitsFor, IsInStep, AreInStep, Stands, IsKeeperOf, Shows}
 use Rattle.lift_replay.proofs.InStep.{waits_not, waits_so}
-use Rattle.lift_replay.proofs.Groups.{turn_shows, with_terminals, left_as}
-use Rattle.lift_replay.proofs.Recovered.{left_unchanged, may_unchanged}
+use Rattle.lift_replay.specs.Ask.{asked_command}
+use Rattle.lift_replay.specs.DeviceAction.{cut_by}
+use Rattle.lift_disk.specs.declared.outcome.Outcome.{Outcome}
+use Rattle.lift_replay.proofs.Asks.{ask_inside}
+use Rattle.lift_replay.proofs.DeviceActions.{Comes, action_comes}
+use Rattle.lift_replay.proofs.Groups.{turn_shows, with_terminals}
 
 -- one terminal has changed
 step_at : (terminals : List Asking) (seats after : List TerminalSeat) (places known : List ClerkPlace) (t : ℕ) (a : Asking) → AreInStep terminals seats places → t < length terminals
@@ -138,35 +142,14 @@ shown_is : (plan : Plan) (g : ScriptGroup) (keeper : KeeperView FusedDisk) (quer
 shown_is plan g keeper query None stands = ap (λ b. shown_text b plan (view_of keeper.state) query) stands.0 ∙ ap (λ t. shown_text false plan (view_of t) query) stands.1
 shown_is plan g keeper query (Some s) stands = ap (λ b. shown_text b plan (view_of keeper.state) query) stands.0
 
--- a fuse
-arms : (plan : Plan) (g : ScriptGroup) (calls : ℕ) (old new : ScriptClerk) (s : Option FailedBatch) → IsArmed calls old new → Stands s plan g old.keeper → g.failed ≡ s → Stands s plan (record g { passing = Some calls }) new.keeper
-arms plan g calls old new None armed stands is = (
-  ap (λ (c : ScriptClerk). c.keeper.writer.is_broken) armed.rest ∙ stands.0,
-  ap (λ (c : ScriptClerk). c.keeper.state) armed.rest ∙ stands.1,
-  ap (λ (c : ScriptClerk). c.keeper.writer.used) armed.rest ∙ stands.2,
-  ap (λ (c : ScriptClerk). c.keeper.writer.is_in_second_half) armed.rest ∙ stands.3,
-  record {
-    told = λ call past. subst (λ n. (device_of new).fails_at call ↔ n + calls < call) (sym armed.unchanged.calls) (armed.told call past);
-    short = armed.unchanged.short ∙ stands.4.short;
-  },
-)
-arms plan g calls old new (Some s) armed stands is = (
-  ap (λ (c : ScriptClerk). c.keeper.writer.is_broken) armed.rest ∙ stands.0,
-  λ outcome image left may. subst (λ f. IsFound plan f image) (sym (left_as g.failed g (Some calls) g.terminals outcome))
-      (stands.1 outcome image (left_unchanged outcome (device_of old) (device_of new) image armed.unchanged left) (may_unchanged (device_of old) (device_of new) image armed.unchanged may)),
-)
-
 -- a line that is carried out tells what is computed, and makes the group that is computed
 module _ (computed : StepsAreDecisions IsEtdChoice etd_pick) (plan : Plan) (g : ScriptGroup) (old new : ScriptClerk) (seats after : List TerminalSeat)
     (shows : Shows plan g old seats) (count : length seats ≡ 16 + length plan.kiosks) (long : (device_of new).is_short ≡ false) where
   abbrev pub Carried : ScriptLine → List ℕ → Type 0
-  Carried (Place car position) told = (told ≡ line_text plan g (Place car position)) × Shows plan (after_line plan g (Place car position)) new after
-  Carried (Call kiosk number floor party) told = (told ≡ line_text plan g (Call kiosk number floor party)) × Shows plan (after_line plan g (Call kiosk number floor party)) new after
-  Carried (Stop car number stop) told = (told ≡ line_text plan g (Stop car number stop)) × Shows plan (after_line plan g (Stop car number stop)) new after
+  Carried (AskThis ask) told = (told ≡ line_text plan g (AskThis ask)) × Shows plan (after_line plan g (AskThis ask)) new after
   Carried Turn told = (told ≡ line_text plan g Turn) × Shows plan (after_line plan g Turn) new after
   Carried (Show query) told = (told ≡ line_text plan g (Show query)) × Shows plan g new after
-  Carried (Fuse calls) told = (told ≡ []) × Shows plan (after_line plan g (Fuse calls)) new after
-  Carried (Cut outcome) told = (told ≡ []) × Shows plan g new after
+  Carried (Device action) told = (told ≡ []) × Comes plan g new after action (cut_by action)
 
   rests : ScriptRests old new seats after → Shows plan g new after
   rests is = subst (λ c. Shows plan g c after) (sym is.clerk) (subst (Shows plan g old) (sym is.terminals) shows)
@@ -187,26 +170,12 @@ module _ (computed : StepsAreDecisions IsEtdChoice etd_pick) (plan : Plan) (g : 
       )
 
   pub tells_shows : (wanted : ScriptLine) (told : List ℕ) → IsLineInRange wanted → IsKnown plan wanted → Tells plan old new seats after wanted told → Carried wanted told
-  tells_shows (Place car position) told range known tells = asks_so car 0 (Placing position.floor position.dir) told (let below = range.0 in omega (arith, below)) tells.0 tells.1
-  tells_shows (Call kiosk number floor party) told range known tells = asks_so (16 + kiosk) number (Calls floor party) told (omega (arith, known)) tells.0 tells.1
-  tells_shows (Stop car number stop) told range known tells = asks_so car number (Stopping stop.floor stop.dir) told (let below = range.0 in omega (arith, below)) tells.0 tells.1
+  tells_shows (AskThis ask) told range known tells =
+      let c = asked_command ask in
+      asks_so c.terminal c.number c.body told (ask_inside plan ask range known) tells.0 tells.1
   tells_shows Turn told range known tells = turn_shows computed plan g old new seats after told shows tells long
   tells_shows (Show query) told range known tells = (tells.0 ∙ shown_is plan g old.keeper query g.failed shows.keeper.stands, rests tells.1)
-  tells_shows (Fuse calls) told range known tells =
-      let armed = tells.1 in
-      let kept : IsKeeperOf plan (record g { passing = Some calls }) new.keeper = record {
-        same_plan = ap (λ (c : ScriptClerk). c.keeper.writer.plan) armed.rest ∙ shows.keeper.same_plan;
-        half_is = ap (λ (c : ScriptClerk). c.keeper.writer.half) armed.rest ∙ shows.keeper.half_is;
-        register = ap (λ (c : ScriptClerk). c.keeper.writer.register) armed.rest ∙ shows.keeper.register;
-        stands = arms plan g calls old new g.failed armed shows.keeper.stands refl;
-      } in (
-        tells.0,
-        record {
-          keeper = kept;
-          terminals = subst (λ l. AreInStep g.terminals after l) (sym (ap (λ (c : ScriptClerk). c.seat) armed.rest)) (subst (λ l. AreInStep g.terminals l old.seat) (sym tells.2) shows.terminals);
-        },
-      )
-  tells_shows (Cut outcome) told range known tells = (tells.0, rests tells.1)
+  tells_shows (Device action) told range known tells = (tells.0, action_comes plan g old new seats after action shows tells.1 tells.2)
 
 -- what a line tells, where another follows, and where it is the last
 module _ (computed : StepsAreDecisions IsEtdChoice etd_pick) (plan : Plan) (g : ScriptGroup) (old new : ScriptClerk) (seats after : List TerminalSeat)
@@ -239,13 +208,16 @@ module _ (computed : StepsAreDecisions IsEtdChoice etd_pick) (plan : Plan) (g : 
   line_goes_on (inr (inl (wanted, spells, known, tells, end, other))) = by_line wanted spells known tells end
     where
       by_line : (w : ScriptLine) → Spells line w → IsKnown plan w → Tells plan old new seats after w told → None ≡ end_of w → GoesOn
-      by_line (Cut outcome) sp kn te en = absurd (cc)
-      by_line (Place car position) sp kn te en = let c = tells_shows computed plan g old new seats after shows count long (Place car position) told sp.3 kn te in (after_line plan g (Place car position), c.1, carries (Place car position) told sp kn other c.0)
-      by_line (Call kiosk n floor party) sp kn te en = let c = tells_shows computed plan g old new seats after shows count long (Call kiosk n floor party) told sp.3 kn te in (after_line plan g (Call kiosk n floor party), c.1, carries (Call kiosk n floor party) told sp kn other c.0)
-      by_line (Stop car n stop) sp kn te en = let c = tells_shows computed plan g old new seats after shows count long (Stop car n stop) told sp.3 kn te in (after_line plan g (Stop car n stop), c.1, carries (Stop car n stop) told sp kn other c.0)
+      by_line (AskThis ask) sp kn te en = let c = tells_shows computed plan g old new seats after shows count long (AskThis ask) told sp.3 kn te in (after_line plan g (AskThis ask), c.1, carries (AskThis ask) told sp kn other c.0)
       by_line Turn sp kn te en = let c = tells_shows computed plan g old new seats after shows count long Turn told sp.3 kn te in (after_line plan g Turn, c.1, carries Turn told sp kn other c.0)
       by_line (Show query) sp kn te en = let c = tells_shows computed plan g old new seats after shows count long (Show query) told sp.3 kn te in (g, c.1, carries (Show query) told sp kn other c.0)
-      by_line (Fuse calls) sp kn te en = let c = tells_shows computed plan g old new seats after shows count long (Fuse calls) told sp.3 kn te in (after_line plan g (Fuse calls), c.1, carries (Fuse calls) told sp kn other c.0)
+      by_line (Device action) sp kn te en =
+          let c = tells_shows computed plan g old new seats after shows count long (Device action) told sp.3 kn te in
+          by_power (cut_by action) c.1 en
+        where
+          by_power : (power : Option Outcome) → Comes plan g new after action power → None ≡ end_by power → GoesOn
+          by_power None comes is = (after_line plan g (Device action), comes.1, carries (Device action) told sp kn other (te.0 ∙ sym comes.0))
+          by_power (Some outcome) comes is = absurd (cc)
 
   -- a line that ends the lines at this desk
   pub line_ends : (end : End) → LineTells plan old new seats after line number (Some end) told → LinesEnd plan so_far first script (before ++ told) number behind new after end
@@ -259,16 +231,22 @@ module _ (computed : StepsAreDecisions IsEtdChoice etd_pick) (plan : Plan) (g : 
   line_ends end (inr (inl (wanted, spells, known, tells, is, other))) = by_line wanted spells known tells is
     where
       by_line : (w : ScriptLine) → Spells line w → IsKnown plan w → Tells plan old new seats after w told → Some end ≡ end_of w → LinesEnd plan so_far first script (before ++ told) number behind new after end
-      by_line (Cut outcome) sp kn te en =
-          let c = tells_shows computed plan g old new seats after shows count long (Cut outcome) told sp.3 kn te in
-          let power : end ≡ Power outcome = cc in
-          let cut : List ℕ = cut_text (open_count (left_by outcome g).register) in
-          let all : before ++ cut ≡ (before ++ told) ++ cut = ap (λ t. t ++ cut) (sym (append-nil before) ∙ ap (λ t. before ++ t) (sym c.0)) in
-          subst (LinesEnd plan so_far first script (before ++ told) number behind new after) (sym power)
-          (g, c.1, subst (λ t. Continues plan so_far first script t number (after_line plan g (Cut outcome)) behind) all (carries (Cut outcome) cut sp kn other refl))
-      by_line (Place car position) sp kn te en = absurd (cc)
-      by_line (Call kiosk n floor party) sp kn te en = absurd (cc)
-      by_line (Stop car n stop) sp kn te en = absurd (cc)
+      by_line (AskThis ask) sp kn te en = absurd (cc)
       by_line Turn sp kn te en = absurd (cc)
       by_line (Show query) sp kn te en = absurd (cc)
-      by_line (Fuse calls) sp kn te en = absurd (cc)
+      by_line (Device action) sp kn te en =
+          let c = tells_shows computed plan g old new seats after shows count long (Device action) told sp.3 kn te in
+          by_power (cut_by action) c.1 en
+        where
+          by_power : (power : Option Outcome) → Comes plan g new after action power → Some end ≡ end_by power → LinesEnd plan so_far first script (before ++ told) number behind new after end
+          by_power None comes is = absurd (cc)
+          by_power (Some outcome) comes is =
+              let power : end ≡ Power outcome = cc in
+              let cut : List ℕ = cut_text (open_count (left_by outcome g).register) in
+              let all : before ++ cut ≡ (before ++ told) ++ cut = ap (λ t. t ++ cut) (sym (append-nil before) ∙ ap (λ t. before ++ t) (sym te.0)) in
+              subst (LinesEnd plan so_far first script (before ++ told) number behind new after) (sym power) (
+                g,
+                comes.2,
+                subst (λ t. Continues plan so_far first script t number (recovered plan (left_by outcome g)) behind) all
+                    (subst (λ next. Continues plan so_far first script (before ++ cut) number next behind) comes.1 (carries (Device action) cut sp kn other (sym comes.0))),
+              )

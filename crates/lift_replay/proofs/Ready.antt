@@ -5,7 +5,6 @@ use Rattle.std.proofs.lemmas.Grind.{get_or-set_at}
 use Rattle.std.proofs.lemmas.Bool.{cases_eq}
 use mathlib.Core.List.{IsPrefix}
 use Rattle.lift_base.specs.declared.command.Body.{Body}
-use Rattle.lift_base.specs.declared.command.Body.TheVariants.{Call as Calls, Stop as Stopping, Place as Placing}
 use Rattle.lift_base.specs.declared.command.Reply.{Reply}
 use Rattle.lift_building.specs.Plan.{Plan}
 use Rattle.lift_desk.specs.declared.words.Ask.{Ask}
@@ -18,13 +17,17 @@ use Rattle.lift_desk.specs.Seats.{TerminalSeat, ClerkPlace, Waits, TakesOf, view
 use Rattle.lift_desk.specs.lemmas.WordLists.{prefix_refl}
 use Rattle.lift_clerk.specs.Visits.{Visit, FindsAt, Finds, LooksAndAnswers, with_reply, replies_behind, served}
 use Rattle.lift_replay.specs.declared.line.ScriptLine.{ScriptLine}
-use Rattle.lift_replay.specs.declared.line.ScriptLine.TheVariants.{Place, Call, Stop, Turn, Show, Fuse, Cut}
+use Rattle.lift_replay.specs.declared.line.ScriptLine.TheVariants.{Ask as AskThis, Turn, Show, Device}
 use Rattle.lift_replay.specs.declared.lines.End.{End}
 use Rattle.lift_replay.specs.Grammar.{IsKnown, IsLineInRange}
 use Rattle.lift_replay.specs.Group.{Asking, asking_at, after_ask, having_heard}
 use Rattle.lift_replay.specs.Shows.{WaitsFor, IsInStep, AreReady}
 use Rattle.lift_replay.specs.Terminals.{AllHear, Hears, OthersAreTold, BothTold, no_seat, seat_at, told_seat, having_asked, count_waiting}
-use Rattle.lift_replay.specs.Told.{ScriptClerk, Asks, HasAsked, HasTaken, OutcomeTells, TurnTells, ScriptRests, Tells, LineTells}
+use Rattle.lift_replay.specs.Ask.{asked_command}
+use Rattle.lift_replay.specs.Lines.{Tells, LineTells}
+use Rattle.lift_replay.specs.Told.{ScriptClerk, Asks, HasAsked, HasTaken, OutcomeTells, TurnTells, ScriptRests}
+use Rattle.lift_replay.proofs.Asks.{ask_inside}
+use Rattle.lift_replay.proofs.DeviceActions.{action_seat}
 use Rattle.lift_replay.proofs.Telling.{same_told}
 use Rattle.lift_replay.proofs.InStep.{AllFound, found_counted, waits_so}
 use Rattle.lift_replay.proofs.Groups.{takes_all, same_length}
@@ -201,15 +204,14 @@ line_ready plan old new seats after line number end text count ready tells = by_
     rest is = subst (λ (c : ScriptClerk). AreReady after c.seat) (sym is.clerk) (subst (λ l. AreReady l old.seat) (sym is.terminals) ready)
 
     by_wanted : (w : ScriptLine) → IsLineInRange w → IsKnown plan w → Tells plan old new seats after w text → AreReady after new.seat
-    by_wanted (Place car position) range known te = asks_ready seats after old.seat new.seat car 0 (Placing position.floor position.dir) text (let below = range.0 in omega (arith, below, count)) ready te.0
-    by_wanted (Call kiosk n floor party) range known te = asks_ready seats after old.seat new.seat (16 + kiosk) n (Calls floor party) text (omega (arith, known, count)) ready te.0
-    by_wanted (Stop car n stop) range known te = asks_ready seats after old.seat new.seat car n (Stopping stop.floor stop.dir) text (let below = range.0 in omega (arith, below, count)) ready te.0
+    by_wanted (AskThis ask) range known te =
+        let c = asked_command ask in
+        let below = ask_inside plan ask range known in
+        asks_ready seats after old.seat new.seat c.terminal c.number c.body text (omega (arith, below, count)) ready te.0
     by_wanted Turn range known te = turn_ready old new seats after text ready te
     by_wanted (Show query) range known te = rest te.1
-    by_wanted (Fuse calls) range known te =
-        let armed = te.1 in
-        subst (λ l. AreReady after l) (sym (ap (λ (c : ScriptClerk). c.seat) armed.rest)) (subst (λ l. AreReady l old.seat) (sym te.2) ready)
-    by_wanted (Cut outcome) range known te = rest te.1
+    by_wanted (Device action) range known te =
+        subst (λ l. AreReady after l) (sym (action_seat old new action te.1)) (subst (λ l. AreReady l old.seat) (sym te.2) ready)
 
     by_line : LineTells plan old new seats after line number end text → AreReady after new.seat
     by_line (inl skipped) = rest skipped.3

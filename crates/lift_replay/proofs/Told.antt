@@ -20,10 +20,11 @@ use Rattle.lift_policy.specs.Choices.{IsEtdChoice}
 use Rattle.lift_clerk.specs.Turn.{IsFailedTurn, IsBrokenTurn}
 use Rattle.lift_building.specs.Plan.{Plan}
 use Rattle.lift_replay.specs.declared.line.ScriptLine.{ScriptLine}
-use Rattle.lift_replay.specs.declared.line.ScriptLine.TheVariants.{Place, Call, Stop, Turn, Show, Fuse, Cut}
+use Rattle.lift_replay.specs.declared.line.ScriptLine.TheVariants.{Ask, Turn, Show, Device}
 use Rattle.lift_replay.specs.declared.lines.End.{End}
 use Rattle.lift_replay.specs.declared.lines.End.TheVariants.{Run as Over}
-use Rattle.lift_replay.specs.Told.{ScriptClerk, HasAsked, LineTells, Tells, HasFailedCommit, TurnTells, end_of}
+use Rattle.lift_replay.specs.Lines.{LineTells, Tells, end_of}
+use Rattle.lift_replay.specs.Told.{ScriptClerk, HasAsked, HasFailedCommit, TurnTells}
 
 -- what follows from what is so where a call succeeds
 pub on_ok : {T E P Q : Type 0} (result : Result T E) → (P → Q) → OnOk result P → OnOk result Q
@@ -74,13 +75,10 @@ end_tells_none plan old new seats after line number end text (inr (inr bad)) oth
 end_tells_none plan old new seats after line number end text (inr (inl (wanted, spells, known, tells, is, some))) other = by_line wanted tells is
   where
     by_line : (w : ScriptLine) → Tells plan old new seats after w text → Some end ≡ end_of w → text ≡ []
-    by_line (Cut outcome) te en = te.0
-    by_line (Place car position) te en = absurd (cc)
-    by_line (Call kiosk n floor party) te en = absurd (cc)
-    by_line (Stop car n stop) te en = absurd (cc)
+    by_line (Device action) te en = te.0
+    by_line (Ask ask) te en = absurd (cc)
     by_line Turn te en = absurd (cc)
     by_line (Show query) te en = absurd (cc)
-    by_line (Fuse calls) te en = absurd (cc)
 
 pub if_ok : {T E : Type 0} {P Q : T → Type 0} (result : Result T E) → ((x : T) → P x → Q x) → IfOk result P → IfOk result Q
 if_ok (Ok x) f h = f x h

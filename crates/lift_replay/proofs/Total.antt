@@ -9,7 +9,8 @@ use Rattle.std.specs.Str.{is_utf8}
 use Rattle.lift_building.specs.Plan.{Plan}
 use Rattle.lift_replay.specs.declared.lines.Verdict.{Verdict}
 use Rattle.lift_replay.specs.declared.lines.Verdict.TheVariants.{Good, Bad}
-use Rattle.lift_replay.specs.Group.{ScriptGroup, first_group, line_text, after}
+use Rattle.lift_replay.specs.Group.{ScriptGroup, first_group}
+use Rattle.lift_replay.specs.Lines.{line_text, after}
 use Rattle.lift_replay.specs.Reading.{most_bytes}
 use Rattle.lift_replay.specs.Replaying.{IsPartsReport, IsTextReport, IsReport}
 use Rattle.lift_replay.specs.Report.{bad_text, building_text}

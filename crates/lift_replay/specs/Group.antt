@@ -1,12 +1,9 @@
--- What a script's group is between two of its lines, what a line reports of it, and what it makes
--- of it: functions of the script.
+-- What a script's group is between two of its lines, what asks, turns and power cuts make of it,
+-- and what they report: functions of the script.
 use Rattle.std.specs.Prelude.{ℕ, suc, ◌+◌, ◌-◌, ◌==◌, Bool, true, false, not, if◌then◌else◌, nat_le}
 use Rattle.std.specs.Prelude.{List, [], ◌∷◌, ◌++◌, length, replicate, slice_index_or, slice_set}
 use Rattle.std.specs.Prelude.{codes, Option, Some, None}
-use Rattle.std.specs.Option.{is_some}
 use Rattle.lift_base.specs.declared.command.Body.{Body}
-use Rattle.lift_base.specs.declared.command.Body.TheVariants.{Call as Calls, Stop as Stopping}
-use Rattle.lift_base.specs.declared.command.Body.TheVariants.{Place as Placing}
 use Rattle.lift_base.specs.declared.command.Reply.{Reply}
 use Rattle.lift_base.specs.declared.history.Entry.{Entry}
 use Rattle.lift_base.specs.declared.travel.Position.{Position}
@@ -15,7 +12,7 @@ use Rattle.lift_disk.specs.declared.outcome.Outcome.{Outcome}
 use Rattle.lift_disk.specs.declared.outcome.Outcome.TheVariants.{Keep, Lose, Fill}
 use Rattle.lift_journal.specs.Checkpoint.{sectors_for}
 use Rattle.lift_journal.specs.Layout.{body_size}
-use Rattle.lift_register.specs.Prelude.{RegisterState, empty, register_of, open_count}
+use Rattle.lift_register.specs.Prelude.{RegisterState, empty, register_of}
 use Rattle.lift_register.specs.Base.{base_records}
 use Rattle.lift_policy.specs.declared.command.Command.{Command}
 use Rattle.lift_policy.specs.Decision.{decision_by, etd_pick}
@@ -26,12 +23,7 @@ use Rattle.lift_desk.specs.declared.words.Ask.{Ask}
 use Rattle.lift_keeper.specs.Writer.{room_call_count, room_used, room_second, commit_call_count, commit_used}
 use Rattle.lift_keeper.specs.Writer.{commit_second}
 use Rattle.lift_clerk.specs.Visits.{command_at}
-use Rattle.lift_replay.specs.declared.line.ScriptLine.{ScriptLine}
-use Rattle.lift_replay.specs.declared.line.ScriptLine.TheVariants.{Place, Call, Stop, Turn, Show}
-use Rattle.lift_replay.specs.declared.line.ScriptLine.TheVariants.{Fuse, Cut}
 use Rattle.lift_replay.specs.Report.{waiting_text, spent_text, turn_text, fault_text, heard_text}
-use Rattle.lift_replay.specs.Report.{cut_text}
-use Rattle.lift_replay.specs.Query.{shown_text}
 
 -- how often a terminal has asked, and its ask that waits for the answer
 pub record Asking : Type 0 where
@@ -322,24 +314,3 @@ after_asking g terminal number body =
         body = body;
       });
     }
-
--- what each line reports
-abbrev pub line_text : Plan → ScriptGroup → ScriptLine → List ℕ
-line_text plan g (Place car position) = asked_text g car 0
-line_text plan g (Call kiosk number floor party) = asked_text g (16 + kiosk) number
-line_text plan g (Stop car number stop) = asked_text g car number
-line_text plan g Turn = turn_told g.failed plan g
-line_text plan g (Show query) = shown_text (is_some g.failed) plan (policy_view g) query
-line_text plan g (Fuse calls) = []
-line_text plan g (Cut outcome) = cut_text (open_count (left_by outcome g).register)
-
--- what each makes of the group
-abbrev pub after : Plan → ScriptGroup → ScriptLine → ScriptGroup
-after plan g (Place car position) = after_asking g car 0 (Placing position.floor position.dir)
-after plan g (Call kiosk number floor party) = after_asking g (16 + kiosk) number
-    (Calls floor party)
-after plan g (Stop car number stop) = after_asking g car number (Stopping stop.floor stop.dir)
-after plan g Turn = turned g.failed plan g
-after plan g (Show query) = g
-after plan g (Fuse calls) = record g { passing = Some calls }
-after plan g (Cut outcome) = recovered plan (left_by outcome g)

@@ -1,6 +1,9 @@
+pub mod Ask
+pub mod DeviceAction
 pub mod Grammar
 pub mod Group
 pub mod Law
+pub mod Lines
 pub mod Query
 pub mod Reading
 pub mod Recovering

@@ -11,8 +11,8 @@ use Rattle.lift_replay.specs.declared.lines.Verdict.TheVariants.{Good, Bad}
 use Rattle.lift_replay.specs.declared.segment.SegmentEnd.{SegmentEnd}
 use Rattle.lift_replay.specs.declared.segment.SegmentEnd.TheVariants.{Run, Cut}
 use Rattle.lift_replay.specs.Grammar.{Spells, IsSkipped, IsKnown}
-use Rattle.lift_replay.specs.Group.{ScriptGroup, line_text, after, new_terminals, left_by}
-use Rattle.lift_replay.specs.Group.{recovered}
+use Rattle.lift_replay.specs.Group.{ScriptGroup, new_terminals, left_by, recovered}
+use Rattle.lift_replay.specs.Lines.{line_text, after}
 use Rattle.lift_replay.specs.Report.{ReportsPart, bad_text, cut_text}
 use Rattle.lift_replay.specs.Script.{IsBadLine}
 use Rattle.lift_replay.specs.Shows.{Shows, IsKeeperOf}

@@ -1,15 +1,11 @@
--- What each line reports as it is carried out.
+-- What an ask and a turn report, and how they leave the clerk and the terminals.
 use Rattle.std.specs.Prelude.{ℕ, ◌≡◌, ◌⊎◌, ◌↔◌, ◌+◌, ◌<◌, ◌≤◌, true, false, List, [], ◌++◌, codes}
-use Rattle.std.specs.Prelude.{length, slice_set, Option, Some, None}
+use Rattle.std.specs.Prelude.{length, slice_set}
 use Rattle.lift_base.specs.declared.command.Body.{Body}
-use Rattle.lift_base.specs.declared.command.Body.TheVariants.{Call as Calls, Stop as Stopping}
-use Rattle.lift_base.specs.declared.command.Body.TheVariants.{Place as Placing}
 use Rattle.lift_base.specs.declared.command.Reply.{Reply}
-use Rattle.lift_building.specs.Plan.{Plan}
-use Rattle.lift_disk.specs.Disk.{DiskState, IsUnchanged, IsArmedWith}
-use Rattle.lift_disk.specs.Faults.{AllAfter, FusedDisk, fuse_state_of}
+use Rattle.lift_disk.specs.Disk.{DiskState}
+use Rattle.lift_disk.specs.Faults.{FusedDisk, fuse_state_of}
 use Rattle.lift_policy.specs.Choices.{IsEtdChoice}
-use Rattle.lift_policy.specs.Step.{view_of}
 use Rattle.lift_policy.specs.declared.policies.Etd.{Etd}
 use Rattle.lift_desk.specs.Seats.{TerminalSeat, ClerkPlace, Waits, view_at, clerk_with}
 use Rattle.lift_desk.specs.Spelled.{IsAsk}
@@ -20,16 +16,7 @@ use Rattle.lift_clerk.specs.Clerk.{ClerkState}
 use Rattle.lift_clerk.specs.Turn.{IsTurn, IsFailedTurn, IsBrokenTurn}
 use Rattle.lift_clerk.specs.Visits.{Visit, LooksAndAnswers, commands_of}
 use Rattle.lift_clerk.specs.declared.counts.Counts.{Counts}
-use Rattle.lift_replay.specs.declared.line.ScriptLine.{ScriptLine}
-use Rattle.lift_replay.specs.declared.line.ScriptLine.TheVariants.{Place, Call, Stop, Turn, Show}
-use Rattle.lift_replay.specs.declared.line.ScriptLine.TheVariants.{Fuse, Cut}
-use Rattle.lift_replay.specs.declared.lines.End.{End}
-use Rattle.lift_replay.specs.declared.lines.End.TheVariants.{Run as Over, Cut as Power}
-use Rattle.lift_replay.specs.declared.lines.Verdict.TheVariants.{Bad}
-use Rattle.lift_replay.specs.Grammar.{Spells, IsSkipped, IsKnown}
-use Rattle.lift_replay.specs.Report.{waiting_text, spent_text, turn_text, fault_text, bad_text}
-use Rattle.lift_replay.specs.Script.{IsBadLine}
-use Rattle.lift_replay.specs.Query.{shown_text}
+use Rattle.lift_replay.specs.Report.{waiting_text, spent_text, turn_text, fault_text}
 use Rattle.lift_replay.specs.Terminals.{seat_at, having_asked, told_seat, AreTold, AllHear}
 
 -- the clerk of a script
@@ -140,69 +127,7 @@ pub record OutcomeTells (old new : ScriptClerk) (seats after : List TerminalSeat
   pub hear : AllHear told after heard
   pub shown : text ≡ head ++ heard
 
--- The device of the clerk is armed to fail every call after this many, and nothing else changes.
-pub record IsArmed (calls : ℕ) (old new : ScriptClerk) : Type 0 where
-  pub told : IsArmedWith (AllAfter calls (fuse_state_of old.keeper.writer.device).calls)
-      (fuse_state_of new.keeper.writer.device)
-  pub unchanged : IsUnchanged (fuse_state_of old.keeper.writer.device)
-      (fuse_state_of new.keeper.writer.device)
-  pub rest : new ≡ record old { keeper = record old.keeper { writer = record old.keeper.writer { device = new.keeper.writer.device } } }
-
 -- the clerk and the terminals are as before
 pub record ScriptRests (old new : ScriptClerk) (seats after : List TerminalSeat) : Type 0 where
   pub clerk : new ≡ old
   pub terminals : after ≡ seats
-
--- what a line reports in a building, to a clerk and terminals, and how it leaves them
-abbrev pub Tells : Plan → (old new : ScriptClerk) → (seats after : List TerminalSeat) → ScriptLine
-    → List ℕ → Type 0
-Tells plan old new seats after (Place car position) text =
-    Asks seats after old.seat new.seat car 0 (Placing position.floor position.dir) text
-    × KeepsKeeper old new
-Tells plan old new seats after (Call kiosk number floor party) text =
-    Asks seats after old.seat new.seat (16 + kiosk) number (Calls floor party) text
-    × KeepsKeeper old new
-Tells plan old new seats after (Stop car number stop) text =
-    Asks seats after old.seat new.seat car number (Stopping stop.floor stop.dir) text
-    × KeepsKeeper old new
-Tells plan old new seats after Turn text = OutcomeTells old new seats after text
-Tells plan old new seats after (Show query) text =
-    (text ≡ shown_text old.keeper.writer.is_broken plan (view_of old.keeper.state) query)
-    × ScriptRests old new seats after
-Tells plan old new seats after (Fuse calls) text = (text ≡ []) × IsArmed calls old new
-    × (after ≡ seats)
-Tells plan old new seats after (Cut outcome) text = (text ≡ []) × ScriptRests old new seats after
-
--- a power cut ends the lines at this desk, and no other line does
-abbrev pub end_of : ScriptLine → Option End
-end_of (Cut outcome) = Some (Power outcome)
-end_of line = None
-
--- the line is skipped
-abbrev pub Skips : (old new : ScriptClerk) → (seats after : List TerminalSeat) → List ℕ → Option End
-    → List ℕ → Type 0
-Skips old new seats after line end text = IsSkipped line × (end ≡ None) × (text ≡ [])
-    × ScriptRests old new seats after
-
--- the line asks for something that the building knows, and it is carried out
-abbrev pub CarriesOutLine : Plan → (old new : ScriptClerk) → (seats after : List TerminalSeat)
-    → List ℕ
-    → Option End → List ℕ → Type 0
-CarriesOutLine plan old new seats after line end text =
-    (wanted : ScriptLine) × Spells line wanted × IsKnown plan wanted
-    × Tells plan old new seats after wanted text × (end ≡ end_of wanted) × (¬ IsSkipped line)
-
--- the line is malformed, and ends the run
-abbrev pub RefusesLine : Plan → (old new : ScriptClerk) → (seats after : List TerminalSeat) → List ℕ
-    → ℕ
-    → Option End → List ℕ → Type 0
-RefusesLine plan old new seats after line number end text =
-    IsBadLine plan line × (end ≡ Some (Over Bad)) × (text ≡ bad_text number)
-    × ScriptRests old new seats after
-
-abbrev pub LineTells : Plan → (old new : ScriptClerk) → (seats after : List TerminalSeat) → List ℕ
-    → ℕ → Option End → List ℕ → Type 0
-LineTells plan old new seats after line number end text =
-    Skips old new seats after line end text
-    ⊎ (CarriesOutLine plan old new seats after line end text
-    ⊎ RefusesLine plan old new seats after line number end text)

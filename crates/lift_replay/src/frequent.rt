@@ -6,6 +6,7 @@ ghost use Rattle.std.specs.Fmt.{decimal};
 ghost use Rattle.lift_base.specs.Text.{dir_text, letter_text};
 ghost use Rattle.lift_replay.specs.Grammar.{Spells};
 
+use crate::ask::ScriptAsk;
 use crate::line::ScriptLine;
 use crate::query::Query;
 use lift_base::{Dir, Floor, Letter, Number, Party, Stop};
@@ -126,7 +127,7 @@ fn stop_in(line: &[u8]) -> Option<ScriptLine>
     let number = Number::new(number)?;
     let floor = floor_of(floor)?;
     let stop = Stop { floor, dir };
-    Some(ScriptLine::Stop { car, number, stop })
+    Some(ScriptLine::Ask(ScriptAsk::Stop { car, number, stop }))
 }
 
 fn call_in(line: &[u8]) -> Option<ScriptLine>
@@ -138,12 +139,12 @@ fn call_in(line: &[u8]) -> Option<ScriptLine>
     let floor = last_floor(rest)?;
     let number = Number::new(number)?;
     let party = Party::default();
-    Some(ScriptLine::Call {
+    Some(ScriptLine::Ask(ScriptAsk::Call {
         kiosk,
         number,
         floor,
         party,
-    })
+    }))
 }
 
 fn cost_in(line: &[u8]) -> Option<ScriptLine>

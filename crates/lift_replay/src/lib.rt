@@ -2,6 +2,8 @@
 //! reports.
 #![tactic(auto)]
 
+mod ask;
+mod device_action;
 mod frequent;
 mod input;
 mod law;
@@ -18,6 +20,8 @@ mod source;
 mod station;
 mod terminals;
 
+pub use ask::ScriptAsk;
+pub use device_action::DeviceAction;
 pub use input::{InputFault, read_all};
 pub use law::each_script_has_one_report;
 pub use line::ScriptLine;

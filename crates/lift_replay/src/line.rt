@@ -1,44 +1,22 @@
 ghost use Rattle.std.specs.Prelude.{◌↔◌, IsTrue};
 ghost use Rattle.lift_replay.specs.Grammar.{IsKnown};
 
+use crate::ask::ScriptAsk;
+use crate::device_action::DeviceAction;
 use crate::query::Query;
-use lift_base::{Floor, Letter, Number, Party, Position, Stop};
 use lift_building::Building;
-use lift_disk::Outcome;
 
 /// What a line of a script asks for.
 #[derive(Clone, Copy, PartialEq, Eq)]
 pub enum ScriptLine {
-    /// The car asks Place, with number 0.
-    Place {
-        car: Letter,
-        position: Position,
-    },
-    /// The kiosk, 0 to 46, asks Call.
-    Call {
-        kiosk: u8,
-        number: Number,
-        floor: Floor,
-        party: Party,
-    },
-    /// The car asks Stop.
-    Stop {
-        car: Letter,
-        number: Number,
-        stop: Stop,
-    },
+    /// A terminal asks.
+    Ask(ScriptAsk),
     /// One turn of the clerk, then all terminals hear.
     Turn,
     /// What is shown of the group, which nothing changes.
     Show(Query),
-    /// After this many device calls, at most 1,000,000, every call fails.
-    Fuse {
-        calls: u32,
-    },
-    /// The power is cut, and comes back: what becomes of the sectors that weren't safe.
-    Cut {
-        outcome: Outcome,
-    },
+    /// What is done to the group's device.
+    Device(DeviceAction),
 }
 
 impl ScriptLine {
@@ -47,13 +25,10 @@ impl ScriptLine {
         ensures { IsTrue result ↔ IsKnown building.now self.now }
     {
         match *self {
-            ScriptLine::Place { car, .. } => car.get() < building.cars(),
-            ScriptLine::Stop { car, .. } => car.get() < building.cars(),
-            ScriptLine::Call { kiosk, .. } => kiosk < building.kiosks(),
+            ScriptLine::Ask(ask) => ask.is_known(building),
             ScriptLine::Turn => true,
             ScriptLine::Show(query) => query.is_known(building),
-            ScriptLine::Fuse { .. } => true,
-            ScriptLine::Cut { .. } => true,
+            ScriptLine::Device(action) => action.is_known(building),
         }
     }
 }

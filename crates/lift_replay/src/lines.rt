@@ -4,11 +4,13 @@ ghost use Rattle.std.specs.Prelude.{◌≡◌, ◌<◌, ◌+◌, ◌++◌, ℕ, 
 ghost use Rattle.std.specs.Prelude.{OnOk, IfOk, IfSome};
 ghost use Rattle.lift_replay.specs.Grammar.{IsKnown};
 ghost use Rattle.lift_desk.specs.Seats.{IsClerkOf};
+ghost use Rattle.lift_replay.specs.DeviceAction.{DoesToDevice};
+ghost use Rattle.lift_replay.specs.Lines.{Tells, LineTells, end_of};
 ghost use Rattle.lift_replay.specs.Told.{Asks, KeepsKeeper, KeepsPlace, TurnTells, OutcomeTells};
 ghost use Rattle.lift_replay.specs.Shows.{AreReady};
-ghost use Rattle.lift_replay.specs.Told.{HasTaken, Tells, LineTells, IsArmed, end_of};
-ghost use Rattle.lift_replay.specs.declared.line.ScriptLine.TheVariants.{Fuse, Cut as CutLine};
-ghost use Rattle.lift_disk.specs.declared.outcome.Outcome.{Outcome as Cut};
+ghost use Rattle.lift_replay.specs.Told.{HasTaken};
+ghost use Rattle.lift_replay.specs.declared.line.ScriptLine.TheVariants.{Device};
+ghost use Rattle.lift_replay.specs.declared.device_action.DeviceAction.{DeviceAction};
 
 use crate::line::ScriptLine;
 use crate::parsing::parse;
@@ -16,11 +18,10 @@ use crate::refused::NoMemory;
 use crate::report::{push_bad, push_fault, push_spent, push_turn, push_waiting};
 use crate::station::Station;
 use lift_base::{Body, Number, Terminal};
-use lift_building::Building;
 use lift_clerk::Clerk;
 use lift_desk::AskRefusal;
 use lift_disk::{FuseDisk, Outcome};
-use lift_policy::Etd;
+use lift_policy::{Command, Etd};
 
 /// Whether all lines were carried out, or one of them, or the text before them, was malformed.
 #[derive(Clone, Copy, PartialEq, Eq)]
@@ -105,18 +106,6 @@ fn push_turn_of(report: &mut String, station: &mut Station) -> Result<(), NoMemo
     station.terminals.push_all_heard(report)
 }
 
-/// The terminal of a kiosk of the building.
-fn terminal_of(building: &Building, kiosk: u8) -> Terminal
-    requires { kiosk < length building.now.kiosks }
-    ensures { result ≡ 16 + kiosk }
-{
-    let _limit = building.kiosks();
-    match Terminal::of_kiosk(kiosk) {
-        Some(terminal) => terminal,
-        None => unreachable!(),
-    }
-}
-
 /// Carries out a line. The answer is what ends the lines at this desk, if it does.
 fn carry_out(
     report: &mut String,
@@ -130,39 +119,19 @@ fn carry_out(
         station.old.terminals.seats.items station.new.terminals.seats.items line.now told
         × (string_bytes report.new ≡ string_bytes report.old ++ told)) }
     ensures end { IfOk result (λ end. end ≡ end_of line.now) }
-    ensures fuse { (calls : ℕ) → line.now ≡ Fuse calls
-        → OnOk result (IsArmed calls station.old.clerk station.new.clerk
+    ensures device { (action : DeviceAction) → line.now ≡ Device action
+        → OnOk result (DoesToDevice action station.old.clerk station.new.clerk
         × (station.new.terminals ≡ station.old.terminals)) }
-    ensures cut { (outcome : Cut) → line.now ≡ CutLine outcome
-        → OnOk result (station.new ≡ station.old) }
     ensures building { station.new.building ≡ station.old.building }
 {
-    let _cars = station.building.cars();
     match *line {
-        ScriptLine::Place { car, position } => {
-            let body = Body::Place(position.floor, position.dir);
-            push_ask(
-                report,
-                station,
-                Terminal::of_car(car),
-                Number::default(),
+        ScriptLine::Ask(ask) => {
+            let Command {
+                terminal,
+                number,
                 body,
-            )?;
-            Ok(None)
-        }
-        ScriptLine::Stop { car, number, stop } => {
-            let body = Body::Stop(stop.floor, stop.dir);
-            push_ask(report, station, Terminal::of_car(car), number, body)?;
-            Ok(None)
-        }
-        ScriptLine::Call {
-            kiosk,
-            number,
-            floor,
-            party,
-        } => {
-            let terminal = terminal_of(station.building, kiosk);
-            push_ask(report, station, terminal, number, Body::Call(floor, party))?;
+            } = ask.command(station.building);
+            push_ask(report, station, terminal, number, body)?;
             Ok(None)
         }
         ScriptLine::Turn => {
@@ -173,11 +142,10 @@ fn carry_out(
             query.push_shown(report, station.building, station.clerk.keeper())?;
             Ok(None)
         }
-        ScriptLine::Fuse { calls } => {
-            station.clerk.arm(calls);
-            Ok(None)
-        }
-        ScriptLine::Cut { outcome } => Ok(Some(End::Cut(outcome))),
+        ScriptLine::Device(action) => match action.carry_out(&mut station.clerk) {
+            Some(outcome) => Ok(Some(End::Cut(outcome))),
+            None => Ok(None),
+        },
     }
 }
 

@@ -1,23 +1,21 @@
 //! From a script's line to what it asks for.
 
-ghost use Rattle.std.specs.Prelude.{◌≡◌, ◌≢◌, ◌<◌, ◌≤◌, ◌⊎◌, ◌∷◌, [], ℕ, List, map, IfSome, IfNone};
+ghost use Rattle.std.specs.Prelude.{◌≡◌, ◌≢◌, ◌<◌, ◌⊎◌, ◌∷◌, ℕ, IfSome, IfNone};
 ghost use Rattle.std.specs.Prelude.{codes, IsTrue, false};
 ghost use Rattle.std.specs.Fmt.{decimal};
 ghost use Rattle.lift_base.specs.Text.{dir_text};
 ghost use Rattle.lift_base.specs.declared.travel.Dir.{Dir as Direction};
 ghost use Rattle.lift_base.specs.lemmas.Texts.{texts};
-ghost use Rattle.lift_replay.specs.Grammar.{Spells, AreReadAsLine, outcome_words, IsOutcomeInRange};
-ghost use Rattle.lift_disk.specs.declared.outcome.Outcome.{Outcome as Left};
+ghost use Rattle.lift_replay.specs.Grammar.{Spells, AreReadAsLine};
 ghost use Rattle.lift_replay.specs.declared.line.ScriptLine.{ScriptLine as Wanted};
 
+use crate::ask::ask_of;
+use crate::device_action::device_action_of;
 use crate::frequent::frequent;
 use crate::line::ScriptLine;
 use crate::query::query_of;
-use lift_base::text::{
-    dir_of_word, letter_of_word, number_of_word, number_up_to, party_of_words, words_of,
-};
-use lift_base::{Dir, Floor, Position, Stop};
-use lift_disk::Outcome;
+use lift_base::text::{dir_of_word, number_up_to, words_of};
+use lift_base::{Dir, Floor};
 
 /// The floor, 0 to 63, that a word names.
 pub fn floor_of(word: &str) -> Option<Floor>
@@ -41,38 +39,8 @@ pub fn kiosk_of(word: &str) -> Option<u8>
     }
 }
 
-/// What the last words of a power cut say that it leaves.
-fn outcome_of(words: &[&str]) -> Option<Outcome>
-    ensures some { IfSome result (λ outcome.
-        map (λ word. word.now) words.now ≡ outcome_words outcome) }
-    ensures range { IfSome result (λ outcome. IsOutcomeInRange outcome) }
-    ensures none { IfNone result ((outcome : Left) → IsOutcomeInRange outcome
-        → map (λ word. word.now) words.now ≢ outcome_words outcome) }
-{
-    match words {
-        [word] => {
-            if *word == "keep" {
-                Some(Outcome::Keep)
-            } else if *word == "lose" {
-                Some(Outcome::Lose)
-            } else {
-                None
-            }
-        }
-        [word, byte] => {
-            if *word == "fill" {
-                let byte = number_up_to(byte, 255)?;
-                Some(Outcome::Fill(byte as u8))
-            } else {
-                None
-            }
-        }
-        _ => None,
-    }
-}
-
 /// The floor and the direction that two words name.
-fn at_of(floor: &str, dir: &str) -> Option<(Floor, Dir)>
+pub fn at_of(floor: &str, dir: &str) -> Option<(Floor, Dir)>
     ensures some { IfSome result (λ at. (floor.now ≡ decimal at.0) × (at.0 < 64)
         × (dir.now ≡ dir_text at.1)) }
     ensures none { IfNone result (((at : ℕ) → at < 64 → floor.now ≢ decimal at)
@@ -81,60 +49,6 @@ fn at_of(floor: &str, dir: &str) -> Option<(Floor, Dir)>
     let floor = floor_of(floor)?;
     let dir = dir_of_word(dir)?;
     Some((floor, dir))
-}
-
-fn place_of(words: &[&str]) -> Option<ScriptLine>
-    ensures { AreReadAsLine (codes "place" ∷ texts words.now) result }
-{
-    let [car, floor, dir] = words else {
-        return None;
-    };
-    let car = letter_of_word(car)?;
-    let (floor, dir) = at_of(floor, dir)?;
-    let position = Position { floor, dir };
-    Some(ScriptLine::Place { car, position })
-}
-
-fn call_of(words: &[&str]) -> Option<ScriptLine>
-    ensures { AreReadAsLine (codes "call" ∷ texts words.now) result }
-{
-    let [kiosk, number, floor, party @ ..] = words else {
-        return None;
-    };
-    Some(ScriptLine::Call {
-        kiosk: kiosk_of(kiosk)?,
-        number: number_of_word(number)?,
-        floor: floor_of(floor)?,
-        party: party_of_words(party)?,
-    })
-}
-
-fn stop_of(words: &[&str]) -> Option<ScriptLine>
-    ensures { AreReadAsLine (codes "stop" ∷ texts words.now) result }
-{
-    let [car, number, floor, dir] = words else {
-        return None;
-    };
-    let car = letter_of_word(car)?;
-    let number = number_of_word(number)?;
-    let (floor, dir) = at_of(floor, dir)?;
-    let stop = Stop { floor, dir };
-    Some(ScriptLine::Stop { car, number, stop })
-}
-
-fn fuse_of(words: &[&str]) -> Option<ScriptLine>
-    ensures { AreReadAsLine (codes "fuse" ∷ texts words.now) result }
-{
-    let [calls] = words else { return None };
-    let calls = number_up_to(calls, 1_000_000)?;
-    Some(ScriptLine::Fuse { calls })
-}
-
-fn cut_of(words: &[&str]) -> Option<ScriptLine>
-    ensures { AreReadAsLine (codes "cut" ∷ texts words.now) result }
-{
-    let outcome = outcome_of(words)?;
-    Some(ScriptLine::Cut { outcome })
 }
 
 /// The line of a turn, that no words may stand after.
@@ -169,18 +83,17 @@ fn is_four(text: &str, word: &[u8; 4]) -> bool
 fn asked_by(first: &str, others: &[&str]) -> Option<ScriptLine>
     ensures { AreReadAsLine (first.now ∷ texts others.now) result }
 {
-    match first {
-        "place" => place_of(others),
-        "call" => call_of(others),
-        "stop" => stop_of(others),
-        "turn" => turn_of(others),
-        "fuse" => fuse_of(others),
-        "cut" => cut_of(others),
-        _ => {
-            let query = query_of(first, others)?;
-            Some(ScriptLine::Show(query))
-        }
+    if first == "turn" {
+        return turn_of(others);
     }
+    if let Some(ask) = ask_of(first, others) {
+        return Some(ScriptLine::Ask(ask));
+    }
+    if let Some(action) = device_action_of(first, others) {
+        return Some(ScriptLine::Device(action));
+    }
+    let query = query_of(first, others)?;
+    Some(ScriptLine::Show(query))
 }
 
 /// What a line asks for, none where it is malformed.

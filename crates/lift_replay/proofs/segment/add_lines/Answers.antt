@@ -1,7 +1,7 @@
 use Rattle.std.proofs.Common.{◌≡◌, ◌<◌, ◌+◌, ◌++◌, ◌∙◌, Some, None, [], length, refl, sym, ap, subst, arith, string_bytes}
 use Rattle.lift_building.specs.Plan.{Plan}
 use Rattle.lift_policy.specs.Choices.{total_cost_at}
-use Rattle.lift_replay.specs.Told.{LineTells}
+use Rattle.lift_replay.specs.Lines.{LineTells}
 use Rattle.lift_replay.specs.Source.{lines_in}
 use Rattle.lift_replay.proofs.LineSteps.{line_goes_on, line_ends}
 use Rattle.lift_replay.proofs.Ready.{line_ready}

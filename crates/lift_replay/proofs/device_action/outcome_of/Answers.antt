@@ -2,7 +2,7 @@ use Rattle.std.proofs.Common.{ap, sym, ◌∙◌, ◌∷◌, []}
 use Rattle.lift_base.specs.lemmas.Words.{same_text}
 use Rattle.lift_base.specs.lemmas.Texts.{alone, pair}
 use Rattle.lift_replay.proofs.Words.{both}
-use Rattle.lift_replay.proofs.parsing.outcome_of.Goals as goal
+use Rattle.lift_replay.proofs.device_action.outcome_of.Goals as goal
 
 pub returns-then-eq-clause-some : goal.returns-then-eq-clause-some
 returns-then-eq-clause-some c = alone c.args.words.now _ c.in-len1.len_at_least c.in-len1.len_below ∙ ap (λ w. w ∷ []) (same_text _ _ (sym c.if-eq.ensures))
