@@ -24,19 +24,24 @@ use Rattle.lift_clerk.specs.declared.counts.Counts.{Counts}
 use Rattle.lift_clerk.specs.declared.scan.Answer.{Answer}
 use Rattle.lift_clerk.specs.Visits.{Visit, commands_of, served, LooksAndAnswers}
 use Rattle.lift_clerk.specs.Clerk.{ClerkState}
-use Rattle.lift_clerk.specs.Scanning.{Decides, IsScanned, Scans, replies_in, replies_told}
+use Rattle.lift_clerk.specs.Scanning.{ClerkScans, Decides, IsScanned, replies_in, replies_told}
 use Rattle.lift_clerk.specs.Turn.{IsFailedTurn, IsBrokenTurn}
 use Rattle.lift_clerk.specs.lemmas.Visiting.{nothing_owed}
 use Rattle.lift_clerk.proofs.Answered.{many-commands, told_unknown}
 
+-- what answering has done
+abbrev StoresAll : List ClerkPlace → List ClerkPlace → List Answer → Bool → Type 0
+StoresAll seat next answers is_safe = (places : List ClerkPlace) (visits : List Visit) → IsScanned places visits seat answers → next ≡ served places visits (replies_told is_safe answers)
+
 -- each look is answered
-pub serves_all : (desk : List TableId) (places seat next : List ClerkPlace) (visits : List Visit) (answers : List Answer) (is_safe : Bool) → length visits ≡ length desk → IsClerkOf desk places
-    → IsScanned places visits seat answers → next ≡ served places visits (replies_told is_safe answers) → All IsReply (replies_told is_safe answers) → LooksAndAnswers places next visits (replies_told is_safe answers)
-serves_all desk places seat next visits answers is_safe count seated scanned is in_range = record {
-  each_once = count ∙ sym (ap length seated) ∙ length-map places (λ (p : ClerkPlace). p.table);
-  finds = scanned.finds;
-  one_reply_each = length-map answers _ ∙ many-commands answers (commands_of 0 visits) scanned.terminals;
-  stored = is;
+pub serves_all : {D : Type 0} (desk : List TableId) (choice : Choice) (places seat next : List ClerkPlace) (before after : KeeperView D) (answers : List Answer) (is_safe : Bool) → IsClerkOf desk places
+    → (all : ClerkScans choice desk places seat before after answers (length desk)) → StoresAll seat next answers is_safe → All IsReply (replies_told is_safe answers)
+    → LooksAndAnswers places next all.scans.visits (replies_told is_safe answers)
+serves_all desk choice places seat next before after answers is_safe seated all is in_range = record {
+  each_once = all.scans.count ∙ sym (ap length seated) ∙ length-map places (λ (p : ClerkPlace). p.table);
+  finds = all.scans.looks;
+  one_reply_each = length-map answers _ ∙ many-commands answers (commands_of 0 all.scans.visits) all.scans.found.terminals;
+  stored = is places all.scans.visits (record { finds = all.scans.looks; looked = all.scans.looked; terminals = all.scans.found.terminals });
   in_range = in_range;
 }
 
@@ -70,50 +75,51 @@ same_keeper k l states writers = λ i. record { state = states i; writer = write
 pub nothing_waits : (batch : List Entry) (is_broken : Bool) → (batch ≡ []) ⊎ (is_broken ≡ true) → is_broken ≡ false → batch ≡ []
 nothing_waits batch is_broken empty_batch whole = ⊎_elim (λ none. none) (λ broken. absurd (cc)) empty_batch
 
-pub failed_turn : {D P : Type 0} (desk : List TableId) (choice : Choice) (old new : ClerkState D P) (seat : List ClerkPlace) (decided : State) (answers : List Answer)
+pub failed_turn : {D P : Type 0} (desk : List TableId) (choice : Choice) (old new : ClerkState D P) (seat : List ClerkPlace) (between : KeeperView D) (answers : List Answer)
     → IsClerkOf desk old.seat
-    → (scans : Scans choice old.keeper.writer.plan old.keeper.writer.is_broken old.seat seat old.keeper.state decided answers (length desk))
-    → new.seat ≡ served old.seat scans.visits (replies_told false answers) → All IsReply (replies_told false answers) → new.desk ≡ old.desk
+    → (all : ClerkScans choice desk old.seat seat old.keeper between answers (length desk))
+    → StoresAll seat new.seat answers false → All IsReply (replies_told false answers) → new.desk ≡ old.desk
     → (old.keeper.state.batch ≡ []) ⊎ (old.keeper.writer.is_broken ≡ true)
     → old.keeper.writer.is_broken ≡ false
-    → new.keeper.state ≡ decided
-    → (decided.batch ≡ [] → ⊥)
-    → new.keeper.writer.doubt ≡ decided.batch
-    → decided.register ≡ register_of old.keeper.writer.register decided.batch
+    → new.keeper.state ≡ between.state
+    → (between.state.batch ≡ [] → ⊥)
+    → new.keeper.writer.doubt ≡ between.state.batch
+    → between.state.register ≡ register_of old.keeper.writer.register between.state.batch
     → IsFailedTurn choice old new
-failed_turn desk choice old new seat decided answers seated scans stored in_range same_desk empty_batch whole same some doubt register =
+failed_turn desk choice old new seat between answers seated all stored in_range same_desk empty_batch whole same some doubt register =
+    let scans = all.scans in
     let commands = commands_of 0 scans.visits in
-    let many = many-commands answers commands scans.scanned.terminals in
+    let many = many-commands answers commands scans.found.terminals in
     record {
       visits = scans.visits;
       decided_so = replies_in answers;
       desk = same_desk;
-      serves = subst (LooksAndAnswers old.seat new.seat scans.visits) (told_unknown answers commands many) (serves_all desk old.seat seat new.seat scans.visits answers false scans.count seated scans.scanned stored in_range);
+      serves = subst (LooksAndAnswers old.seat new.seat scans.visits) (told_unknown answers commands many) (serves_all desk choice old.seat seat new.seat old.keeper between answers false seated all stored in_range);
       begins = nothing_waits old.keeper.state.batch old.keeper.writer.is_broken empty_batch whole;
       run = subst (Run old.keeper.writer.plan choice old.keeper.state commands (replies_in answers)) (sym same)
-          (run_of choice old.keeper.writer.plan old.keeper.writer.is_broken old.keeper.state decided commands (replies_in answers) whole scans.decides);
-      some = subst (λ (s : State). 0 < length s.batch) (sym same) (not_empty decided.batch some);
+          (run_of choice old.keeper.writer.plan old.keeper.writer.is_broken old.keeper.state between.state commands (replies_in answers) whole scans.found.decides);
+      some = subst (λ (s : State). 0 < length s.batch) (sym same) (not_empty between.state.batch some);
       doubt = doubt ∙ ap (λ (s : State). s.batch) (sym same);
       register = subst (λ (s : State). s.register ≡ register_of old.keeper.writer.register s.batch) (sym same) register;
     }
 
-pub broken_turn : {D P : Type 0} (desk : List TableId) (choice : Choice) (old new : ClerkState D P) (seat : List ClerkPlace) (answers : List Answer) (between : KeeperView D)
+pub broken_turn : {D P : Type 0} (desk : List TableId) (choice : Choice) (old new : ClerkState D P) (seat : List ClerkPlace) (between : KeeperView D) (answers : List Answer)
     → IsClerkOf desk old.seat
-    → (scans : Scans choice old.keeper.writer.plan old.keeper.writer.is_broken old.seat seat old.keeper.state between.state answers (length desk))
-    → new.seat ≡ served old.seat scans.visits (replies_told false answers) → All IsReply (replies_told false answers) → new.desk ≡ old.desk
+    → (all : ClerkScans choice desk old.seat seat old.keeper between answers (length desk))
+    → StoresAll seat new.seat answers false → All IsReply (replies_told false answers) → new.desk ≡ old.desk
     → old.keeper.writer.is_broken ≡ true
-    → between.writer ≡ old.keeper.writer
     → new.keeper ≡ between
     → IsBrokenTurn old new
-broken_turn desk choice old new seat answers between seated scans stored in_range same_desk broken writer same =
+broken_turn desk choice old new seat between answers seated all stored in_range same_desk broken same =
+    let scans = all.scans in
     let commands = commands_of 0 scans.visits in
-    let many = many-commands answers commands scans.scanned.terminals in
-    let rests = rest_of choice old.keeper.writer.plan old.keeper.writer.is_broken old.keeper.state between.state commands (replies_in answers) broken scans.decides in
+    let many = many-commands answers commands scans.found.terminals in
+    let rests = rest_of choice old.keeper.writer.plan old.keeper.writer.is_broken old.keeper.state between.state commands (replies_in answers) broken scans.found.decides in
     record {
       visits = scans.visits;
       desk = same_desk;
-      serves = subst (LooksAndAnswers old.seat new.seat scans.visits) (told_unknown answers commands many) (serves_all desk old.seat seat new.seat scans.visits answers false scans.count seated scans.scanned stored in_range);
-      rests = same ∙ same_keeper between old.keeper rests writer;
+      serves = subst (LooksAndAnswers old.seat new.seat scans.visits) (told_unknown answers commands many) (serves_all desk choice old.seat seat new.seat old.keeper between answers false seated all stored in_range);
+      rests = same ∙ same_keeper between old.keeper rests all.writer;
     }
 
 -- what the scan accepted was committed

@@ -1,15 +1,17 @@
 -- A scan and its answers, as far as they have come.
-use Rattle.std.specs.Prelude.{ℕ, Bool, true, false, ◌≡◌, List, map, length, if◌then◌else◌}
+use Rattle.std.specs.Prelude.{ℕ, Bool, true, false, ◌≡◌, ◌≤◌, List, map, length, if◌then◌else◌}
+use Rattle.atomic_table.specs.Seated.{TableId}
 use Rattle.lift_base.specs.declared.command.Reply.{Reply}
 use Rattle.lift_base.specs.declared.command.Reply.TheVariants.{Unknown}
 use Rattle.lift_building.specs.Plan.{Plan}
-use Rattle.lift_desk.specs.Seats.{ClerkPlace}
+use Rattle.lift_desk.specs.Seats.{ClerkPlace, IsClerkOf}
 use Rattle.lift_policy.specs.declared.command.Command.{Command}
 use Rattle.lift_policy.specs.Eligible.{Choice}
 use Rattle.lift_policy.specs.Step.{State}
 use Rattle.lift_policy.specs.Run.{Run, RunWhileBroken}
+use Rattle.lift_keeper.specs.Keeper.{KeeperView}
 use Rattle.lift_clerk.specs.declared.scan.Answer.{Answer}
-use Rattle.lift_clerk.specs.Visits.{Visit, Finds, commands_of, looked_at}
+use Rattle.lift_clerk.specs.Visits.{Visit, Finds, FindsAt, Scans, commands_of, looked_at}
 
 abbrev pub terminals_in : List Answer → List ℕ
 terminals_in answers = map (λ (a : Answer). a.terminal) answers
@@ -40,11 +42,19 @@ pub record IsScanned (places : List ClerkPlace) (visits : List Visit) (seat : Li
   pub looked : seat ≡ looked_at places visits
   pub terminals : terminals_in answers ≡ terminals_of (commands_of 0 visits)
 
--- the first n places were looked at, and what was found was decided
-pub record Scans (choice : Choice) (plan : Plan) (is_broken : Bool) (places seat : List ClerkPlace)
-    (before after : State) (answers : List Answer) (n : ℕ) : Type 0 where
-  pub visits : List Visit
-  pub count : length visits ≡ n
-  pub scanned : IsScanned places visits seat answers
+-- what these looks found was decided, each command on the state that the earlier ones left
+pub record ClerkDecides (choice : Choice) (plan : Plan) (is_broken : Bool) (before after : State)
+    (answers : List Answer) (visits : List Visit) : Type 0 where
+  pub terminals : terminals_in answers ≡ terminals_of (commands_of 0 visits)
   pub decides : Decides is_broken plan choice before (commands_of 0 visits)
       (replies_in answers) after
+
+-- a clerk's scan as far as n terminals of its desk: of its seats, and of its keeper
+pub record ClerkScans {D : Type 0} (choice : Choice) (desk : List TableId)
+    (places seat : List ClerkPlace) (before after : KeeperView D) (answers : List Answer)
+    (n : ℕ) : Type 0 where
+  pub scans : Scans FindsAt (ClerkDecides choice before.writer.plan before.writer.is_broken
+      before.state after.state answers) places seat n
+  pub seated : IsClerkOf desk seat
+  pub writer : after.writer ≡ before.writer
+  pub few : before.writer.is_broken ≡ false → length after.state.batch ≤ n

@@ -43,6 +43,16 @@ looked_at [] (visit ∷ visits) = []
 looked_at (place ∷ places) (visit ∷ visits) =
     placed_at place.table (with_taking place.view visit.word) ∷ looked_at places visits
 
+-- One scan as far as n places: the first n were looked at once each, in their order, and nothing else
+-- was; and this holds of what these looks found.
+pub record Scans (IsLook : ClerkPlace → Visit → Type 0) (Found : List Visit → Type 0)
+    (places seat : List ClerkPlace) (n : ℕ) : Type 0 where
+  pub visits : List Visit
+  pub count : length visits ≡ n
+  pub looks : AreLooksAt IsLook places visits
+  pub looked : seat ≡ looked_at places visits
+  pub found : Found visits
+
 -- the command that a look at a terminal took
 abbrev pub command_at : ℕ → Option Ask → List Command
 command_at terminal None = []

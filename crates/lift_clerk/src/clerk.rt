@@ -10,7 +10,7 @@ ghost use Rattle.lift_clerk.specs.Clerk.{IsClerk, IsToldAt};
 ghost use Rattle.lift_clerk.specs.Turn.{IsTurn, IsFailedTurn, IsBrokenTurn, batch_size};
 
 use crate::counts::Counts;
-use crate::scan::{Answer, answer_all, scan};
+use crate::scan::{Answer, ClerkParts, answer_all, scan_desk};
 use arrayvec::ArrayVec;
 use lift_base::MOST_ENTRIES;
 use lift_desk::{ClerkSeat, Desk, Seat};
@@ -25,9 +25,7 @@ use std::marker::Model;
 #[derive(Drop)]
 pub struct Clerk<'d, 'b, D: Disk, P: Policy + Drop> {
     desk: &'d Desk,
-    seat: ClerkSeat,
-    keeper: Keeper<'b, D>,
-    policy: P,
+    parts: ClerkParts<'b, D, P>,
     /// Room for the answers of a turn, so that none is made for each.
     answers: ArrayVec<Answer, MOST_ENTRIES>,
 }
@@ -39,13 +37,13 @@ impl<'d, 'b, D: Disk, P: Policy + Drop> Model for Clerk<'d, 'b, D, P> {
 
     ghost view = { λ c. record {
       desk = c.desk.now;
-      seat = c.seat;
-      keeper = c.keeper;
-      policy = c.policy;
+      seat = c.parts.seat;
+      keeper = c.parts.keeper;
+      policy = c.parts.policy;
     } };
 
     ghost invariant = { λ c.
-        IsClerk c.desk.now c.seat c.keeper.state.batch c.keeper.writer.is_broken };
+        IsClerk c.desk.now c.parts.seat c.parts.keeper.state.batch c.parts.keeper.writer.is_broken };
 }
 
 impl<'d, 'b, D: Disk, P: Policy + Drop> Clerk<'d, 'b, D, P> {
@@ -61,11 +59,14 @@ impl<'d, 'b, D: Disk, P: Policy + Drop> Clerk<'d, 'b, D, P> {
           policy = policy;
         } }
     {
-        Clerk {
-            desk,
+        let parts = ClerkParts {
             seat,
             keeper,
             policy,
+        };
+        Clerk {
+            desk,
+            parts,
             answers: ArrayVec::new(),
         }
     }
@@ -82,7 +83,7 @@ impl<'d, 'b, D: Disk, P: Policy + Drop> Clerk<'d, 'b, D, P> {
         ensures value { result.now ≡ self.now.keeper }
         ensures empty_batch { (result.now.state.batch ≡ []) ⊎ (result.now.writer.is_broken ≡ true) }
     {
-        &self.keeper
+        &self.parts.keeper
     }
 
     /// Tells it what a terminal has asked so far, and the terminal what was answered there so far.
@@ -98,7 +99,7 @@ impl<'d, 'b, D: Disk, P: Policy + Drop> Clerk<'d, 'b, D, P> {
             (lists_of seat.old.view (view_at self.old.seat seat.old.terminal)) }
         ensures seat_stays { IsSeatOf self.new.desk seat.new }
     {
-        self.desk.tell(seat, &mut self.seat)
+        self.desk.tell(seat, &mut self.parts.seat)
     }
 
     /// One turn: looks once at each terminal, takes at most one command of each, decides these in
@@ -127,25 +128,19 @@ impl<'d, 'b, D: Disk, P: Policy + Drop> Clerk<'d, 'b, D, P> {
         ensures seated { IsClerkOf self.new.desk self.new.seat }
         ensures answered { OwesNothing self.new.seat }
     {
-        scan(
-            self.desk,
-            &mut self.seat,
-            &mut self.keeper,
-            &self.policy,
-            &mut self.answers,
-        );
+        scan_desk(self.desk, &mut self.parts, &mut self.answers);
         let counts = Counts {
             taken: self.answers.len(),
-            accepted: self.keeper.pending(),
+            accepted: self.parts.keeper.pending(),
         };
-        let _shown = self.keeper.register();
-        match self.keeper.commit() {
+        let _shown = self.parts.keeper.register();
+        match self.parts.keeper.commit() {
             Ok(()) => {
-                answer_all(self.desk, &mut self.seat, &self.answers, true);
+                answer_all(self.desk, &mut self.parts.seat, &self.answers, true);
                 Ok(counts)
             }
             Err(fault) => {
-                answer_all(self.desk, &mut self.seat, &self.answers, false);
+                answer_all(self.desk, &mut self.parts.seat, &self.answers, false);
                 Err(fault)
             }
         }
@@ -166,7 +161,7 @@ impl<'d, 'b, D: Disk, P: Policy + Drop> Clerk<'d, 'b, D, P> {
             ≡ starting self.new.keeper.writer.register) }
         ensures unmoved { OnErr result (self.new.keeper.state ≡ self.old.keeper.state) }
     {
-        self.keeper.reopen()
+        self.parts.keeper.reopen()
     }
 
     /// Its seats, its keeper and its policy, as they are.
@@ -178,7 +173,7 @@ impl<'d, 'b, D: Disk, P: Policy + Drop> Clerk<'d, 'b, D, P> {
         ensures answered { OwesNothing result.0 }
         ensures empty_batch { (result.1.state.batch ≡ []) ⊎ (result.1.writer.is_broken ≡ true) }
     {
-        (self.seat, self.keeper, self.policy)
+        (self.parts.seat, self.parts.keeper, self.parts.policy)
     }
 }
 
@@ -195,13 +190,13 @@ impl<'d, 'b, D: Arm, P: Policy + Drop> Clerk<'d, 'b, D, P> {
           keeper = record self.old.keeper { writer = record self.old.keeper.writer { device = self.new.keeper.writer.device } };
         } }
     {
-        self.keeper.arm(calls);
+        self.parts.keeper.arm(calls);
     }
 
     /// Whether a growth inside the device was refused, now or earlier.
     pub fn short(&self) -> bool
         ensures { result ≡ (D.state self.now.keeper.writer.device).is_short }
     {
-        self.keeper.short()
+        self.parts.keeper.short()
     }
 }

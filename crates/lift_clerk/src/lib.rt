@@ -18,3 +18,4 @@ pub use history::{
     turn_is_of_the_history, turn_shows_letters,
 };
 pub use machine::turns_are_the_machines;
+pub use scan::{DeskScan, scan_desk};

@@ -1,17 +1,17 @@
 //! One scan of the desk's terminals, and the answers to what it found.
 
-ghost use Rattle.std.specs.Prelude.{◌≡◌, ◌<◌, ◌≤◌, ◌+◌, [], length, All, true, false};
+ghost use Rattle.std.specs.Prelude.{◌≡◌, ℕ, suc, ◌<◌, ◌≤◌, ◌+◌, List, [], ◌∷◌, ◌++◌, length};
+ghost use Rattle.std.specs.Prelude.{All, Some, false};
 ghost use Rattle.std.specs.Option.{option_to_list};
-ghost use Rattle.lift_base.specs.declared.command.Reply.{Reply as ReplyValue};
-ghost use Rattle.lift_desk.specs.Seats.{ClerkPlace, IsClerkOf};
+ghost use Rattle.atomic_table.specs.Seated.{TableId};
+ghost use Rattle.lift_desk.specs.Seats.{IsClerkOf};
 ghost use Rattle.lift_desk.specs.Words.{IsReply};
-ghost use Rattle.lift_policy.specs.Step.{Step};
-ghost use Rattle.lift_clerk.specs.Visits.{Visit, command_at, served};
-ghost use Rattle.lift_clerk.specs.Scanning.{Decides, IsScanned, Scans, terminals_in, terminals_of};
-ghost use Rattle.lift_clerk.specs.Scanning.{replies_in, replies_told, reply_told};
+ghost use Rattle.lift_clerk.specs.Visits.{command_at, served};
+ghost use Rattle.lift_clerk.specs.Scanning.{ClerkScans, Decides, IsScanned, replies_told};
+ghost use Rattle.lift_clerk.specs.Scanning.{reply_told};
 
 use arrayvec::ArrayVec;
-use lift_base::{MOST_ENTRIES, Reply, Terminal, push_some};
+use lift_base::{MOST_ENTRIES, Reply, Terminal};
 use lift_desk::{Ask, ClerkSeat, Desk};
 use lift_disk::Disk;
 use lift_keeper::Keeper;
@@ -34,6 +34,62 @@ impl Answer {
     }
 }
 
+/// Who looks at the terminals of a desk, one after another, and decides what it finds there.
+pub trait DeskScan<T> {
+    // What its looks at the first so many terminals made of it, and what they found.
+    ghost has_scanned: { List TableId → Self → Self → List T → ℕ → Type 0 };
+
+    /// Looks once at the next terminal, and decides what is asked there.
+    fn visit(&mut self, desk: &Desk, terminal: Terminal) -> Option<T>
+        requires terminal { terminal < length desk.now }
+        requires scanned { (start : Self) × (found : List T)
+            × has_scanned desk.now start self.old found terminal }
+        ensures { (start : Self) (found : List T) → has_scanned desk.now start self.old found terminal
+            → has_scanned desk.now start self.new (found ++ option_to_list result) (suc terminal) };
+}
+
+/// Looks once at each terminal, and decides what is asked there, in rising order, each on the state
+/// that the earlier ones left.
+pub fn scan_desk<T: Default + Drop, S: DeskScan<T>>(
+    desk: &Desk,
+    scanner: &mut S,
+    found: &mut ArrayVec<T, MOST_ENTRIES>,
+)
+    requires begins { S.has_scanned desk.now scanner.old scanner.old [] 0 }
+    ensures { S.has_scanned desk.now scanner.old scanner.new found.new.items (length desk.now) }
+{
+    found.clear();
+    for t in 0..desk.len() {
+        let terminal = Terminal::new(t as u8).unwrap();
+        if let Some(item) = scanner.visit(desk, terminal) {
+            found.push(item);
+        }
+    }
+}
+
+/// What a clerk scans with: its seats, its keeper, and the policy that names cars.
+#[derive(Drop)]
+pub struct ClerkParts<'b, D: Disk, P: Policy + Drop> {
+    pub seat: ClerkSeat,
+    pub keeper: Keeper<'b, D>,
+    pub policy: P,
+}
+
+impl<'b, D: Disk, P: Policy + Drop> DeskScan<Answer> for ClerkParts<'b, D, P> {
+    ghost has_scanned = { λ desk old new answers n. (new.policy ≡ old.policy)
+        × ClerkScans (P.chooses old.policy) desk old.seat new.seat old.keeper new.keeper answers
+        n };
+
+    // (each turn looks at each terminal)
+    #[inline(always)]
+    fn visit(&mut self, desk: &Desk, terminal: Terminal) -> Option<Answer> {
+        decisions_keep(&self.policy);
+        let ask = desk.look(&mut self.seat, terminal)?;
+        let reply = decide(&mut self.keeper, &self.policy, terminal, ask);
+        Some(Answer { terminal, reply })
+    }
+}
+
 /// Decides an ask by the rules. While the keeper is broken it isn't known what becomes of it.
 // (most terminals of a turn ask nothing: apart from their loop it leaves that its registers)
 #[inline(never)]
@@ -44,12 +100,9 @@ fn decide<D: Disk, P: Policy>(
     ask: Ask,
 ) -> Reply
     requires room { keeper.old.writer.is_broken ≡ false → length keeper.old.state.batch < 63 }
-    ensures broken { keeper.old.writer.is_broken ≡ true
-        → (result ≡ ReplyValue.Unknown) × (keeper.new ≡ keeper.old) }
-    ensures step { keeper.old.writer.is_broken ≡ false
-        → Step keeper.old.writer.plan
-        (P.chooses policy.now) keeper.old.state terminal ask.number ask.body result
-        keeper.new.state }
+    ensures decides { Decides keeper.old.writer.is_broken keeper.old.writer.plan
+        (P.chooses policy.now) keeper.old.state
+        (command_at terminal (Some ask)) (result ∷ []) keeper.new.state }
     ensures grows { keeper.old.writer.is_broken ≡ false
         → length keeper.new.state.batch ≤ length keeper.old.state.batch + 1 }
     ensures writer { keeper.new.writer ≡ keeper.old.writer }
@@ -58,67 +111,6 @@ fn decide<D: Disk, P: Policy>(
         Reply::Unknown
     } else {
         keeper.decide(terminal, ask.number, &ask.body, policy)
-    }
-}
-
-/// What a terminal is to be answered, if it asked.
-fn answer_to<D: Disk, P: Policy>(
-    keeper: &mut Keeper<'_, D>,
-    policy: &P,
-    terminal: Terminal,
-    ask: Option<Ask>,
-) -> Option<Answer>
-    requires room { keeper.old.writer.is_broken ≡ false → length keeper.old.state.batch < 63 }
-    ensures terminal { terminals_in (option_to_list result)
-        ≡ terminals_of (command_at terminal ask) }
-    ensures decides { Decides keeper.old.writer.is_broken keeper.old.writer.plan
-        (P.chooses policy.now) keeper.old.state
-        (command_at terminal ask) (replies_in (option_to_list result)) keeper.new.state }
-    ensures grows { keeper.old.writer.is_broken ≡ false
-        → length keeper.new.state.batch ≤ length keeper.old.state.batch + 1 }
-    ensures writer { keeper.new.writer ≡ keeper.old.writer }
-{
-    match ask {
-        Some(ask) => {
-            let reply = decide(keeper, policy, terminal, ask);
-            Some(Answer { terminal, reply })
-        }
-        None => None,
-    }
-}
-
-/// The terminal with this index.
-fn terminal_at(index: usize) -> Terminal
-    requires { index < 63 }
-    ensures { result ≡ index }
-{
-    Terminal::new(index as u8).unwrap()
-}
-
-/// Looks once at each terminal, and decides what is asked there, in rising order, each on the state
-/// that the earlier ones left.
-pub fn scan<D: Disk, P: Policy>(
-    desk: &Desk,
-    seat: &mut ClerkSeat,
-    keeper: &mut Keeper<'_, D>,
-    policy: &P,
-    answers: &mut ArrayVec<Answer, MOST_ENTRIES>,
-)
-    requires seated { IsClerkOf desk.now seat.old }
-    requires empty_batch { keeper.old.writer.is_broken ≡ false → keeper.old.state.batch ≡ [] }
-    ensures scans { Scans (P.chooses policy.now) keeper.old.writer.plan keeper.old.writer.is_broken
-        seat.old seat.new
-        keeper.old.state keeper.new.state answers.new.items (length desk.now) }
-    ensures seated { IsClerkOf desk.now seat.new }
-    ensures writer { keeper.new.writer ≡ keeper.old.writer }
-{
-    decisions_keep(policy);
-    answers.clear();
-    for t in 0..desk.len() {
-        let terminal = terminal_at(t);
-        let ask = desk.look(seat, terminal);
-        let answer = answer_to(keeper, policy, terminal, ask);
-        push_some(answers, answer);
     }
 }
 

@@ -10,7 +10,7 @@ use Rattle.lift_desk.specs.Seats.{ClerkPlace, TakesAheadOf, IsToldAhead}
 use Rattle.lift_policy.specs.Eligible.{Choice}
 use Rattle.lift_policy.specs.Step.{State}
 use Rattle.lift_policy.specs.Run.{Run}
-use Rattle.lift_clerk.specs.Visits.{Visit, AreLooksAt, commands_of, looked_at}
+use Rattle.lift_clerk.specs.Visits.{Visit, AreLooksAt, Scans, commands_of}
 use Rattle.lift_parts.specs.declared.taken.NotedCommand.{NotedCommand}
 use Rattle.lift_parts.specs.Batch.{commands_in, replies_in, noted_in}
 
@@ -51,14 +51,15 @@ abbrev pub words_of : List Visit → List ℕ
 words_of [] = []
 words_of (visit ∷ visits) = word_at visit.word visit.found ++ words_of visits
 
--- The first n places were looked at once each and nothing else was, and what was found was decided,
--- each command on the state that the earlier ones left.
-pub record ScansAhead (choice : Choice) (plan : Plan) (places seat : List ClerkPlace)
-    (before after : State) (taken : List NotedCommand) (n : ℕ) : Type 0 where
-  pub visits : List Visit
-  pub count : length visits ≡ n
-  pub takes : TakesEach places visits
-  pub looked : seat ≡ looked_at places visits
+-- what these looks took was noted, and decided, each command on the state that the earlier ones left
+pub record NotesAndDecides (choice : Choice) (plan : Plan) (before after : State)
+    (taken : List NotedCommand) (visits : List Visit) : Type 0 where
   pub commands : commands_in taken ≡ commands_of 0 visits
   pub notes : noted_in taken ≡ words_of visits
   pub run : Run plan choice before (commands_in taken) (replies_in taken) after
+
+-- a scan ahead of the answers, as far as n terminals
+abbrev pub ScansAhead : Choice → Plan → List ClerkPlace → List ClerkPlace → State → State
+    → List NotedCommand → ℕ → Type 0
+ScansAhead choice plan places seat before after taken n =
+    Scans TakesAt (NotesAndDecides choice plan before after taken) places seat n

@@ -161,15 +161,15 @@ scan_turn {P} choice old a new counts taken decided batch between scans commands
       batch = batch;
       decided = decided;
       each_once = scans.count ∙ ap (λ (s : AllocatorState P). length s.desk) same;
-      takes = subst (λ (s : AllocatorState P). TakesEach s.seat visits) same scans.takes;
+      takes = subst (λ (s : AllocatorState P). TakesEach s.seat visits) same scans.looks;
       looked = scans.looked ∙ ap (λ (s : AllocatorState P). looked_at s.seat visits) same;
-      commands = ap commands_in commands ∙ scans.commands;
-      notes = ap noted_in commands ∙ scans.notes;
-      run = subst (λ (p : AllocatorState P × List Command × List NotedCommand). Run p.0.plan choice p.0.state p.1 (replies_in p.2) decided) (λ i. (same i, scans.commands i, sym commands i)) scans.run;
+      commands = ap commands_in commands ∙ scans.found.commands;
+      notes = ap noted_in commands ∙ scans.found.notes;
+      run = subst (λ (p : AllocatorState P × List Command × List NotedCommand). Run p.0.plan choice p.0.state p.1 (replies_in p.2) decided) (λ i. (same i, scans.found.commands i, sym commands i)) scans.found.run;
       entries = entries;
       after = settles;
-      nothing = λ none. let n = nothing (no_command taken (commands_of 0 visits) scans.commands none) in (n.0 ∙ between.sent, n.1);
-      some = λ any. some (some_command taken (commands_of 0 visits) scans.commands any) ∙ ap (λ l. l ++ batch ∷ []) between.sent;
+      nothing = λ none. let n = nothing (no_command taken (commands_of 0 visits) scans.found.commands none) in (n.0 ∙ between.sent, n.1);
+      some = λ any. some (some_command taken (commands_of 0 visits) scans.found.commands any) ∙ ap (λ l. l ++ batch ∷ []) between.sent;
       sent = subst (λ (l : List BatchState). Begins l new.end.sent) between.sent sent;
       full = λ held. (full held).0;
       refused = λ held. (full held).1 ∙ ap (λ (t : Tries). tried t true) between.tries;
@@ -180,7 +180,7 @@ scan_turn {P} choice old a new counts taken decided batch between scans commands
         place.3 ∙ ap (λ (s : AllocatorState P). s.start) same,
         place.4 ∙ between.line,
       );
-      taken = many ∙ sym (length-map taken (λ (t : NotedCommand). t.command)) ∙ ap length scans.commands;
+      taken = many ∙ sym (length-map taken (λ (t : NotedCommand). t.command)) ∙ ap length scans.found.commands;
       accepted = accepted;
       later = then_later old.end.gone a.end.gone new.end.gone between.later later;
     }
@@ -207,7 +207,7 @@ module _ {P : Type 0} (chooses : P → Choice) (s n : ScannerState P) (end : Sen
 
     stays : n.state ≡ s.state
     stays =
-        let run : scan.decided ≡ s.state = subst (λ (l : List NotedCommand). Run s.plan (chooses s.policy) s.state (commands_in l) (replies_in l) scan.decided) nothing_taken scan.scans.run in
+        let run : scan.decided ≡ s.state = subst (λ (l : List NotedCommand). Run s.plan (chooses s.policy) s.state (commands_in l) (replies_in l) scan.decided) nothing_taken scan.scans.found.run in
         scan.after ∙ ap without_batch run ∙ ap (λ (b : List Entry). record s.state { batch = b }) (sym is.all_sealed)
 
     same_turns : turns_of n.seat ≡ turns_of s.seat

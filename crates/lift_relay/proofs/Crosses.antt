@@ -45,6 +45,7 @@ use Rattle.lift_relay.specs.contracts.line.SendEnd as SendEnd
 use Rattle.lift_relay.specs.contracts.line.SendEnd.TheInside as end_inside
 use Rattle.lift_relay.specs.contracts.side.Side as Side
 use Rattle.lift_relay.specs.contracts.side.Side.TheInside as side_inside
+use Rattle.lift_relay.specs.contracts.scan.AheadParts as AheadParts
 use Rattle.lift_relay.specs.contracts.deciding.Scanner as Scanner
 use Rattle.lift_relay.specs.contracts.deciding.Scanner.TheInside as scanner_inside
 use Rattle.lift_relay.specs.contracts.allocator.Allocator as Allocator
@@ -104,13 +105,13 @@ side_send = view_send _ _ _ _ _ (declared_send side_inside.the_type (line_send, 
 pub end_send : IsSend SendEnd.the_row
 end_send = view_send _ _ _ _ _ (declared_send end_inside.the_type (as_row_send Side.the_field side_send, (as_row_send u64-field (search sendable depth 6), tt)))
 
+parts_send : (b : NamedLft) (P : RattleType) → IsSend P → IsSend (AheadParts.the_row b P)
+parts_send b P s = declared_send (AheadParts.the_type b P) (as_row_send TakeSeat.the_field seat_is.the_send, (as_row_send (Decider.the_field b) (decider_is.the_send b), (as_row_send (row_field P) s, tt)))
+
 scanner_send : (d b : NamedLft) (P : RattleType) (h : Ghosts P.Denot) → IsSend P → IsSend (Scanner.the_row d b P h)
 scanner_send d b P h s = view_send _ _ _ _ _ (declared_send (scanner_inside.the_type d b P h) (
   as_row_send (shr_ref_field d Desk.the_row tt) (shr_send d.mir d.lft Desk.the_row desk_is.the_sync),
-  (
-    as_row_send TakeSeat.the_field seat_is.the_send,
-    (as_row_send (Decider.the_field b) (decider_is.the_send b), (as_row_send (row_field P) s, (snapshot_send (Decider.the_row b), tt))),
-  ),
+  (parts_send b P s, (snapshot_send (Decider.the_row b), tt)),
 ))
 
 allocator_send : (d b : NamedLft) (P : RattleType) (h : Ghosts P.Denot) → IsSend P → IsSend (Allocator.the_row d b P h)

@@ -1,17 +1,20 @@
 -- A scan ahead of the answers that has come one terminal further, and what a whole one leaves.
 use Rattle.std.proofs.Common.{◌≡◌, ℕ, suc, ◌+◌, ◌<◌, ◌≤◌, ◌^◌, false, List, [], ◌∷◌, ◌++◌, length, Option, Some, None, refl, sym, ap, ◌∙◌, subst, arith, append_assoc, append-nil}
 use Rattle.std.specs.Prelude.{IfSome, IsSome}
+use Rattle.std.specs.Option.{option_to_list}
 use Rattle.std.proofs.lemmas.List.{map-append}
+use Rattle.atomic_table.specs.Seated.{TableId}
 use Rattle.lift_base.specs.declared.command.Reply.{Reply}
 use Rattle.lift_building.specs.Plan.{Plan}
 use Rattle.lift_register.specs.Register.{RegisterState, register_of}
 use Rattle.lift_desk.specs.declared.view.ClerkView.{ClerkView}
 use Rattle.lift_desk.specs.declared.words.Ask.{Ask}
-use Rattle.lift_desk.specs.Words.{last_of, turn_of}
+use Rattle.lift_desk.specs.Words.{last_of, turn_of, ask_word}
 use Rattle.lift_desk.specs.Spelled.{IsAsk}
 use Rattle.lift_desk.specs.Steps.{with_taking}
-use Rattle.lift_desk.specs.Seats.{ClerkPlace, view_at, clerk_with, TakesAheadOf, IsToldAhead}
+use Rattle.lift_desk.specs.Seats.{ClerkPlace, IsClerkOf, IsNoteOf, LooksOnce, view_at, clerk_with, TakesAheadOf, IsToldAhead}
 use Rattle.lift_desk.specs.lemmas.Places.{view_at-here}
+use Rattle.lift_decider.specs.Decider.{DeciderState}
 use Rattle.lift_policy.specs.declared.command.Command.{Command}
 use Rattle.lift_policy.specs.Eligible.{Choice}
 use Rattle.lift_policy.specs.Laws.{RunsJoin, StepsJoinAtMostOne}
@@ -21,10 +24,12 @@ use Rattle.lift_keeper.specs.Keeper.{IsKeeper}
 use Rattle.lift_keeper.specs.lemmas.Keepers.{decided_keeper, keeper_without_batch}
 use Rattle.lift_clerk.specs.Visits.{Visit, command_at, commands_of}
 use Rattle.lift_clerk.specs.lemmas.Visiting.{commands-more}
-use Rattle.lift_clerk.specs.lemmas.Looking.{Looked, one-more}
+use Rattle.lift_clerk.specs.lemmas.Looking.{Looked, inside-desk, one-more}
 use Rattle.lift_parts.specs.declared.taken.NotedCommand.{NotedCommand}
-use Rattle.lift_parts.specs.Batch.{commands_in, replies_in, noted_in, AreBelow}
-use Rattle.lift_parts.specs.Scan.{TakesAt, ScansAhead, word_at, words_of}
+use Rattle.lift_parts.specs.Batch.{commands_in, replies_in, noted_in, turns_of, AreBelow}
+use Rattle.lift_parts.specs.Scan.{TakesAt, word_at, words_of}
+use Rattle.lift_relay.specs.Scanner.{TakesAhead}
+use Rattle.lift_relay.proofs.Noted.{noted_more}
 
 -- the words of one look more
 words-more : (visits : List Visit) (v : Visit) → words_of (visits ++ v ∷ []) ≡ words_of visits ++ word_at v.word v.found
@@ -48,25 +53,34 @@ looked-at seat next n word found inside is takes in_range turn known told =
       };
     }
 
-pub scans-more : (choice : Choice) (plan : Plan) (places seat next : List ClerkPlace) (before mid after : State) (taken others : List NotedCommand) (n word : ℕ) (found : Option Ask)
-    → RunsJoin choice → n < length places → ScansAhead choice plan places seat before mid taken n → Looked TakesAt seat next n word found
-    → commands_in others ≡ command_at n found → noted_in others ≡ word_at word found
-    → Run plan choice mid (commands_in others) (replies_in others) after
-    → ScansAhead choice plan places next before after (taken ++ others) (suc n)
-scans-more choice plan places seat next before mid after taken others n word found join inside old look same noted decides =
-    let visits = old.visits in
-    let v : Visit = record { word = word; found = found } in
-    let count : n ≡ length visits = sym old.count in
-    let all = one-more TakesAt places seat next visits n word found inside (record { count = old.count; looks = old.takes; looked = old.looked }) look in
+-- one look more, and what it took decided
+pub takes-more : (choice : Choice) (desk : List TableId) (places seat next : List ClerkPlace) (before mid after : DeciderState) (taken : List NotedCommand) (more : Option NotedCommand) (n : ℕ) (found : Option Ask)
+    → RunsJoin choice → n < length desk → TakesAhead choice desk places seat before mid taken n → (look : LooksOnce TakesAheadOf seat n next found)
+    → IfSome found IsAsk → (IsSome found → turn_of (last_of (view_at next n).taken) < 2 ^ 20) → length (view_at seat n).told ≤ turn_of (last_of (view_at next n).taken)
+    → ((ask : Ask) → IsToldAhead (view_at seat n) ask → IsSome found × (turn_of (last_of (view_at next n).taken) ≡ length (view_at seat n).told → found ≡ Some ask))
+    → IfSome found (λ (ask : Ask). last_of (view_at next n).taken ≡ ask_word (turn_of (last_of (view_at next n).taken)) ask.number ask.body) → IsClerkOf desk next
+    → IfSome more (λ (k : NotedCommand). IsNoteOf desk n k.note × (k.note.word ≡ last_of (view_at next n).taken))
+    → commands_in (option_to_list more) ≡ command_at n found → Run mid.plan choice mid.state (commands_in (option_to_list more)) (replies_in (option_to_list more)) after.state
+    → length after.state.batch ≤ length mid.state.batch + 1 → after.plan ≡ mid.plan → TakesAhead choice desk places next before after (taken ++ option_to_list more) (suc n)
+takes-more choice desk places seat next before mid after taken more n found join below old look in_range turn known told last seated note same run grows plan =
+    let others = option_to_list more in
+    let inside = inside-desk TakesAt _ desk places seat n n old.scans old.seated below in
+    let noted = noted_more desk (turns_of places) taken more seat next n look.0 found inside.0 look.1 look.2 in_range last note same old.noted old.turns in
     record {
-      visits = visits ++ v ∷ [];
-      count = all.count;
-      takes = all.looks;
-      looked = all.looked;
-      notes = map-append (λ (t : NotedCommand). t.note.word) taken others ∙ ap (λ l. l ++ noted_in others) old.notes ∙ ap (λ l. words_of visits ++ l) noted ∙ sym (words-more visits v);
-      commands = map-append (λ (t : NotedCommand). t.command) taken others ∙ ap (λ l. l ++ commands_in others) old.commands ∙ ap (λ l. commands_of 0 visits ++ l) same ∙ sym (commands-more 0 n visits v (omega arith));
-      run = subst (λ (p : List Command × List Reply). Run plan choice before p.0 p.1 after) (λ i. (sym (map-append (λ (t : NotedCommand). t.command) taken others) i, sym (map-append (λ (t : NotedCommand). t.reply) taken others) i))
-          (join plan before mid after (commands_in taken) (commands_in others) (replies_in taken) (replies_in others) old.run decides);
+      scans = one-more TakesAt _ _ places seat next n look.0 found inside.1 old.scans (looked-at seat next n look.0 found inside.0 look.1 look.2 in_range turn known told) (λ visits count was.
+          (let v : Visit = record { word = look.0; found = found } in
+          record {
+            commands = map-append (λ (t : NotedCommand). t.command) taken others ∙ ap (λ l. l ++ commands_in others) was.commands ∙ ap (λ l. commands_of 0 visits ++ l) same ∙ sym (commands-more 0 n visits v (omega (arith, count)));
+            notes = map-append (λ (t : NotedCommand). t.note.word) taken others ∙ ap (λ l. l ++ noted_in others) was.notes ∙ ap (λ l. words_of visits ++ l) noted.2 ∙ sym (words-more visits v);
+            run = subst (λ (p : List Command × List Reply). Run before.plan choice before.state p.0 p.1 after.state) (λ i. (sym (map-append (λ (t : NotedCommand). t.command) taken others) i, sym (map-append (λ (t : NotedCommand). t.reply) taken others) i))
+                (join before.plan before.state mid.state after.state (commands_in taken) (commands_in others) (replies_in taken) (replies_in others) was.run
+                (subst (λ (p : Plan). Run p choice mid.state (commands_in others) (replies_in others) after.state) old.plan run));
+          }));
+      seated = seated;
+      plan = plan ∙ old.plan;
+      few = let few = old.few in omega arith;
+      noted = noted.0;
+      turns = noted.1;
     }
 
 -- what looks from a terminal on took is of the terminals up to the last look

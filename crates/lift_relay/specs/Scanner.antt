@@ -3,13 +3,15 @@ use Rattle.std.specs.Prelude.{ℕ, ◌≡◌, ◌≤◌, ◌<◌, ◌+◌, List,
 use Rattle.atomic_table.specs.Seated.{TableId}
 use Rattle.lift_building.specs.Plan.{Plan}
 use Rattle.lift_desk.specs.Seats.{ClerkPlace, IsClerkOf}
+use Rattle.lift_decider.specs.Decider.{DeciderState}
 use Rattle.lift_policy.specs.Eligible.{Choice}
 use Rattle.lift_policy.specs.Step.{State}
 use Rattle.lift_policy.specs.Run.{Run}
 use Rattle.lift_clerk.specs.declared.counts.Counts.{Counts}
 use Rattle.lift_clerk.specs.Turn.{without_batch}
 use Rattle.lift_parts.specs.declared.taken.NotedCommand.{NotedCommand}
-use Rattle.lift_parts.specs.Batch.{BatchState, turns_of, turns_behind, turns_after, commands_in, replies_in}
+use Rattle.lift_parts.specs.Batch.{BatchState, AreNoted, turns_of, turns_behind, turns_after}
+use Rattle.lift_parts.specs.Batch.{commands_in, replies_in}
 use Rattle.lift_parts.specs.Line.{IsNextBatch}
 use Rattle.lift_parts.specs.Scan.{ScansAhead, turns_in}
 
@@ -22,6 +24,17 @@ pub record ScannerState (P : Type 0) : Type 0 where
   pub state : State
   pub start : State
   pub policy : P
+
+-- A scan as far as n terminals of its desk: of its seats, and of what it decides on. What was taken
+-- has notes, each later than all that was taken there before.
+pub record TakesAhead (choice : Choice) (desk : List TableId) (places seat : List ClerkPlace)
+    (before after : DeciderState) (taken : List NotedCommand) (n : ℕ) : Type 0 where
+  pub scans : ScansAhead choice before.plan places seat before.state after.state taken n
+  pub seated : IsClerkOf desk seat
+  pub plan : after.plan ≡ before.plan
+  pub few : length after.state.batch ≤ n
+  pub noted : AreNoted desk (turns_of places) taken
+  pub turns : turns_after (turns_of places) taken ≡ turns_of seat
 
 -- the batch that a scan makes: it goes on from what was decided and taken before
 pub record MakesBatch {P : Type 0} (choice : Choice) (a : ScannerState P) (seat : List ClerkPlace)

@@ -7,13 +7,13 @@ use Rattle.lift_relay.specs.declared.deciding.Scanner.TheInside.{Inside}
 abbrev pub seen : {P : Type 0} → Inside P → ScannerState P
 seen s = record {
   desk = s.desk.now;
-  seat = s.seat;
-  plan = s.decider.plan;
-  state = s.decider.state;
+  seat = s.parts.seat;
+  plan = s.parts.decider.plan;
+  state = s.parts.decider.state;
   start = s.start.value.state;
-  policy = s.policy;
+  policy = s.parts.policy;
 }
 
 pub record IsScanner {P : Type 0} (s : Inside P) : Type 0 where
-  pub seated : IsClerkOf s.desk.now s.seat
-  pub all_sealed : s.decider.state.batch ≡ []
+  pub seated : IsClerkOf s.desk.now s.parts.seat
+  pub all_sealed : s.parts.decider.state.batch ≡ []

@@ -12,7 +12,7 @@ use crate::basis::Basis;
 use crate::batch::Batch;
 use crate::held::HeldClerk;
 use crate::line::SendEnd;
-use crate::scan::scan;
+use crate::scan::AheadParts;
 use crate::settling::Settler;
 use lift_clerk::Counts;
 use lift_decider::Decider;
@@ -29,9 +29,7 @@ use std::snapshot::Snapshot;
 #[derive(Drop)]
 pub struct Scanner<'d, 'b, P: Policy + Drop> {
     desk: &'d Desk,
-    seat: TakeSeat,
-    decider: Decider<'b>,
-    policy: P,
+    parts: AheadParts<'b, P>,
     /// The decider when the clerk was split.
     start: Snapshot<Decider<'b>>,
 }
@@ -63,13 +61,12 @@ impl<'d, 'b, P: Policy + Drop> Scanner<'d, 'b, P> {
         } }
     {
         let start = Snapshot::of(&decider);
-        Scanner {
-            desk,
+        let parts = AheadParts {
             seat,
             decider,
             policy,
-            start,
-        }
+        };
+        Scanner { desk, parts, start }
     }
 
     /// Looks once at each terminal, in rising order, and decides what was asked, refusals and repeats
@@ -78,11 +75,11 @@ impl<'d, 'b, P: Policy + Drop> Scanner<'d, 'b, P> {
         requires all_sent { turns_of self.old.seat ≡ end.now.turns }
         ensures { HasScanned (P.chooses self.old.policy) self.old self.new result.0 result.1 }
     {
-        let before = Basis::of_decider(&self.decider);
-        let seats = Snapshot::of(&self.seat);
-        let commands = scan(self.desk, &mut self.seat, &mut self.decider, &self.policy);
-        let entries = self.decider.seal();
-        let after = Basis::of_decider(&self.decider);
+        let before = Basis::of_decider(&self.parts.decider);
+        let seats = Snapshot::of(&self.parts.seat);
+        let commands = self.parts.scan(self.desk);
+        let entries = self.parts.decider.seal();
+        let after = Basis::of_decider(&self.parts.decider);
         let counts = Counts {
             taken: commands.len(),
             accepted: entries.len(),
@@ -90,7 +87,7 @@ impl<'d, 'b, P: Policy + Drop> Scanner<'d, 'b, P> {
         let batch = Batch::new(
             commands,
             entries,
-            self.decider.building(),
+            self.parts.decider.building(),
             before,
             after,
             self.desk,
@@ -117,14 +114,14 @@ impl<'d, 'b, P: Policy + Drop> Scanner<'d, 'b, P> {
         ensures uses { turns_in self.new.seat ≡ turns_in self.old.seat }
         ensures seated { IsClerkOf self.new.desk self.new.seat }
     {
-        self.desk.tell_ahead(seat, &mut self.seat)
+        self.desk.tell_ahead(seat, &mut self.parts.seat)
     }
 
     /// What it shows of the calls: those of all entries that it accepted.
     pub fn register(&self) -> &Register
         ensures { result.now ≡ self.now.state.register }
     {
-        self.decider.register()
+        self.parts.decider.register()
     }
 
     /// How many terminals it looks at.
@@ -152,6 +149,6 @@ impl<'d, 'b, P: Policy + Drop> Scanner<'d, 'b, P> {
           policy = self.entry.policy;
         } }
     {
-        settler.join(self.seat, self.decider, self.policy)
+        settler.join(self.parts.seat, self.parts.decider, self.parts.policy)
     }
 }

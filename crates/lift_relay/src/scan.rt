@@ -1,110 +1,79 @@
 //! One scan of the desk's terminals, ahead of the answers.
 
-ghost use Rattle.std.specs.Prelude.{◌≡◌, ◌<◌, ◌≤◌, ◌+◌, [], ◌∷◌, ◌++◌, length, IfSome};
-ghost use Rattle.std.specs.Option.{option_to_list};
-ghost use Rattle.lift_desk.specs.Seats.{IsClerkOf, IsNoteOf, view_at};
-ghost use Rattle.lift_desk.specs.Words.{last_of};
-ghost use Rattle.lift_policy.specs.Run.{Run};
-ghost use Rattle.lift_clerk.specs.Visits.{command_at};
+ghost use Rattle.std.specs.Prelude.{◌≡◌, ◌≤◌, ◌+◌, [], length};
+ghost use Rattle.lift_desk.specs.Seats.{IsClerkOf};
 ghost use Rattle.lift_register.specs.Prelude.{register_of, FitFrom};
-ghost use Rattle.lift_parts.specs.Batch.{AreBelow, AreNoted, commands_in, replies_in, turns_of};
 ghost use Rattle.lift_clerk.specs.Answered.{AreApart};
-ghost use Rattle.lift_parts.specs.Batch.{turns_after};
-ghost use Rattle.lift_parts.specs.Scan.{ScansAhead, turns_in};
+ghost use Rattle.lift_parts.specs.Batch.{AreBelow, commands_in};
+ghost use Rattle.lift_parts.specs.Scan.{turns_in};
+ghost use Rattle.lift_relay.specs.Scanner.{TakesAhead};
 
 use arrayvec::ArrayVec;
 use lift_base::{MOST_ENTRIES, Terminal};
+use lift_clerk::{DeskScan, scan_desk};
 use lift_decider::Decider;
-use lift_desk::{Ask, Desk, TakeSeat};
+use lift_desk::{Desk, TakeSeat};
 use lift_parts::NotedCommand;
 use lift_policy::{Command, Policy, decisions_keep};
 
-/// What a terminal was just found to ask, with a note of that and decided, if it asked.
-fn decide<P: Policy>(
-    desk: &Desk,
-    seat: &mut TakeSeat,
-    decider: &mut Decider<'_>,
-    policy: &P,
-    terminal: Terminal,
-    ask: &Option<Ask>,
-) -> Option<NotedCommand>
-    requires seated { IsClerkOf desk.now seat.old }
-    requires terminal { terminal < length desk.now }
-    requires room { length decider.old.state.batch < 63 }
-    ensures command { commands_in (option_to_list result) ≡ command_at terminal ask.now }
-    ensures noted { IfSome result (λ taken. IsNoteOf desk.now terminal taken.note
-        × (taken.note.word ≡ last_of (view_at seat.old terminal).taken)) }
-    ensures decides { Run decider.old.plan (P.chooses policy.now) decider.old.state
-        (commands_in (option_to_list result))
-        (replies_in (option_to_list result)) decider.new.state }
-    ensures grows { length decider.new.state.batch ≤ length decider.old.state.batch + 1 }
-    ensures plan { decider.new.plan ≡ decider.old.plan }
-    ensures same { seat.new ≡ seat.old }
-{
-    match ask {
-        Some(ask) => {
-            let note = desk.note(seat, terminal);
-            let reply = decider.decide(terminal, ask.number, &ask.body, policy);
-            let command = Command {
-                terminal,
-                number: ask.number,
-                body: ask.body,
-            };
-            Some(NotedCommand {
-                command,
-                reply,
-                note,
-            })
-        }
-        None => None,
+/// What an allocator scans with: its seats, what it decides on, and the policy that names cars.
+#[derive(Drop)]
+pub struct AheadParts<'b, P: Policy + Drop> {
+    pub seat: TakeSeat,
+    pub decider: Decider<'b>,
+    pub policy: P,
+}
+
+impl<'b, P: Policy + Drop> DeskScan<NotedCommand> for AheadParts<'b, P> {
+    ghost has_scanned = { λ desk old new taken n. (new.policy ≡ old.policy)
+        × TakesAhead (P.chooses old.policy) desk old.seat new.seat old.decider new.decider taken
+        n };
+
+    // (each turn looks at each terminal)
+    #[inline(always)]
+    fn visit(&mut self, desk: &Desk, terminal: Terminal) -> Option<NotedCommand> {
+        decisions_keep(&self.policy);
+        let ask = desk.take(&mut self.seat, terminal)?;
+        let note = desk.note(&mut self.seat, terminal);
+        let reply = self
+            .decider
+            .decide(terminal, ask.number, &ask.body, &self.policy);
+        let command = Command {
+            terminal,
+            number: ask.number,
+            body: ask.body,
+        };
+        Some(NotedCommand {
+            command,
+            reply,
+            note,
+        })
     }
 }
 
-/// Adds a command to a list of 63 at most, if there is one.
-fn keep(list: &mut ArrayVec<NotedCommand, MOST_ENTRIES>, item: Option<NotedCommand>)
-    requires { length list.old.items < 63 }
-    ensures { list.new.items ≡ list.old.items ++ option_to_list item }
-{
-    match item {
-        Some(item) => list.push(item),
-        None => {}
+impl<'b, P: Policy + Drop> AheadParts<'b, P> {
+    /// Looks once at each terminal, in rising order, and decides what is asked there, each on the
+    /// state that the earlier ones left.
+    pub fn scan(&mut self, desk: &Desk) -> ArrayVec<NotedCommand, MOST_ENTRIES>
+        requires seated { IsClerkOf desk.now self.old.seat }
+        requires empty_batch { self.old.decider.state.batch ≡ [] }
+        ensures takes { TakesAhead (P.chooses self.old.policy) desk.now self.old.seat self.new.seat
+            self.old.decider self.new.decider result.items (length desk.now) }
+        // What was accepted fits what was shown before, and its commands are of the desk's terminals.
+        ensures fits { FitFrom self.old.decider.plan self.old.decider.state.register
+            self.new.decider.state.batch }
+        ensures shows { self.new.decider.state.register
+            ≡ register_of self.old.decider.state.register self.new.decider.state.batch }
+        // Each command takes a turn of its terminal.
+        ensures uses { turns_in self.old.seat + length result.items ≤ turns_in self.new.seat }
+        ensures below { AreBelow (length desk.now) (commands_in result.items) }
+        ensures apart { AreApart (commands_in result.items) }
+        ensures policy { self.new.policy ≡ self.old.policy }
+    {
+        decisions_keep(&self.policy);
+        let _shown = self.decider.register();
+        let mut taken = ArrayVec::new();
+        scan_desk(desk, self, &mut taken);
+        taken
     }
-}
-
-/// Looks once at each terminal, in rising order, and decides what is asked there, each on the state
-/// that the earlier ones left.
-pub fn scan<P: Policy>(
-    desk: &Desk,
-    seat: &mut TakeSeat,
-    decider: &mut Decider<'_>,
-    policy: &P,
-) -> ArrayVec<NotedCommand, MOST_ENTRIES>
-    requires seated { IsClerkOf desk.now seat.old }
-    requires empty_batch { decider.old.state.batch ≡ [] }
-    ensures scans { ScansAhead (P.chooses policy.now) decider.old.plan seat.old seat.new
-        decider.old.state decider.new.state result.items (length desk.now) }
-    // What was accepted fits what was shown before, and its commands are of the desk's terminals.
-    ensures fits { FitFrom decider.old.plan decider.old.state.register decider.new.state.batch }
-    ensures shows { decider.new.state.register
-        ≡ register_of decider.old.state.register decider.new.state.batch }
-    // Each command takes a turn of its terminal.
-    ensures uses { turns_in seat.old + length result.items ≤ turns_in seat.new }
-    ensures below { AreBelow (length desk.now) (commands_in result.items) }
-    ensures apart { AreApart (commands_in result.items) }
-    // Each has a note of its ask, which is later than all that was taken there before.
-    ensures noted { AreNoted desk.now (turns_of seat.old) result.items }
-    ensures turns { turns_after (turns_of seat.old) result.items ≡ turns_of seat.new }
-    ensures seated { IsClerkOf desk.now seat.new }
-    ensures plan { decider.new.plan ≡ decider.old.plan }
-{
-    decisions_keep(policy);
-    let _shown = decider.register();
-    let mut taken: ArrayVec<NotedCommand, MOST_ENTRIES> = ArrayVec::new();
-    for t in 0..desk.len() {
-        let terminal = Terminal::new(t as u8).unwrap();
-        let ask = desk.take(seat, terminal);
-        let decided = decide(desk, seat, decider, policy, terminal, &ask);
-        keep(&mut taken, decided);
-    }
-    taken
 }

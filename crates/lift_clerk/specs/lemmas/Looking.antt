@@ -1,10 +1,12 @@
 -- Looks, one at each of the first places, and one more.
 use Rattle.std.proofs.Common.{◌≡◌, ℕ, zero, suc, ◌<◌, ◌≤◌, List, [], ◌∷◌, ◌++◌, length, get_or}
 use Rattle.std.proofs.Common.{Option, refl, sym, ap, ◌∙◌, subst, arith, length-append}
+use Rattle.std.proofs.lemmas.List.{length-map}
+use Rattle.atomic_table.specs.Seated.{TableId}
 use Rattle.lift_desk.specs.declared.words.Ask.{Ask}
 use Rattle.lift_desk.specs.Steps.{with_taking}
-use Rattle.lift_desk.specs.Seats.{ClerkPlace, no_place, view_at, clerk_with, placed_at}
-use Rattle.lift_clerk.specs.Visits.{Visit, AreLooksAt, looked_at}
+use Rattle.lift_desk.specs.Seats.{ClerkPlace, IsClerkOf, no_place, view_at, clerk_with, placed_at}
+use Rattle.lift_clerk.specs.Visits.{Visit, AreLooksAt, Scans, looked_at}
 
 pub length-looked : (places : List ClerkPlace) (visits : List Visit)
     → length (looked_at places visits) ≡ length places
@@ -40,13 +42,6 @@ pub record Looked (IsLook : ClerkPlace → Visit → Type 0) (seat next : List C
   pub seat_is : next ≡ clerk_with seat n (with_taking (view_at seat n) word)
   pub look : IsLook (get_or seat n no_place) (record { word = word; found = found })
 
--- these looks, one at each of the first n places, and nothing else
-pub record AllLooked (IsLook : ClerkPlace → Visit → Type 0) (places seat : List ClerkPlace)
-    (visits : List Visit) (n : ℕ) : Type 0 where
-  pub count : length visits ≡ n
-  pub looks : AreLooksAt IsLook places visits
-  pub looked : seat ≡ looked_at places visits
-
 module _ (IsLook : ClerkPlace → Visit → Type 0) where
   looks-more : (places : List ClerkPlace) (visits : List Visit) (n : ℕ) (v : Visit)
       → n ≡ length visits → n < length places → AreLooksAt IsLook places visits
@@ -58,19 +53,34 @@ module _ (IsLook : ClerkPlace → Visit → Type 0) where
   looks-more (p ∷ places) (u ∷ visits) (suc n) v e h looks here =
       (looks.0, looks-more places visits n v (omega arith) (omega arith) looks.1 here)
 
-  pub one-more : (places seat next : List ClerkPlace) (visits : List Visit) (n word : ℕ)
-      (found : Option Ask) → n < length places → AllLooked IsLook places seat visits n
+  pub one-more : (Found Then : List Visit → Type 0) (places seat next : List ClerkPlace) (n word : ℕ)
+      (found : Option Ask) → n < length places → Scans IsLook Found places seat n
       → Looked IsLook seat next n word found
-      → AllLooked IsLook places next (visits ++ record { word = word; found = found } ∷ []) (suc n)
-  one-more places seat next visits n word found inside all one =
+      → ((visits : List Visit) → length visits ≡ n → Found visits
+      → Then (visits ++ record { word = word; found = found } ∷ []))
+      → Scans IsLook Then places next (suc n)
+  one-more Found Then places seat next n word found inside all one then =
       let v : Visit = record { word = word; found = found } in
-      let count : n ≡ length visits = sym all.count in
+      let count : n ≡ length all.visits = sym all.count in
       record {
-        count = omega (arith, length-append visits (v ∷ []));
-        looks = looks-more places visits n v count inside all.looks
+        visits = all.visits ++ v ∷ [];
+        count = omega (arith, length-append all.visits (v ∷ []));
+        looks = looks-more places all.visits n v count inside all.looks
             (subst (λ (p : ClerkPlace). IsLook p v) (ap (λ l. get_or l n no_place) all.looked
-            ∙ untouched places visits n no_place (omega arith)) one.look);
+            ∙ untouched places all.visits n no_place (omega arith)) one.look);
         looked = one.seat_is
             ∙ ap (λ l. clerk_with l n (with_taking (view_at l n) word)) all.looked
-            ∙ looked-more places visits n v count inside;
+            ∙ looked-more places all.visits n v count inside;
+        found = then all.visits all.count all.found;
       }
+
+-- the place looked at next is there
+pub inside-desk : (IsLook : ClerkPlace → Visit → Type 0) (Found : List Visit → Type 0)
+    (desk : List TableId) (places seat : List ClerkPlace) (n m : ℕ) → Scans IsLook Found places seat m
+    → IsClerkOf desk seat → n < length desk → (n < length seat) × (n < length places)
+inside-desk IsLook Found desk places seat n m scans seated h =
+    let many : length seat ≡ length desk =
+    sym (length-map seat (λ (p : ClerkPlace). p.table)) ∙ ap length seated in
+    let all : length seat ≡ length places =
+    ap length scans.looked ∙ length-looked places scans.visits in
+    (omega arith, omega arith)

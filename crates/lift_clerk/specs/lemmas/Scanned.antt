@@ -1,9 +1,9 @@
 -- A scan that has come one terminal further.
-use Rattle.std.proofs.Common.{◌≡◌, ℕ, suc, ◌<◌, ◌≤◌, Bool, true, false, List, [], ◌∷◌, ◌++◌, length}
-use Rattle.std.proofs.Common.{Option, Some, None, sym, ap, ◌∙◌, subst, arith}
+use Rattle.std.proofs.Common.{◌≡◌, ℕ, suc, ◌<◌, ◌≤◌, ◌+◌, Bool, true, false, List, [], ◌∷◌, ◌++◌, length}
+use Rattle.std.proofs.Common.{Option, Some, None, refl, sym, ap, ◌∙◌, subst, arith}
 use Rattle.std.specs.Prelude.{IfSome}
-use Rattle.std.specs.Option.{option_to_list}
 use Rattle.std.proofs.lemmas.List.{map-append}
+use Rattle.atomic_table.specs.Seated.{TableId}
 use Rattle.lift_base.specs.declared.command.Reply.{Reply}
 use Rattle.lift_base.specs.declared.command.Reply.TheVariants.{Unknown}
 use Rattle.lift_building.specs.Plan.{Plan}
@@ -11,7 +11,8 @@ use Rattle.lift_desk.specs.declared.view.ClerkView.{ClerkView}
 use Rattle.lift_desk.specs.declared.words.Ask.{Ask}
 use Rattle.lift_desk.specs.Words.{last_of, number_of}
 use Rattle.lift_desk.specs.Steps.{with_taking}
-use Rattle.lift_desk.specs.Seats.{ClerkPlace, view_at, clerk_with, TakesOf, Owes, LookTells}
+use Rattle.lift_desk.specs.Seats.{ClerkPlace, IsClerkOf, view_at, clerk_with, LooksOnce, TakesOf}
+use Rattle.lift_desk.specs.Seats.{Owes, LookTells}
 use Rattle.lift_desk.specs.lemmas.Places.{view_at-here}
 use Rattle.lift_desk.specs.lemmas.WordLists.{last_of-push}
 use Rattle.lift_policy.specs.declared.command.Command.{Command}
@@ -19,10 +20,13 @@ use Rattle.lift_policy.specs.Eligible.{Choice}
 use Rattle.lift_policy.specs.Laws.{RunsJoin}
 use Rattle.lift_policy.specs.Run.{unknowns}
 use Rattle.lift_policy.specs.Step.{State}
+use Rattle.lift_keeper.specs.Keeper.{KeeperView}
+use Rattle.lift_keeper.specs.Writer.{WriterView}
 use Rattle.lift_clerk.specs.declared.scan.Answer.{Answer}
 use Rattle.lift_clerk.specs.Visits.{Visit, FindsAt, command_at, commands_of}
-use Rattle.lift_clerk.specs.Scanning.{Decides, Scans, terminals_in, terminals_of, replies_in}
-use Rattle.lift_clerk.specs.lemmas.Looking.{Looked, one-more}
+use Rattle.lift_clerk.specs.Scanning.{ClerkScans, Decides, terminals_in, terminals_of}
+use Rattle.lift_clerk.specs.Scanning.{replies_in}
+use Rattle.lift_clerk.specs.lemmas.Looking.{Looked, inside-desk, one-more}
 use Rattle.lift_clerk.specs.lemmas.Visiting.{commands-more, taken-new}
 
 -- decisions that meet join
@@ -38,50 +42,6 @@ decides-more true plan choice before mid after earlier later replies others join
 )
 decides-more false plan choice before mid after earlier later replies others join first second =
     join plan before mid after earlier later replies others first second
-
-pub scans-more : (choice : Choice) (plan : Plan) (is_broken : Bool)
-    (places seat next : List ClerkPlace) (before mid after : State) (answers others : List Answer)
-    (n word : ℕ) (found : Option Ask)
-    → RunsJoin choice → n < length places
-    → Scans choice plan is_broken places seat before mid answers n
-    → Looked FindsAt seat next n word found
-    → terminals_in others ≡ terminals_of (command_at n found)
-    → Decides is_broken plan choice mid (command_at n found) (replies_in others) after
-    → Scans choice plan is_broken places next before after (answers ++ others) (suc n)
-scans-more choice plan is_broken places seat next before mid after answers others n word found join
-    inside old look same decides =
-    let visits = old.visits in
-    let v : Visit = record { word = word; found = found } in
-    let count : n ≡ length visits = sym old.count in
-    let all = one-more FindsAt places seat next visits n word found inside (record {
-      count = old.count;
-      looks = old.scanned.finds;
-      looked = old.scanned.looked;
-    }) look in
-    let commands : commands_of 0 (visits ++ v ∷ []) ≡ commands_of 0 visits ++ command_at n found =
-    commands-more 0 n visits v (omega arith) in
-    record {
-      visits = visits ++ v ∷ [];
-      count = all.count;
-      scanned = record {
-        finds = all.looks;
-        looked = all.looked;
-        terminals = map-append (λ (a : Answer). a.terminal) answers others ∙ ap (λ l.
-            l ++ terminals_in others) old.scanned.terminals ∙ ap (λ l.
-            terminals_of (commands_of 0 visits) ++ l) same
-            ∙ sym (map-append (λ (c : Command).
-            c.terminal) (commands_of 0 visits) (command_at n found)) ∙ ap terminals_of
-            (sym commands);
-      };
-      decides = subst (λ cs. Decides is_broken plan choice before cs
-          (replies_in (answers ++ others)) after) (sym commands)
-          (subst (λ rs. Decides is_broken plan choice before
-          (commands_of 0 visits ++ command_at n found) rs after)
-          (sym (map-append (λ (a : Answer). a.reply) answers others))
-          (decides-more is_broken plan choice before mid after (commands_of 0 visits)
-          (command_at n found) (replies_in answers)
-          (replies_in others) join old.decides decides));
-    }
 
 -- what the clerk's call says of its look
 pub looked-at : (seat next : List ClerkPlace) (n word : ℕ) (found : Option Ask) → n < length seat
@@ -114,6 +74,60 @@ looked-at seat next n word found inside is takes tells =
         ap number_of (sym (last_of-push view.taken word))
         ∙ ap (λ l. number_of (last_of l)) (sym (taken-new view word takes.0)) ∙ owes.1
 
-pub few-more : {A : Type 0} (item : Option A) → length (option_to_list item) ≤ 1
-few-more None = omega arith
-few-more (Some x) = omega arith
+pub decides-nothing : (is_broken : Bool) (plan : Plan) (choice : Choice) (state : State)
+    → Decides is_broken plan choice state [] [] state
+decides-nothing true plan choice state = (refl, refl)
+decides-nothing false plan choice state = refl
+
+-- a clerk's scan that comes one terminal further
+pub scans-more : {D : Type 0} (choice : Choice) (desk : List TableId)
+    (places seat next : List ClerkPlace) (before mid after : KeeperView D)
+    (answers others : List Answer) (n : ℕ) (found : Option Ask)
+    → RunsJoin choice → n < length desk
+    → ClerkScans choice desk places seat before mid answers n
+    → LooksOnce TakesOf seat n next found → LookTells (view_at seat n) (view_at next n) found
+    → IsClerkOf desk next
+    → terminals_in others ≡ terminals_of (command_at n found)
+    → Decides mid.writer.is_broken mid.writer.plan choice mid.state (command_at n found)
+    (replies_in others) after.state
+    → (mid.writer.is_broken ≡ false
+    → length after.state.batch ≤ length mid.state.batch + 1)
+    → after.writer ≡ mid.writer
+    → ClerkScans choice desk places next before after (answers ++ others) (suc n)
+scans-more {D} choice desk places seat next before mid after answers others n found join below old
+    look tells seated same decides grows writer =
+    let inside = inside-desk _ _ desk places seat n n old.scans old.seated below in
+    let plan = before.writer.plan in
+    let is_broken = before.writer.is_broken in
+    let decided = subst (λ (w : WriterView D). Decides w.is_broken w.plan choice mid.state
+    (command_at n found) (replies_in others) after.state) old.writer decides in
+    record {
+      scans = one-more FindsAt _ _ places seat next n look.0 found inside.1 old.scans
+          (looked-at seat next n look.0 found inside.0 look.1 look.2 tells)
+          (λ visits count was.
+          (let v : Visit = record { word = look.0; found = found } in
+          let commands : commands_of 0 (visits ++ v ∷ []) ≡ commands_of 0 visits ++ command_at n found =
+          commands-more 0 n visits v (omega (arith, count)) in
+          record {
+            terminals = map-append (λ (a : Answer). a.terminal) answers others ∙ ap (λ l.
+                l ++ terminals_in others) was.terminals ∙ ap (λ l.
+                terminals_of (commands_of 0 visits) ++ l) same
+                ∙ sym (map-append (λ (c : Command).
+                c.terminal) (commands_of 0 visits) (command_at n found)) ∙ ap terminals_of
+                (sym commands);
+            decides = subst (λ cs. Decides is_broken plan choice before.state cs
+                (replies_in (answers ++ others)) after.state) (sym commands)
+                (subst (λ rs. Decides is_broken plan choice before.state
+                (commands_of 0 visits ++ command_at n found) rs after.state)
+                (sym (map-append (λ (a : Answer). a.reply) answers others))
+                (decides-more is_broken plan choice before.state mid.state after.state
+                (commands_of 0 visits) (command_at n found) (replies_in answers)
+                (replies_in others) join was.decides decided));
+          }));
+      seated = seated;
+      writer = writer ∙ old.writer;
+      few = λ whole.
+          (let few = old.few whole in
+          let grown = grows (ap (λ (w : WriterView D). w.is_broken) old.writer ∙ whole) in
+          omega arith);
+    }

@@ -1,5 +1,5 @@
 -- What any number of turns leave, of either part.
-use Rattle.std.proofs.Common.{◌≡◌, true, [], ◌++◌, Option, Some, None, Result, Ok, Err}
+use Rattle.std.proofs.Common.{◌≡◌, true, Option, Some, None, Result, Ok, Err}
 use Rattle.std.proofs.Common.{refl, ap, ⊎_elim, subst, sym, ◌∙◌}
 use Rattle.lift_disk.specs.Disk.{DiskState}
 use Rattle.lift_policy.specs.Eligible.{Choice}
