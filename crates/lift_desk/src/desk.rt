@@ -169,6 +169,7 @@ impl Desk {
 
     /// Looks once for the answer to the last ask, and gives it once. It looks also where no answer
     /// is awaited.
+    #[inline(always)]
     pub fn hear(&self, seat: &mut Seat) -> Option<Reply>
         requires { IsSeatOf self.now seat.old }
         ensures looked { (word : ℕ)

@@ -114,6 +114,8 @@ impl Seat {
         Ok(())
     }
 
+    // (beside the desk's own, so that the reply stays in registers)
+    #[inline(always)]
     pub(crate) fn hear(&mut self, table: &DeskTable) -> Option<Reply>
         requires { (self.old.table ≡ table.now.shared.table_id)
             × (table.now.shared.table_id.words ≡ 2) }

@@ -91,8 +91,8 @@ pub fn ask_word(turn: u32, number: Number, body: Body) -> u64
 }
 
 /// The ask that a word spells; none for a word that spells no ask.
-// (a look that finds nothing new doesn't come here: a call keeps its loop small)
-#[inline(never)]
+// (what a call would answer it writes to memory in single bytes, for which the next read waits)
+#[inline(always)]
 pub fn read_ask(word: u64) -> Option<Ask>
     ensures valid { IsSome result ↔ IsAskWord word }
     ensures value { IfSome result (λ ask. word ≡ ask_word (turn_of word) ask.number ask.body) }
