@@ -1,12 +1,13 @@
 -- Bits of a set, and the halts that they stand for.
 use Rattle.std.proofs.Common.{All, take, get_or, ◌≡◌, ◌≢◌, ℕ, zero, suc, ◌+◌, ◌-◌, ◌*◌, ◌^◌, ◌/◌, ◌%◌, min, ◌<◌, ◌≤◌, ◌==◌, ◌||◌, Bool, true, false, cond, List, [], ◌∷◌, ◌++◌, map, filter, length, refl, sym, ap, subst, ◌∙◌, arith, inl, inr}
-use Rattle.std.specs.Int.{bit_at, bit_not, trailing_zeros, w64}
+use Rattle.std.specs.Int.{bit_at, trailing_zeros, w64}
+use Rattle.std.specs.Int.Bits.{bit_xor}
 use Rattle.std.specs.Int.RustNames.{bit_or}
 use lib.Bits.{bit_and}
 use Rattle.std.specs.List.{range_with_len}
 use Rattle.std.proofs.Math.Nat.{eq-or-lt_of_le, pow-suc}
 use Rattle.std.proofs.lemmas.Bool.{cases_eq, cases_lt, eq-eqb, ne_eqb}
-use Rattle.std.proofs.lemmas.Nat.Bits.{bit_at-zero, bit_at_set_same, bit_at_set_other, bit_at_clear_same, bit_at_clear_other, bit_at_lowest, bit_at-suc, bit_at_above, bit_at_and, bit_at-trailing_zeros}
+use Rattle.std.proofs.lemmas.Nat.Bits.{bit_at-zero, bit_at_set_same, bit_at_set_other, bit_at_lowest, bit_at-suc, bit_at_above, bit_at_and, bit_at_xor, bit_at-trailing_zeros}
 use Rattle.std.proofs.lemmas.Nat.{leading_top}
 use Rattle.std.specs.Int.Count.{count_leading_zeros}
 use Rattle.std.proofs.lemmas.List.{take_more, take_all}
@@ -62,9 +63,20 @@ unset_bit b is = rw is refl
 
 -- ---- the first floor of a set in a direction
 
--- a set without a floor
-abbrev pub cleared : ℕ → ℕ → ℕ
-cleared set floor = bit_and set (bit_not w64 (1 * 2 ^ floor % 2 ^ 64))
+-- a set with a floor's bit turned
+abbrev pub flipped : ℕ → ℕ → ℕ
+flipped set floor = bit_xor set (1 * 2 ^ floor % 2 ^ 64)
+
+-- a floor that was there is gone
+flipped-same : (set floor : ℕ) → floor < 64 → bit_at set floor ≡ 1 → bit_at (flipped set floor) floor ≡ 0
+flipped-same set floor below there =
+    let one : bit_at (1 * 2 ^ floor % 2 ^ 64) floor ≡ 1 = bit_at_set_same w64 0 floor below in
+    omega (arith, bit_at_xor set (1 * 2 ^ floor % 2 ^ 64) floor, there, one)
+
+flipped-other : (set floor other : ℕ) → floor < 64 → other ≢ floor → bit_at (flipped set floor) other ≡ bit_at set other
+flipped-other set floor other below differs =
+    let none : bit_at (1 * 2 ^ floor % 2 ^ 64) other ≡ 0 = bit_at_set_other w64 0 floor below other differs ∙ bit_at-zero other in
+    omega (arith, bit_at_xor set (1 * 2 ^ floor % 2 ^ 64) other, none)
 
 pub rank_below : (dir : Dir) (place : ℕ) → place < 64 → floor_rank dir place < 64
 rank_below Up place below = below
@@ -147,17 +159,17 @@ top_bit (suc j) set some below =
     bit_at-suc set j ∙ top_bit j (set / 2) (omega (arith, some, double)) (omega (arith, below, more))
 
 pub first-down : (set : ℕ) → 0 < set → set < 2 ^ 64
-    → marked Down set ≡ (63 - (63 - count_leading_zeros 64 set)) ∷ marked Down (cleared set (63 - count_leading_zeros 64 set))
+    → marked Down set ≡ (63 - (63 - count_leading_zeros 64 set)) ∷ marked Down (flipped set (63 - count_leading_zeros 64 set))
 first-down set some fits =
     let (j, count, low, high) = leading_top 64 set some fits in
     let floor : ℕ = 63 - count_leading_zeros 64 set in
     let here : floor ≡ j = omega (arith, count) in
     let below : floor < 64 = omega arith in
-    marked-first Down set (cleared set floor) floor below
+    marked-first Down set (flipped set floor) floor below
     (ap (has_bit set) here ∙ set_bit (bit_at set j) (top_bit j set low high))
     (λ place before. unset_bit (bit_at set (63 - place)) (bit_at_above set (suc j) (63 - place) high (omega (arith, count, before))))
-    (unset_bit (bit_at (cleared set floor) floor) (bit_at_clear_same w64 set floor below))
-    (λ i low other. ap (λ b. b == 1) (bit_at_clear_other w64 set floor below i low other))
+    (unset_bit (bit_at (flipped set floor) floor) (flipped-same set floor below (ap (bit_at set) here ∙ top_bit j set low high)))
+    (λ i low other. ap (λ b. b == 1) (flipped-other set floor i below other))
 
 keeps_none : (xs : List ℕ) → filter (λ _. false) xs ≡ []
 keeps_none [] = refl

@@ -79,7 +79,7 @@ fn first_of(set: u64, dir: Dir) -> (u32, u64)
         Dir::Up => (set.trailing_zeros(), set & (set - 1)),
         Dir::Down => {
             let floor = 63 - set.leading_zeros();
-            (floor, set & !(1 << floor))
+            (floor, set ^ (1 << floor))
         }
     }
 }
