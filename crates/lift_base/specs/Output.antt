@@ -37,7 +37,7 @@ pub record Takes (bytes : List ℕ) (before after : Sink) : Type 0 where
   pub written : Appends before.written after.written bytes
 
 -- a call failed or took nothing, and only so many of these bytes were written, never all
-pub record TakesFront (count : ℕ) (bytes : List ℕ) (before after : Sink) : Type 0 where
+pub record TakesPrefix (count : ℕ) (bytes : List ℕ) (before after : Sink) : Type 0 where
   pub short : count < length bytes
   pub calls : CallsUpToFault count before.calls after.calls
   pub failed : after.failed ≡ true

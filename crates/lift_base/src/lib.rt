@@ -20,7 +20,7 @@ pub use limits::{
 };
 pub use lists::push_some;
 pub use memory::{
-    Memory, push, push_all, queue_behind, reserve, reserve_one, table_of_words, two_owners,
+    Memory, passed_queue, push, push_all, reserve, reserve_one, table_of_words, two_owners,
     with_room,
 };
 pub use travel::{Dir, Halt, Pass, Position, Stop};

@@ -125,7 +125,7 @@ pub fn table_of_words<S, V, K, P: TableRule<S, V, K>>(
 
 /// An empty queue of so much room, through which this item went: pushed by `M`, popped by `N`.
 /// Nobody else has the queue yet, so both succeed once its room is there, though that isn't proved.
-pub fn queue_behind<T, V, P, M, N>(
+pub fn passed_queue<T, V, P, M, N>(
     alloc: Global,
     room: usize,
     item: T,

@@ -37,7 +37,7 @@ fn ask_at(arrived: bool, last: &Number, position: &Position) -> Option<Ask>
 }
 
 /// The number of the last stop, after an answer.
-fn last_behind(last: &Number, number: &Number, reply: &Reply) -> Number
+fn last_command_after(last: &Number, number: &Number, reply: &Reply) -> Number
     ensures { result ≡ last_after last.now number.now reply.now }
 {
     match reply {
@@ -53,11 +53,11 @@ fn last_behind(last: &Number, number: &Number, reply: &Reply) -> Number
 }
 
 /// The number of the last stop, after the start.
-fn last_behind_opening(last: &Number, opening: &Opening) -> Number
+fn last_after_opening(last: &Number, opening: &Opening) -> Number
     ensures { result ≡ last_opened last.now opening.now }
 {
     match opening {
-        Opening::BroughtIn(number, reply) => last_behind(last, number, reply),
+        Opening::BroughtIn(number, reply) => last_command_after(last, number, reply),
         _ => *last,
     }
 }
@@ -120,7 +120,7 @@ fn errand<C: Car, P: Port>(
         Outcome::Malformed | Outcome::OffFloors => unreachable!(),
     };
     let stop = stop_of(&reply)?;
-    *last = last_behind(last, &ask.number, &reply);
+    *last = last_command_after(last, &ask.number, &reply);
     *arrived = stop.is_some();
     move_on(car, port, &stop);
     Ok(())
@@ -141,7 +141,7 @@ pub fn drive<C: Car, P: Port>(car: &mut C, port: &mut P, last: Number, limits: L
         → ((P.view port.new).spent ≡ true) × ((P.view port.new).pending ≡ None) }
 {
     let opening = bring_in(port, limits.looks);
-    let mut last = last_behind_opening(&last, &opening);
+    let mut last = last_after_opening(&last, &opening);
     if let Opening::StillWaits = opening {
         return DriveEnd {
             last,

@@ -40,7 +40,7 @@ use Rattle.lift_world.specs.lemmas.Goes.{joined}
 use Rattle.lift_clerk.specs.lemmas.Asked.{Asked, ask, reaches, rests}
 use Rattle.lift_clerk.specs.lemmas.Turned.{splits, register_with, safe_all, decided_in}
 use Rattle.lift_clerk.proofs.Doubts.{was_safe, in_doubt}
-use Rattle.lift_keeper.specs.lemmas.Keepers.{nothing_behind}
+use Rattle.lift_keeper.specs.lemmas.Keepers.{nothing_after}
 use Rattle.lift_clerk.specs.lemmas.Reopened.{begins_after_cut}
 
 -- some power cut now would keep these entries, and the image reads as their register
@@ -91,7 +91,7 @@ kept_without : (w : World) (plan : Plan) (old : RegisterState) (batch : List Ent
 kept_without w plan old batch left b safe none reads =
     subst (λ (xs : List Entry). IsKept w xs left) (sym (append-nil (safe_list w)) ∙ ap (λ (xs : List Entry). safe_list w ++ xs) (sym none))
     (kept_safe w plan (register_of old batch) left b
-    (sym (nothing_behind w.base (safe_list w)) ∙ ap (λ (x : RegisterState). register_of x []) safe ∙ ap (register_of old) (sym none)) reads)
+    (sym (nothing_after w.base (safe_list w)) ∙ ap (λ (x : RegisterState). register_of x []) safe ∙ ap (register_of old) (sym none)) reads)
 
 module _ {D P : Type 0} (laws : Laws) (w : World) (clerk : ClerkState D P) (left : Image) (m : IsMachineOf w clerk) where
   abbrev plan : Plan

@@ -27,8 +27,8 @@ KeepsEither D plan base safe batch given left = ImageKeeps D plan base safe give
     ⊎ ImageKeeps D plan base (safe ++ batch) given left
 
 -- It keeps some prefix of what was accepted.
-abbrev pub KeepsFront : Type 0 → Plan → RegisterState → (accepted : List Entry) → List Taken → Image → Type 0
-KeepsFront D plan base accepted given left = (entries : List Entry) × IsPrefix entries accepted
+abbrev pub KeepsPrefix : Type 0 → Plan → RegisterState → (accepted : List Entry) → List Taken → Image → Type 0
+KeepsPrefix D plan base accepted given left = (entries : List Entry) × IsPrefix entries accepted
     × ImageKeeps D plan base entries given left
 
 -- Each image that a crash now may leave reads as the register that is safe, or as that with the

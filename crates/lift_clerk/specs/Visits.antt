@@ -73,10 +73,10 @@ with_reply view (Some ask) (reply ∷ replies) =
     with_answer view (reply_word (length view.taken) ask.number reply)
 
 -- the replies to the commands after a look
-abbrev pub replies_behind : Option Ask → List Reply → List Reply
-replies_behind None replies = replies
-replies_behind (Some ask) [] = []
-replies_behind (Some ask) (reply ∷ replies) = replies
+abbrev pub replies_after : Option Ask → List Reply → List Reply
+replies_after None replies = replies
+replies_after (Some ask) [] = []
+replies_after (Some ask) (reply ∷ replies) = replies
 
 -- the clerk's seats after these looks, and these replies to the first of their commands, each at
 -- its own terminal
@@ -85,7 +85,7 @@ served places [] replies = places
 served [] (visit ∷ visits) replies = []
 served (place ∷ places) (visit ∷ visits) replies =
     placed_at place.table (with_reply (with_taking place.view visit.word) visit.found replies)
-    ∷ served places visits (replies_behind visit.found replies)
+    ∷ served places visits (replies_after visit.found replies)
 
 -- The clerk has looked once at each of its terminals, has stored one reply for each ask that it
 -- took, and nothing else. What was taken is decided in rising order of terminals; in which order

@@ -11,26 +11,26 @@ use Rattle.lift_stops.specs.Parts.{has_halt, AllDiffer}
 use Rattle.lift_stops.specs.Insertion.{rank_of}
 use Rattle.lift_stops.specs.lemmas.Listed.{same_itself, stops_differ}
 use Rattle.lift_cost.specs.Cost.{moment_at, arrival_at, etd}
-use Rattle.lift_cost.specs.Ways.{weighted, floor_behind, leaves_behind}
+use Rattle.lift_cost.specs.Ways.{weighted, floor_after, leaves_after}
 use Rattle.lift_cost.specs.Delays.{AreOpen, GoesToEnd, IsOnWays, AddsTimes, HaltsAt, persons_in}
 use Rattle.lift_cost.specs.declared.ways.Ways.{Ways}
 use Rattle.lift_cost.proofs.Earlier.{not_here, or_right}
 use Rattle.lift_cost.proofs.Leaving.{AreLow, weighted-by_table, stops_low, total_etd-weighted, others_etd-weighted}
 use Rattle.lift_cost.proofs.Putting.{stops_with_waiting, stops_with_staying}
-use Rattle.lift_cost.proofs.Missing.{nobody_leaves_where_split, nobody_leaves_where_split_behind}
+use Rattle.lift_cost.proofs.Missing.{nobody_leaves_where_split, nobody_leaves_where_split_after}
 
 -- ---- when a car is at a halt
 
-has_behind : (x : Halt) (hs behind : List Halt) → has_halt x (hs ++ x ∷ behind) ≡ true
-has_behind x [] behind = rw (same_itself x) refl
-has_behind x (h ∷ hs) behind = or_right (same_halt h x) (has_halt x (hs ++ x ∷ behind)) (has_behind x hs behind)
+has_after : (x : Halt) (hs behind : List Halt) → has_halt x (hs ++ x ∷ behind) ≡ true
+has_after x [] behind = rw (same_itself x) refl
+has_after x (h ∷ hs) behind = or_right (same_halt h x) (has_halt x (hs ++ x ∷ behind)) (has_after x hs behind)
 
-pub moment_behind : (plan : Plan) (floor leaves : ℕ) (hs : List Halt) (x : Halt) (behind : List Halt) → AllDiffer (hs ++ x ∷ behind)
-    → moment_at x (hs ++ x ∷ behind) (arrivals_from plan floor leaves (hs ++ x ∷ behind)) ≡ leaves_behind plan floor leaves hs + flight_ms plan (floor_behind floor hs) x.floor
-moment_behind plan floor leaves [] x behind differ = rw (same_itself x) refl
-moment_behind plan floor leaves (h ∷ hs) x behind differ =
-    let other : same_halt h x ≡ false = not_here h x (hs ++ x ∷ behind) differ.0 (has_behind x hs behind) in
-    rw other (moment_behind plan h.floor (leaves + flight_ms plan floor h.floor + plan.door_ms) hs x behind differ.1)
+pub moment_after : (plan : Plan) (floor leaves : ℕ) (hs : List Halt) (x : Halt) (behind : List Halt) → AllDiffer (hs ++ x ∷ behind)
+    → moment_at x (hs ++ x ∷ behind) (arrivals_from plan floor leaves (hs ++ x ∷ behind)) ≡ leaves_after plan floor leaves hs + flight_ms plan (floor_after floor hs) x.floor
+moment_after plan floor leaves [] x behind differ = rw (same_itself x) refl
+moment_after plan floor leaves (h ∷ hs) x behind differ =
+    let other : same_halt h x ≡ false = not_here h x (hs ++ x ∷ behind) differ.0 (has_after x hs behind) in
+    rw other (moment_after plan h.floor (leaves + flight_ms plan floor h.floor + plan.door_ms) hs x behind differ.1)
 
 -- ---- what joins
 
@@ -38,7 +38,7 @@ moment_behind plan floor leaves (h ∷ hs) x behind differ =
 joins_by : (plan : Plan) (position : Position) (rows : List Row) (row : Row) (halts with_it made_with behind : List Halt) (table : List ℕ) (leaves : Halt) (later arrives : ℕ) → AreOpen plan position rows halts table
     → stop_list (rows ++ row ∷ []) position ≡ with_it → with_it ≡ made_with ++ leaves ∷ behind → leaves ≡ halt_at position row row.to
     → weighted plan (persons_in table) position.floor 0 with_it ≡ weighted plan (persons_in table) position.floor 0 halts + later
-    → arrives ≡ leaves_behind plan position.floor 0 made_with + flight_ms plan (floor_behind position.floor made_with) leaves.floor
+    → arrives ≡ leaves_after plan position.floor 0 made_with + flight_ms plan (floor_after position.floor made_with) leaves.floor
     → AddsTimes plan position rows row later arrives
 unfolding etd
 joins_by plan position rows row halts with_it made_with behind table leaves later arrives are with-is parts leaves-is sums arrives-is =
@@ -47,7 +47,7 @@ joins_by plan position rows row halts with_it made_with behind table leaves late
     let without = total_etd-weighted plan position rows halts are.listed in
     let others = others_etd-weighted plan position rows row with_it (sym with-is) in
     let differ : AllDiffer (made_with ++ leaves ∷ behind) = subst (λ (hs : List Halt). AllDiffer hs) (with-is ∙ parts) (stops_differ (rows ++ row ∷ []) position) in
-    let there : arrival_at plan position.floor (made_with ++ leaves ∷ behind) leaves ≡ arrives = moment_behind plan position.floor 0 made_with leaves behind differ ∙ sym arrives-is in
+    let there : arrival_at plan position.floor (made_with ++ leaves ∷ behind) leaves ≡ arrives = moment_after plan position.floor 0 made_with leaves behind differ ∙ sym arrives-is in
     let own : arrives ≡ arrival_at plan position.floor (stop_list (rows ++ row ∷ []) position) (halt_at position row row.to) =
     sym there ∙ ap (λ (hs : List Halt). arrival_at plan position.floor hs leaves) (sym (with-is ∙ parts)) ∙ ap (λ (h : Halt). arrival_at plan position.floor (stop_list (rows ++ row ∷ []) position) h) leaves-is in
     let all = sum_by_push (λ (r : Row). r.party * etd plan position (rows ++ row ∷ []) r) rows row in
@@ -81,7 +81,7 @@ apart_joins plan position rows row halts rest table boards leaves ways after boa
     λ gone. are.leaving.at_each boards boards-low ∙ nobody_leaves_where_split plan position rows halts before rest boards first.is_there lawful are.within boards-low are.listed gone first.split in
     let none : second.is_there ≡ false → persons_in table leaves ≡ 0 =
     λ gone. are.leaving.at_each leaves leaves-low
-    ∙ nobody_leaves_where_split_behind plan position rows row halts before rest middle second.behind boards leaves first.is_there second.is_there lawful are.within waits apart from-low to-low are.listed boards-is leaves-is gone first.split second.split in
+    ∙ nobody_leaves_where_split_after plan position rows row halts before rest middle second.behind boards leaves first.is_there second.is_there lawful are.within waits apart from-low to-low are.listed boards-is leaves-is gone first.split second.split in
     let on = first.on position.floor [] [] nobody sets_out in
     let sums = second.on position.floor (before ++ own) (before ++ boards ∷ []) none on in
     let with-is = stops_with_waiting rows row position halts before rest middle second.behind boards leaves first.is_there second.is_there waits apart from-low to-low are.listed boards-is leaves-is first.split second.split in

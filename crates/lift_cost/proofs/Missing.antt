@@ -83,10 +83,10 @@ missing_with_first x a false before rest missing =
     ∙ either_missing (has_halt x before) (has_halt x rest) (first_missing (has_halt x before) (has_halt x (a ∷ rest)) parts) (second_missing (same_halt a x) (has_halt x rest) later)
 
 -- the same of where the passengers of a call leave, at which is split what stands after where they board
-pub missing_where_split_behind : (rows : List Row) (row : Row) (position : Position) (halts before rest middle behind : List Halt) (boards leaves : Halt) (boards_there leaves_there : Bool) → row.aboard ≡ false → row.from ≢ row.to → row.from < 64 → row.to < 64
+pub missing_where_split_after : (rows : List Row) (row : Row) (position : Position) (halts before rest middle behind : List Halt) (boards leaves : Halt) (boards_there leaves_there : Bool) → row.aboard ≡ false → row.from ≢ row.to → row.from < 64 → row.to < 64
     → halts ≡ stop_list rows position → boards ≡ halt_at position row row.from → leaves ≡ halt_at position row row.to → leaves_there ≡ false
     → IsSplit (rank_of position.dir) boards halts before boards_there rest → IsSplit (rank_of position.dir) leaves rest middle leaves_there behind → has_halt leaves halts ≡ false
-missing_where_split_behind rows row position halts before rest middle behind boards leaves boards_there leaves_there waits apart from-low to-low halts-are boards-is leaves-is gone first second =
+missing_where_split_after rows row position halts before rest middle behind boards leaves boards_there leaves_there waits apart from-low to-low halts-are boards-is leaves-is gone first second =
     let stops = stops_with_waiting rows row position halts before rest middle behind boards leaves boards_there leaves_there waits apart from-low to-low halts-are boards-is leaves-is first second in
     let grouped : stop_list (rows ++ row ∷ []) position ≡ (before ++ boards ∷ middle) ++ leaves ∷ behind = stops ∙ sym (append_assoc before (boards ∷ middle) (leaves ∷ behind)) in
     let differ : AllDiffer ((before ++ boards ∷ middle) ++ leaves ∷ behind) = subst (λ (hs : List Halt). AllDiffer hs) grouped (stops_differ (rows ++ row ∷ []) position) in
@@ -104,9 +104,9 @@ nobody_leaves_where_split plan position rows halts before behind x is_there lawf
     nobody_leaves_elsewhere plan position rows halts x lawful inside halts-are (missing_where_split rows position halts before behind x is_there low halts-are gone split)
 
 -- they leave at one that it makes for nobody else
-pub nobody_leaves_where_split_behind : (plan : Plan) (position : Position) (rows : List Row) (row : Row) (halts before rest middle behind : List Halt) (boards leaves : Halt) (boards_there leaves_there : Bool) → IsBuilding plan → AreWithin plan.floors rows
+pub nobody_leaves_where_split_after : (plan : Plan) (position : Position) (rows : List Row) (row : Row) (halts before rest middle behind : List Halt) (boards leaves : Halt) (boards_there leaves_there : Bool) → IsBuilding plan → AreWithin plan.floors rows
     → row.aboard ≡ false → row.from ≢ row.to → row.from < 64 → row.to < 64 → halts ≡ stop_list rows position → boards ≡ halt_at position row row.from → leaves ≡ halt_at position row row.to → leaves_there ≡ false
     → IsSplit (rank_of position.dir) boards halts before boards_there rest → IsSplit (rank_of position.dir) leaves rest middle leaves_there behind → leaving_at rows position leaves ≡ 0
-nobody_leaves_where_split_behind plan position rows row halts before rest middle behind boards leaves boards_there leaves_there lawful inside waits apart from-low to-low halts-are boards-is leaves-is gone first second =
+nobody_leaves_where_split_after plan position rows row halts before rest middle behind boards leaves boards_there leaves_there lawful inside waits apart from-low to-low halts-are boards-is leaves-is gone first second =
     nobody_leaves_elsewhere plan position rows halts leaves lawful inside halts-are
-    (missing_where_split_behind rows row position halts before rest middle behind boards leaves boards_there leaves_there waits apart from-low to-low halts-are boards-is leaves-is gone first second)
+    (missing_where_split_after rows row position halts before rest middle behind boards leaves boards_there leaves_there waits apart from-low to-low halts-are boards-is leaves-is gone first second)

@@ -10,7 +10,7 @@ use Rattle.lift_stops.specs.StopList.{same_halt}
 use Rattle.lift_stops.specs.Parts.{has_halt, AllDiffer}
 use Rattle.lift_stops.specs.lemmas.Listed.{same_itself}
 use Rattle.lift_cost.specs.Cost.{moment_at}
-use Rattle.lift_cost.specs.Laws.{way_behind, ArrivalsAddUp, ArrivalsAreAtPlaces, OthersHaveNone}
+use Rattle.lift_cost.specs.Laws.{way_after, ArrivalsAddUp, ArrivalsAreAtPlaces, OthersHaveNone}
 use Rattle.lift_cost.proofs.Earlier.{neither, not_here, or_right}
 
 range_more : (a n : ℕ) → range_with_len a (suc n) ≡ range_with_len a n ++ (a + n) ∷ []
@@ -25,7 +25,7 @@ add_up plan floor halts (suc n) within =
     let so_far = add_up plan floor halts n (omega (arith, within)) in
     let suc-is : suc n ≡ n + 1 = omega arith in
     let next = ap (λ m. slice_index (arrivals_of plan floor halts) m) suc-is ∙ (arrivals_are plan floor halts).later n (omega (arith, within)) in
-    let way = way_behind plan halts in
+    let way = way_after plan halts in
     let e : 0 + n ≡ n = omega arith in
     let more : sum_by way (range_with_len 0 (suc n)) ≡ sum_by way (range_with_len 0 n) + way n =
     ap (λ (ns : List ℕ). sum_by way ns) (range_more 0 n) ∙ sum_by_push way (range_with_len 0 n) (0 + n) ∙ ap (λ m. sum_by way (range_with_len 0 n) + way m) e in

@@ -7,19 +7,19 @@ use Rattle.lift_building.specs.Plan.{Plan, flight_ms}
 use Rattle.lift_stops.specs.StopList.{same_halt}
 use Rattle.lift_stops.specs.Parts.{has_halt}
 use Rattle.lift_stops.specs.lemmas.Listed.{same_itself}
-use Rattle.lift_cost.specs.Ways.{weighted, floor_behind, leaves_behind, persons_along}
+use Rattle.lift_cost.specs.Ways.{weighted, floor_after, leaves_after, persons_along}
 use Rattle.lift_cost.proofs.Earlier.{or_right}
 
 -- ---- halts and more halts
 
-pub floor_behind-append : (floor : ℕ) (halts more : List Halt) → floor_behind floor (halts ++ more) ≡ floor_behind (floor_behind floor halts) more
-floor_behind-append floor [] more = refl
-floor_behind-append floor (h ∷ hs) more = floor_behind-append h.floor hs more
+pub floor_after-append : (floor : ℕ) (halts more : List Halt) → floor_after floor (halts ++ more) ≡ floor_after (floor_after floor halts) more
+floor_after-append floor [] more = refl
+floor_after-append floor (h ∷ hs) more = floor_after-append h.floor hs more
 
-pub leaves_behind-append : (plan : Plan) (floor leaves : ℕ) (halts more : List Halt)
-    → leaves_behind plan floor leaves (halts ++ more) ≡ leaves_behind plan (floor_behind floor halts) (leaves_behind plan floor leaves halts) more
-leaves_behind-append plan floor leaves [] more = refl
-leaves_behind-append plan floor leaves (h ∷ hs) more = leaves_behind-append plan h.floor (leaves + flight_ms plan floor h.floor + plan.door_ms) hs more
+pub leaves_after-append : (plan : Plan) (floor leaves : ℕ) (halts more : List Halt)
+    → leaves_after plan floor leaves (halts ++ more) ≡ leaves_after plan (floor_after floor halts) (leaves_after plan floor leaves halts) more
+leaves_after-append plan floor leaves [] more = refl
+leaves_after-append plan floor leaves (h ∷ hs) more = leaves_after-append plan h.floor (leaves + flight_ms plan floor h.floor + plan.door_ms) hs more
 
 pub persons_along-append : (persons : Halt → ℕ) (halts more : List Halt) → persons_along persons (halts ++ more) ≡ persons_along persons halts + persons_along persons more
 persons_along-append persons [] more = omega arith
@@ -27,7 +27,7 @@ persons_along-append persons (h ∷ hs) more = omega (arith, persons_along-appen
 
 pub weighted-append : (plan : Plan) (persons : Halt → ℕ) (floor leaves : ℕ) (halts more : List Halt)
     → weighted plan persons floor leaves (halts ++ more)
-    ≡ weighted plan persons floor leaves halts + weighted plan persons (floor_behind floor halts) (leaves_behind plan floor leaves halts) more
+    ≡ weighted plan persons floor leaves halts + weighted plan persons (floor_after floor halts) (leaves_after plan floor leaves halts) more
 weighted-append plan persons floor leaves [] more = omega arith
 weighted-append plan persons floor leaves (h ∷ hs) more = omega (arith, weighted-append plan persons h.floor (leaves + flight_ms plan floor h.floor + plan.door_ms) hs more)
 
@@ -59,19 +59,19 @@ weighted-later plan persons floor other leaves later delay h hs later-is =
     let turned : persons h * delay ≡ delay * persons h = mul_comm (persons h) delay in
     omega (arith, first, rest, sum, turned)
 
-leaves_later_at_same : (plan : Plan) (floor leaves delay : ℕ) (halts : List Halt) → leaves_behind plan floor (leaves + delay) halts ≡ leaves_behind plan floor leaves halts + delay
+leaves_later_at_same : (plan : Plan) (floor leaves delay : ℕ) (halts : List Halt) → leaves_after plan floor (leaves + delay) halts ≡ leaves_after plan floor leaves halts + delay
 leaves_later_at_same plan floor leaves delay [] = refl
 leaves_later_at_same plan floor leaves delay (h ∷ hs) =
     let there : ℕ = leaves + flight_ms plan floor h.floor + plan.door_ms in
     let there-is : leaves + delay + flight_ms plan floor h.floor + plan.door_ms ≡ there + delay = omega arith in
-    ap (λ time. leaves_behind plan h.floor time hs) there-is ∙ leaves_later_at_same plan h.floor there delay hs
+    ap (λ time. leaves_after plan h.floor time hs) there-is ∙ leaves_later_at_same plan h.floor there delay hs
 
-pub leaves_behind-later : (plan : Plan) (floor other leaves later delay : ℕ) (h : Halt) (hs : List Halt) → later + flight_ms plan other h.floor ≡ leaves + flight_ms plan floor h.floor + delay
-    → leaves_behind plan other later (h ∷ hs) ≡ leaves_behind plan floor leaves (h ∷ hs) + delay
-leaves_behind-later plan floor other leaves later delay h hs later-is =
+pub leaves_after-later : (plan : Plan) (floor other leaves later delay : ℕ) (h : Halt) (hs : List Halt) → later + flight_ms plan other h.floor ≡ leaves + flight_ms plan floor h.floor + delay
+    → leaves_after plan other later (h ∷ hs) ≡ leaves_after plan floor leaves (h ∷ hs) + delay
+leaves_after-later plan floor other leaves later delay h hs later-is =
     let there : ℕ = leaves + flight_ms plan floor h.floor + plan.door_ms in
     let there-is : later + flight_ms plan other h.floor + plan.door_ms ≡ there + delay = omega (arith, later-is) in
-    ap (λ time. leaves_behind plan h.floor time hs) there-is ∙ leaves_later_at_same plan h.floor there delay hs
+    ap (λ time. leaves_after plan h.floor time hs) there-is ∙ leaves_later_at_same plan h.floor there delay hs
 
 -- ---- two ways to tell how many persons leave
 

@@ -10,7 +10,7 @@ use Rattle.lift_stops.specs.Leaving.{AreLeaving, place_of}
 use Rattle.lift_cost.specs.Calls.{AreWithin}
 use Rattle.lift_stops.specs.Insertion.{IsSplit}
 use Rattle.lift_cost.specs.Cost.{etd, total_etd}
-use Rattle.lift_cost.specs.Ways.{weighted, floor_behind, leaves_behind}
+use Rattle.lift_cost.specs.Ways.{weighted, floor_after, leaves_after}
 use Rattle.lift_cost.specs.declared.ways.Ways.{Ways}
 
 -- how many persons a table tells of a halt
@@ -25,10 +25,10 @@ IsNoSooner plan floor floor_with delay = (to : ℕ) → to < plan.floors
 -- A car that leaves the start now made some halts without a new call, and others with it.
 pub record IsOnWays (plan : Plan) (persons : Halt → ℕ) (start : ℕ) (halts halts_with : List Halt)
     (ways : Ways) : Type 0 where
-  pub floor : ways.floor ≡ floor_behind start halts
-  pub floor_with : ways.floor_with ≡ floor_behind start halts_with
-  pub leaves : ways.leaves_with ≡ leaves_behind plan start 0 halts_with
-  pub delay : ways.leaves_with ≡ leaves_behind plan start 0 halts + ways.delay
+  pub floor : ways.floor ≡ floor_after start halts
+  pub floor_with : ways.floor_with ≡ floor_after start halts_with
+  pub leaves : ways.leaves_with ≡ leaves_after plan start 0 halts_with
+  pub delay : ways.leaves_with ≡ leaves_after plan start 0 halts + ways.delay
   pub later : weighted plan persons start 0 halts_with
       ≡ weighted plan persons start 0 halts + ways.later
 
@@ -51,8 +51,8 @@ pub record HaltsAt (plan : Plan) (persons : Halt → ℕ) (rank : Halt → ℕ) 
       ((made_with ++ before) ++ halt ∷ []) after
   pub arrives_at : (start : ℕ) (made made_with : List Halt)
       → IsOnWays plan persons start made made_with ways
-      → arrives ≡ leaves_behind plan start 0 (made_with ++ before)
-      + flight_ms plan (floor_behind start (made_with ++ before)) halt.floor
+      → arrives ≡ leaves_after plan start 0 (made_with ++ before)
+      + flight_ms plan (floor_after start (made_with ++ before)) halt.floor
 
 -- A car that had made some halts goes on through these to their end, and the way with the new call
 -- makes this one among them: `later` is how much later all persons are where they leave, and
@@ -70,8 +70,8 @@ pub record GoesToEnd (plan : Plan) (persons : Halt → ℕ) (rank : Halt → ℕ
       (((made ++ before) ++ (if is_there then halt ∷ [] else [])) ++ behind) + later
   pub arrives_at : (start : ℕ) (made made_with : List Halt)
       → IsOnWays plan persons start made made_with ways
-      → arrives ≡ leaves_behind plan start 0 (made_with ++ before)
-      + flight_ms plan (floor_behind start (made_with ++ before)) halt.floor
+      → arrives ≡ leaves_after plan start 0 (made_with ++ before)
+      + flight_ms plan (floor_after start (made_with ++ before)) halt.floor
 
 -- Some open calls of a car at this position, with its halts for them, and a table of those who
 -- leave there.

@@ -10,8 +10,8 @@ use Rattle.lift_cost.specs.Cost.{arrival_at}
 
 -- from the moment at which a car reaches a halt of these to that of the next: the door time and the
 -- flight
-abbrev pub way_behind : Plan → List Halt → ℕ → ℕ
-way_behind plan halts place =
+abbrev pub way_after : Plan → List Halt → ℕ → ℕ
+way_after plan halts place =
     plan.door_ms + flight_ms plan (slice_index (floors_of halts) place)
     (slice_index (floors_of halts) (place + 1))
 
@@ -19,7 +19,7 @@ way_behind plan halts place =
 abbrev pub ArrivalsAddUp : Type 0
 ArrivalsAddUp = (plan : Plan) (floor : ℕ) (halts : List Halt) (place : ℕ) → place < length halts
     → slice_index (arrivals_of plan floor halts) place
-    ≡ flight_ms plan floor (slice_index (floors_of halts) 0) + sum_by (way_behind plan halts)
+    ≡ flight_ms plan floor (slice_index (floors_of halts) 0) + sum_by (way_after plan halts)
     (range_with_len 0 place)
 
 -- Where no halt stands twice, as in a stop list, a car is at a halt at the arrival of its place.

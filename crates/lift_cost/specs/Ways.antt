@@ -13,15 +13,15 @@ weighted plan persons floor leaves (halt ∷ halts) =
     halts
 
 -- where a car is after these halts
-abbrev pub floor_behind : ℕ → List Halt → ℕ
-floor_behind floor [] = floor
-floor_behind floor (halt ∷ halts) = floor_behind halt.floor halts
+abbrev pub floor_after : ℕ → List Halt → ℕ
+floor_after floor [] = floor
+floor_after floor (halt ∷ halts) = floor_after halt.floor halts
 
 -- when it leaves the last of them
-abbrev pub leaves_behind : Plan → (floor leaves : ℕ) → List Halt → ℕ
-leaves_behind plan floor leaves [] = leaves
-leaves_behind plan floor leaves (halt ∷ halts) =
-    leaves_behind plan halt.floor (leaves + flight_ms plan floor halt.floor + plan.door_ms) halts
+abbrev pub leaves_after : Plan → (floor leaves : ℕ) → List Halt → ℕ
+leaves_after plan floor leaves [] = leaves
+leaves_after plan floor leaves (halt ∷ halts) =
+    leaves_after plan halt.floor (leaves + flight_ms plan floor halt.floor + plan.door_ms) halts
 
 -- how many persons are told of these halts
 abbrev pub persons_along : (Halt → ℕ) → List Halt → ℕ

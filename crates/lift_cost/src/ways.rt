@@ -7,7 +7,7 @@ ghost use Rattle.lift_building.specs.Plan.{Plan, flight_ms};
 ghost use Rattle.lift_stops.specs.Insertion.{rank_of};
 ghost use Rattle.lift_cost.specs.Delays.{GoesToEnd, IsNoSooner, IsOnWays, IsShort, HaltsAt};
 ghost use Rattle.lift_cost.specs.Delays.{persons_in};
-ghost use Rattle.lift_cost.specs.Ways.{floor_behind, leaves_behind, persons_along, weighted};
+ghost use Rattle.lift_cost.specs.Ways.{floor_after, leaves_after, persons_along, weighted};
 
 use lift_base::{Dir, Floor, Halt};
 use lift_building::Building;
@@ -55,8 +55,8 @@ fn times_along(leaving: &Leaving, halts: &[Halt], time: u32) -> u64
 fn go_along(building: &Building, floor: Floor, leaves: u32, halts: &[Halt]) -> (Floor, u32)
     requires few { length halts.now ≤ 66 }
     requires soon { leaves ≤ 250000000 }
-    ensures floor { result.0 ≡ floor_behind floor halts.now }
-    ensures leaves { result.1 ≡ leaves_behind building.now floor leaves halts.now }
+    ensures floor { result.0 ≡ floor_after floor halts.now }
+    ensures leaves { result.1 ≡ leaves_after building.now floor leaves halts.now }
     ensures limit { result.1 ≤ leaves + 50000000 }
 {
     let door_ms = building.door_ms();

@@ -33,8 +33,8 @@ rests_then old mid new first second = record {
 }
 
 -- what is made safe after a write back
-pub safe_behind : (old mid new : DiskState) → CountsNow old → old.is_honest → Rests old mid → KeepsWrites old mid → SyncMakesSafe mid new → SyncMakesSafe old new
-safe_behind old mid new counts honest rests keeps safe =
+pub safe_after : (old mid new : DiskState) → CountsNow old → old.is_honest → Rests old mid → KeepsWrites old mid → SyncMakesSafe mid new → SyncMakesSafe old new
+safe_after old mid new counts honest rests keeps safe =
     let first = rests.time honest in
     let second = safe.time in
     let touched = rests.touched honest in record {

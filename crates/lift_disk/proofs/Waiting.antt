@@ -146,9 +146,9 @@ get_before [] bytes found k is = cc is
 get_before (first ∷ run) bytes found zero is = is
 get_before (first ∷ run) bytes found (suc k) is = get_before run bytes found k is
 
-get_behind : (run : List (List ℕ)) (bytes : List ℕ) → slice_get (run ++ bytes ∷ []) (length run) ≡ Some bytes
-get_behind [] bytes = refl
-get_behind (first ∷ run) bytes = get_behind run bytes
+get_after : (run : List (List ℕ)) (bytes : List ℕ) → slice_get (run ++ bytes ∷ []) (length run) ≡ Some bytes
+get_after [] bytes = refl
+get_after (first ∷ run) bytes = get_after run bytes
 
 module _ (old new : DiskState) (from from2 sector : ℕ) (pending pending2 : List (List ℕ)) (bytes : List ℕ)
     (opens : Loosens sector (waiting old from pending) (waiting new from2 pending2)) (keeps : KeepsWrites (waiting old from pending) (waiting new from2 pending2))
@@ -192,7 +192,7 @@ module _ (old new : DiskState) (from from2 sector : ℕ) (pending pending2 : Lis
 
   pub push_written : old.is_honest → SectorIsWritten sector bytes before behind
   push_written honest = record {
-    here = inl (omega (arith, next), ap (λ k. slice_get more k) (let place : sector - from2 ≡ length pending2 = omega (arith, next) in place) ∙ get_behind pending2 bytes);
+    here = inl (omega (arith, next), ap (λ k. slice_get more k) (let place : sector - from2 ≡ length pending2 = omega (arith, next) in place) ∙ get_after pending2 bytes);
     others = λ i other not was. ⊎_elim
         (λ (held : (from2 ≤ i) × (slice_get pending2 (i - from2) ≡ Some other)). inl (held.0, get_before pending2 bytes other (i - from2) held.1))
         (λ (stood : ¬ IsInRun from2 (length pending2) i × new.written i other). inr (

@@ -4,10 +4,10 @@ use Rattle.std.proofs.lemmas.List.{take_at, drop_at, drop-set-add, take-set-le, 
 use Rattle.std.proofs.lemmas.Option.{unwrap_or-slice_get}
 use Rattle.lift_disk.specs.Disk.{DiskState, Image, ChangesWithin}
 use Rattle.lift_disk.specs.lemmas.Moments.{changes_more}
-use Rattle.lift_journal.specs.Layout.{Batch, is_marked, IsClosed, IsBody, used, sector_at, start_of, Holds, IsBehind, IsPrepared}
+use Rattle.lift_journal.specs.Layout.{Batch, is_marked, IsClosed, IsBody, used, sector_at, start_of, Holds, IsAfter, IsPrepared}
 use Rattle.lift_journal.specs.Steps.{overwritten, marked, unmarked, IsInRange, IsReady}
 use Rattle.lift_base.specs.declared.history.Shape.{Shape}
-use Rattle.lift_journal.specs.lemmas.Chains.{holds_behind, start_same, start_high, holds_opened}
+use Rattle.lift_journal.specs.lemmas.Chains.{holds_after, start_same, start_high, holds_opened}
 
 -- what was written stands there
 pub overwritten_there : (image : Image) (first : ℕ) (sectors : Image) → first + length sectors ≤ length image → take (length sectors) (drop first (overwritten image first sectors)) ≡ sectors
@@ -32,13 +32,13 @@ module _ (shape : Shape) (batches : List Batch) (batch : Batch) (gate : ℕ) (bo
   unfolding n
   room = omega (arith, ready.room, ready.at, start_high shape.half old.image, ready.holds.stamped.size)
 
-  behind : (new : Image) → ChangesWithin (IsInRange (gate + 1) (gate + n + 2)) old.image new → ChangesWithin (IsBehind gate) old.image new
-  behind new within = changes_more (IsInRange (gate + 1) (gate + n + 2)) (IsBehind gate) old.image new (λ i is. omega (arith, is.0)) within
+  behind : (new : Image) → ChangesWithin (IsInRange (gate + 1) (gate + n + 2)) old.image new → ChangesWithin (IsAfter gate) old.image new
+  behind new within = changes_more (IsInRange (gate + 1) (gate + n + 2)) (IsAfter gate) old.image new (λ i is. omega (arith, is.0)) within
 
   -- while the body is written, the image holds the old batches
   pub body_leaves : (left : Image) → ChangesWithin (IsInRange (gate + 1) (gate + length body + 2)) old.image left → Holds shape batches left
   unfolding n
-  body_leaves left within = holds_behind shape batches old.image left gate ready.holds ready.at (behind left within)
+  body_leaves left within = holds_after shape batches old.image left gate ready.holds ready.at (behind left within)
 
   pub body_start : (left : Image) → ChangesWithin (IsInRange (gate + 1) (gate + length body + 2)) old.image left → start_of shape.half left ≡ start_of shape.half old.image
   unfolding n

@@ -17,12 +17,12 @@ use Rattle.lift_disk.specs.lemmas.Moments.{runs_none, runs_then, touches_none, t
 use Rattle.lift_journal.specs.Order.{AreRecordsInOrder, IsComplete}
 use Rattle.lift_journal.specs.Layout.{Batch, body_size, size_of, used, NeverFall, IsSound, IsBody, is_marked, IsOpen, sector_at}
 use Rattle.lift_journal.specs.Steps.{overwritten, marked, IsInRange}
-use Rattle.lift_journal.specs.Walk.{IsFront, IsSoundFront, Reaches}
+use Rattle.lift_journal.specs.Walk.{AreFirstBatches, MayBeginChain, Reaches}
 use Rattle.lift_journal.specs.Checkpoint.{in_batches, batch_count, checkpoint_of, sectors_for}
 use Rattle.lift_journal.specs.Told.{NoneFails}
 use Rattle.lift_disk.specs.Trace.{Access}
 use Rattle.lift_disk.specs.Trace.Access.{Write}
-use Rattle.lift_journal.specs.Calls.{batch_body, draft_calls, writes_from, MakesFront}
+use Rattle.lift_journal.specs.Calls.{batch_body, draft_calls, writes_from, MakesPrefix}
 use Rattle.lift_journal.proofs.Following.{all_then, front_then, front_more}
 use Rattle.lift_journal.specs.lemmas.Telling.{none_made, passes_then}
 use Rattle.lift_journal.proofs.Appends.{overwritten_there, length-overwritten, sector_set}
@@ -71,7 +71,7 @@ never_fall version (suc count) records low = (low, never_fall Two count (drop 63
 order_take : (count : ℕ) (records : List Record) → AreRecordsInOrder records → AreRecordsInOrder (take count records)
 order_take count records order = order_front None (take count records) (drop count records) (subst AreRecordsInOrder (sym (take-append-drop count records)) order)
 
-pub sound_front : (count : ℕ) (records : List Record) → AreRecordsInOrder records → IsSoundFront (in_batches count records)
+pub sound_front : (count : ℕ) (records : List Record) → AreRecordsInOrder records → MayBeginChain (in_batches count records)
 sound_front count records order = record {
   versions = never_fall One count records (omega arith);
   ordered = subst AreRecordsInOrder (sym (records_in count records)) (order_take (63 * count) records order);
@@ -102,7 +102,7 @@ reaches_same start end gate batches old new reached below same = record { front 
     window : (image : Image) → take (used batches) (drop start image) ≡ drop start (take gate image)
     window image = sym (ap (λ n. drop start (take n image)) reached.at ∙ drop-take start (used batches) image)
 
-    front : IsFront batches 1 (take (end - start) (drop start new))
+    front : AreFirstBatches batches 1 (take (end - start) (drop start new))
     front =
         let u = used batches in
         let short : u ≤ end - start = omega (arith, reached.at, below) in
@@ -111,7 +111,7 @@ reaches_same start end gate batches old new reached below same = record { front 
 
 -- One batch more stands in a half that is being written.
 module _ (start end gate : ℕ) (batches : List Batch) (batch : Batch) (body old new : Image) (reached : Reaches old start end gate batches) (whole : end ≤ length old)
-    (room : gate + 1 + length body < end) (size : length body ≡ size_of batch) (spelled : IsBody (1 + length batches) batch body) (sound : IsSoundFront (batches ++ batch ∷ []))
+    (room : gate + 1 + length body < end) (size : length body ≡ size_of batch) (spelled : IsBody (1 + length batches) batch body) (sound : MayBeginChain (batches ++ batch ∷ []))
     (is : new ≡ slice_set (overwritten old (gate + 1) body) gate marked) where
   base : Image
   base = overwritten old (gate + 1) body
@@ -194,8 +194,8 @@ draft_next start gate count records tail body at is =
 
 -- the calls of all batches, where one of the next fails
 pub draft_makes_front : (old now new : DiskState) (start gate count end : ℕ) (records : List Record) (body : Image) → gate ≡ start + used (in_batches count records) → body ≡ batch_body (count + 1) (batch_at count records)
-    → count < end → now.trace ≡ old.trace ++ draft_calls start 1 (in_batches count records) → MakesFront (writes_from (gate + 1) body ++ Write gate marked ∷ []) now new
-    → MakesFront (draft_calls start 1 (in_batches end records)) old new
+    → count < end → now.trace ≡ old.trace ++ draft_calls start 1 (in_batches count records) → MakesPrefix (writes_from (gate + 1) body ++ Write gate marked ∷ []) now new
+    → MakesPrefix (draft_calls start 1 (in_batches end records)) old new
 draft_makes_front old now new start gate count end records body at is below was front =
     let calls = writes_from (gate + 1) body ++ Write gate marked ∷ [] in
     let done = draft_calls start 1 (in_batches count records) in
@@ -203,7 +203,7 @@ draft_makes_front old now new start gate count end records body at is below was 
     let rest = draft_calls (gate + (1 + size_of (batch_at count records))) (count + 1 + 1) tail in
     let whole : in_batches end records ≡ in_batches count records ++ batch_at count records ∷ tail =
     ap (λ n. in_batches n records) (let sum : end ≡ count + suc (end - count - 1) = omega (arith, below) in sum) ∙ batches_split count (suc (end - count - 1)) records in
-    subst (λ (l : List Access). MakesFront l old new) (sym (ap (draft_calls start 1) whole ∙ draft_next start gate count records tail body at is))
+    subst (λ (l : List Access). MakesPrefix l old new) (sym (ap (draft_calls start 1) whole ∙ draft_next start gate count records tail body at is))
     (front_then old now new done (calls ++ rest) was (front_more now new calls rest front))
 
 -- From the start on this many batches of a checkpoint are written.
@@ -275,7 +275,7 @@ module _ (old now new : DiskState) (start gate count : ℕ) (records : List Reco
             let next = reaches_next start end gate batches batch body now.image new.image (so_far.reached honest steady end high inside)
             (omega (arith, inside, whole_now (so_far.runs.honest.1 honest), so_far.runs.size)) (omega (arith, room, high)) size
             (subst (λ n. IsBody n batch body) (let number : count + 1 ≡ 1 + length batches = omega (arith, length_batches count records) in number) spelled)
-            (subst IsSoundFront more (sound_front (count + 1) records order)) after.same in
+            (subst MayBeginChain more (sound_front (count + 1) records order)) after.same in
             subst (λ g. Reaches new.image start end g (in_batches (count + 1) records)) (let place : gate + (1 + size_of batch) ≡ gate + (length body + 1) = omega (arith, size) in place)
             (subst (Reaches new.image start end (gate + (1 + size_of batch))) (sym more) next));
       }

@@ -9,7 +9,7 @@ use Rattle.lift_journal.specs.declared.fault.JournalFault.TheVariants.{Disk, Not
 use Rattle.lift_journal.specs.Walk.{Reaches, IsDamagedAt}
 use Rattle.lift_journal.specs.Steps.{ReadsOnly}
 use Rattle.lift_journal.specs.Calls.{reads_from}
-use Rattle.lift_journal.specs.Behind.{IsHalfOf, EndsIn, EndsInHalf, StampBehind, RefusedBehind}
+use Rattle.lift_journal.specs.Behind.{IsHalfOf, EndsIn, EndsInHalf, StampAfter, RefusedAfter}
 
 -- other calls stood before
 made_then : (old mid new : DiskState) (first before behind : List Access) → mid.trace ≡ old.trace ++ first → new.trace ≡ mid.trace ++ (before ++ behind)
@@ -46,14 +46,14 @@ ends_then Full first before start end was is mid_image image old mid new made kn
 ends_then Broken first before start end was is mid_image image old mid new made known ends = absurd ends
 
 -- the stamp was refused
-pub stamp_behind : (fault : JournalFault) (old mid new : DiskState) → mid.trace ≡ old.trace ++ Sync ∷ [] → mid.size ≡ old.size → StampBehind fault mid new → RefusedBehind fault old new
-stamp_behind Disk old mid new was size behind = inl (record { count = 1; some_left = omega arith; made = behind ∙ was })
-stamp_behind NotFormatted old mid new was size behind =
+pub stamp_after : (fault : JournalFault) (old mid new : DiskState) → mid.trace ≡ old.trace ++ Sync ∷ [] → mid.size ≡ old.size → StampAfter fault mid new → RefusedAfter fault old new
+stamp_after Disk old mid new was size behind = inl (record { count = 1; some_left = omega arith; made = behind ∙ was })
+stamp_after NotFormatted old mid new was size behind =
     ⊎_elim (λ none. inl (omega (arith, none.0, size), none.1 ∙ was))
     (λ one. inr (omega (arith, one.0, size), one.1 ∙ ap (λ (l : List Access). l ++ Read 1 ∷ []) was ∙ append_assoc old.trace (Sync ∷ []) (Read 1 ∷ []))) behind
-stamp_behind (Damaged sector) old mid new was size behind = absurd behind
-stamp_behind Full old mid new was size behind = absurd behind
-stamp_behind Broken old mid new was size behind = absurd behind
+stamp_after (Damaged sector) old mid new was size behind = absurd behind
+stamp_after Full old mid new was size behind = absurd behind
+stamp_after Broken old mid new was size behind = absurd behind
 
 -- Nothing was in doubt, so what is read is as it was.
 pub image_stays : (old new : DiskState) → ReadsOnly old new → old.is_honest → IsSynced old → old.image ≡ new.image
@@ -71,16 +71,16 @@ half_before fault old mid new was size only known (start, end, half, ends) = (
 )
 
 -- the pick could not be read, or a half was refused
-pub half_behind : (fault : JournalFault) (old mid new : DiskState) → mid.trace ≡ old.trace ++ Sync ∷ Read 1 ∷ [] → mid.size ≡ old.size → ReadsOnly mid new
+pub half_after : (fault : JournalFault) (old mid new : DiskState) → mid.trace ≡ old.trace ++ Sync ∷ Read 1 ∷ [] → mid.size ≡ old.size → ReadsOnly mid new
     → (old.is_honest → mid.is_honest × IsSynced mid)
-    → (fault ≡ Disk) × (new.trace ≡ mid.trace) ⊎ EndsInHalf fault (Read 0 ∷ []) (mid.is_honest × IsSynced mid) mid.image mid new → RefusedBehind fault old new
-half_behind Disk old mid new was size only known (inl none) = inl (record { count = 2; some_left = omega arith; made = none.1 ∙ was })
-half_behind Disk old mid new was size only known (inr ends) = inr (half_before Disk old mid new was size only known ends)
-half_behind NotFormatted old mid new was size only known (inl none) = absurd (cc none.0)
-half_behind NotFormatted old mid new was size only known (inr ends) = absurd ends.3
-half_behind (Damaged sector) old mid new was size only known (inl none) = absurd (cc none.0)
-half_behind (Damaged sector) old mid new was size only known (inr ends) = half_before (Damaged sector) old mid new was size only known ends
-half_behind Full old mid new was size only known (inl none) = absurd (cc none.0)
-half_behind Full old mid new was size only known (inr ends) = absurd ends.3
-half_behind Broken old mid new was size only known (inl none) = absurd (cc none.0)
-half_behind Broken old mid new was size only known (inr ends) = absurd ends.3
+    → (fault ≡ Disk) × (new.trace ≡ mid.trace) ⊎ EndsInHalf fault (Read 0 ∷ []) (mid.is_honest × IsSynced mid) mid.image mid new → RefusedAfter fault old new
+half_after Disk old mid new was size only known (inl none) = inl (record { count = 2; some_left = omega arith; made = none.1 ∙ was })
+half_after Disk old mid new was size only known (inr ends) = inr (half_before Disk old mid new was size only known ends)
+half_after NotFormatted old mid new was size only known (inl none) = absurd (cc none.0)
+half_after NotFormatted old mid new was size only known (inr ends) = absurd ends.3
+half_after (Damaged sector) old mid new was size only known (inl none) = absurd (cc none.0)
+half_after (Damaged sector) old mid new was size only known (inr ends) = half_before (Damaged sector) old mid new was size only known ends
+half_after Full old mid new was size only known (inl none) = absurd (cc none.0)
+half_after Full old mid new was size only known (inr ends) = absurd ends.3
+half_after Broken old mid new was size only known (inl none) = absurd (cc none.0)
+half_after Broken old mid new was size only known (inr ends) = absurd ends.3

@@ -7,12 +7,12 @@ use Rattle.std.proofs.Math.Seq.{take-append-add}
 use Rattle.lift_disk.specs.Disk.{DiskState, Image}
 use Rattle.lift_disk.specs.Trace.{Access, Records}
 use Rattle.lift_disk.specs.Trace.Access.{Read, Write}
-use Rattle.lift_journal.specs.Calls.{writes_from, reads_from, HasRead, half_start, pick_of, checkpoint_calls, opening_calls, MakesFront, Follows}
+use Rattle.lift_journal.specs.Calls.{writes_from, reads_from, HasRead, half_start, pick_of, checkpoint_calls, opening_calls, MakesPrefix, Follows}
 use Rattle.lift_journal.specs.Layout.{Batch}
 use Rattle.lift_journal.specs.Switch.{IsOtherHalf}
 
 -- one call
-pub front_one : (call : Access) (old new : DiskState) → new.trace ≡ old.trace → MakesFront (call ∷ []) old new
+pub front_one : (call : Access) (old new : DiskState) → new.trace ≡ old.trace → MakesPrefix (call ∷ []) old new
 front_one call old new same = record { count = 0; some_left = omega arith; made = same ∙ sym (append-nil old.trace) }
 
 pub one_follows : {T E : Type 0} (r : Result T E) (call : Access) (old new : DiskState) → Records r call old.trace new.trace → Follows r (call ∷ []) old new
@@ -23,14 +23,14 @@ one_follows (Err e) call old new records = record { all = tt; front = front_one 
 pub all_then : (old mid new : DiskState) (first second : List Access) → mid.trace ≡ old.trace ++ first → new.trace ≡ mid.trace ++ second → new.trace ≡ old.trace ++ (first ++ second)
 all_then old mid new first second was is = is ∙ ap (λ (l : List Access). l ++ second) was ∙ append_assoc old.trace first second
 
-pub front_then : (old mid new : DiskState) (first second : List Access) → mid.trace ≡ old.trace ++ first → MakesFront second mid new → MakesFront (first ++ second) old new
+pub front_then : (old mid new : DiskState) (first second : List Access) → mid.trace ≡ old.trace ++ first → MakesPrefix second mid new → MakesPrefix (first ++ second) old new
 front_then old mid new first second was front = record {
   count = length first + front.count;
   some_left = omega (arith, front.some_left, length-append first second);
   made = all_then old mid new first (take front.count second) was front.made ∙ ap (λ (l : List Access). old.trace ++ l) (sym (take-append-add first second front.count));
 }
 
-pub front_more : (old new : DiskState) (first second : List Access) → MakesFront first old new → MakesFront (first ++ second) old new
+pub front_more : (old new : DiskState) (first second : List Access) → MakesPrefix first old new → MakesPrefix (first ++ second) old new
 front_more old new first second front = record {
   count = front.count;
   some_left = omega (arith, front.some_left, length-append first second);
@@ -42,7 +42,7 @@ follows_then (Ok x) old mid new first second was follows = record { all = all_th
 follows_then (Err e) old mid new first second was follows = record { all = tt; front = front_then old mid new first second was follows.front }
 
 -- a call that failed, whose fault is answered
-pub err_follows : {T E : Type 0} (Q : E → Type 0) (r : Result T E) (old new : DiskState) (calls : List Access) → IsErrAnd r Q → MakesFront calls old new → Follows r calls old new
+pub err_follows : {T E : Type 0} (Q : E → Type 0) (r : Result T E) (old new : DiskState) (calls : List Access) → IsErrAnd r Q → MakesPrefix calls old new → Follows r calls old new
 err_follows Q r old new calls is front =
     let fault = err_from_is_err_and r is in
     record { all = rw fault.1 tt; front = rw fault.1 front }

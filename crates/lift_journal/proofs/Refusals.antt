@@ -12,10 +12,10 @@ use Rattle.lift_base.specs.declared.history.Record.{Record}
 use Rattle.lift_journal.specs.Order.{AreRecordsInOrder, IsComplete}
 use Rattle.lift_journal.specs.Opening.{RefusedFor, FixesImage}
 use Rattle.lift_journal.specs.Answers.{RefusesAt}
-use Rattle.lift_journal.specs.Behind.{RefusedBehind}
+use Rattle.lift_journal.specs.Behind.{RefusedAfter}
 use Rattle.lift_journal.specs.Steps.{ReadsOnly, HasItsCause}
 use Rattle.lift_journal.specs.lemmas.Looking.{cause_told}
-use Rattle.lift_journal.specs.Walk.{IsFront, IsSoundFront, IsDamagedAt}
+use Rattle.lift_journal.specs.Walk.{AreFirstBatches, MayBeginChain, IsDamagedAt}
 use Rattle.lift_journal.specs.lemmas.Chains.{chain_room, start_high}
 use Rattle.lift_journal.specs.lemmas.Orders.{fall_front, order_front}
 use Rattle.lift_journal.specs.lemmas.Unique.{body_unique, stamp_unique}
@@ -27,7 +27,7 @@ record Behind (batches others : List Batch) (number : ℕ) (sectors : Image) : T
   pub joined : others ≡ batches ++ rest
   pub chain : IsChain rest (number + length batches) (drop (used batches) sectors)
 
-rest_of : (batches others : List Batch) (number : ℕ) (sectors : Image) → IsFront batches number sectors → IsChain others number sectors → Behind batches others number sectors
+rest_of : (batches others : List Batch) (number : ℕ) (sectors : Image) → AreFirstBatches batches number sectors → IsChain others number sectors → Behind batches others number sectors
 rest_of [] others number sectors front chain = record { rest = others; joined = refl; chain = subst (λ k. IsChain others k sectors) (sym (add-zero number)) chain }
 rest_of (batch ∷ batches) others number [] front chain = absurd front
 rest_of (batch ∷ batches) [] number (gate ∷ sectors) front chain = absurd (cc (front.0, chain))
@@ -49,7 +49,7 @@ records_append (batch ∷ batches) more =
     ap (λ (l : List Record). batch.records ++ l) (records_append batches more) ∙ sym (append_assoc batch.records (records_of batches) (records_of more))
 
 -- a front of sound batches is sound
-front_of : (batches more : List Batch) → IsSound (batches ++ more) → IsSoundFront batches
+front_of : (batches more : List Batch) → IsSound (batches ++ more) → MayBeginChain batches
 front_of batches more sound = record {
   versions = fall_front One batches more sound.versions;
   ordered = order_front None (records_of batches) (records_of more) (subst AreRecordsInOrder (records_append batches more) sound.ordered);
@@ -105,7 +105,7 @@ good_refusal Full old new cause honest shape batches holds = absurd cause
 good_refusal Broken old new cause honest shape batches holds = absurd cause
 
 -- an opening that was refused
-pub refused_at : (fault : JournalFault) (old new : DiskState) → ReadsOnly old new → RefusedFor fault old new → (new.trace ≡ old.trace) ⊎ (old.is_honest → FixesImage old new) → HasItsCause fault old new → RefusedBehind fault old new → RefusesAt old new fault
+pub refused_at : (fault : JournalFault) (old new : DiskState) → ReadsOnly old new → RefusedFor fault old new → (new.trace ≡ old.trace) ⊎ (old.is_honest → FixesImage old new) → HasItsCause fault old new → RefusedAfter fault old new → RefusesAt old new fault
 refused_at fault old new only refused settled cause behind = record {
   refused = record {
     moments = only.touched.moments;

@@ -53,8 +53,8 @@ module _ (fault : JournalFault) (old mid new : DiskState) (only : ReadsOnly old 
       by_fault Broken same cause is = absurd is
 
 -- after a sync that succeeded, reads leave nothing in doubt, also where one fails
-pub settled_behind : (old mid new : DiskState) → ReadsOnly old mid → ReadsOnly mid new → (old.is_honest → IsSynced mid) → ReadsOnly old new → old.is_honest → FixesImage old new
-settled_behind old mid new first second synced only honest =
+pub settled_after : (old mid new : DiskState) → ReadsOnly old mid → ReadsOnly mid new → (old.is_honest → IsSynced mid) → ReadsOnly old new → old.is_honest → FixesImage old new
+settled_after old mid new first second synced only honest =
     let honest_mid = first.runs.honest.1 honest in
     record {
       none_loose = λ i loose. (synced honest).none_loose i (second.touched.loose (second.runs.honest.1 honest_mid) i loose);

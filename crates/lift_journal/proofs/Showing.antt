@@ -6,7 +6,7 @@ use Rattle.lift_disk.specs.Disk.{DiskState, Image, IsSynced}
 use Rattle.lift_disk.specs.Trace.Access.{Read, Sync}
 use Rattle.lift_journal.specs.declared.fault.JournalFault.{JournalFault}
 use Rattle.lift_journal.specs.declared.fault.JournalFault.TheVariants.{Disk, NotFormatted, Damaged, Full, Broken}
-use Rattle.lift_journal.specs.Behind.{StampBehind}
+use Rattle.lift_journal.specs.Behind.{StampAfter}
 use Rattle.lift_journal.specs.Fronts.{IsOfChain}
 use Rattle.lift_journal.specs.Layout.{IsStamped, start_of}
 use Rattle.lift_journal.specs.Steps.{ReadsOnly}
@@ -16,7 +16,7 @@ use Rattle.lift_journal.proofs.Visiting.{before_then}
 
 module _ {V : Type 0} (takes : V → List Record → V → Type 0) where
   -- it came to no half
-  pub stamp_shown : (fault : JournalFault) (old mid new : DiskState) (v : V) → mid.trace ≡ old.trace ++ Sync ∷ [] → StampBehind fault mid new → ShownBefore takes fault old new v v
+  pub stamp_shown : (fault : JournalFault) (old mid new : DiskState) (v : V) → mid.trace ≡ old.trace ++ Sync ∷ [] → StampAfter fault mid new → ShownBefore takes fault old new v v
   stamp_shown Disk old mid new v was behind = inl (record { count = 1; some_left = omega arith; made = behind ∙ was }, refl)
   stamp_shown NotFormatted old mid new v was behind = refl
   stamp_shown (Damaged sector) old mid new v was behind = absurd behind

@@ -5,9 +5,9 @@ use Rattle.std.proofs.lemmas.List.{append_assoc}
 use Rattle.lift_base.specs.declared.history.Record.{Record}
 use Rattle.lift_record.specs.declared.version.Version.TheVariants.{One}
 use Rattle.lift_record.specs.Version.{version_number}
-use Rattle.lift_journal.specs.Order.{last_behind, IsInOrderBehind}
+use Rattle.lift_journal.specs.Order.{last_command_after, IsInOrderAfter}
 use Rattle.lift_journal.specs.Layout.{Batch, records_of, used, body_size}
-use Rattle.lift_journal.specs.Walk.{IsSoundFront, version_behind}
+use Rattle.lift_journal.specs.Walk.{MayBeginChain, version_after}
 use Rattle.lift_journal.specs.Seen.{batch_of}
 use Rattle.lift_journal.specs.declared.batch.Stored.{Stored}
 use Rattle.lift_journal.specs.declared.walk.Front.{Front}
@@ -23,11 +23,11 @@ use Rattle.lift_journal.specs.lemmas.Orders.{front_push, version_push, last_push
 
 -- the batches before a front, on any device
 pub record IsShown {V : Type 0} (takes : V → List Record → V → Type 0) (was is : V) (start : ℕ) (front : Front) (batches : List Batch) : Type 0 where
-  pub sound : IsSoundFront batches
+  pub sound : MayBeginChain batches
   pub sized : All IsSized batches
   pub stands : front.gate ≡ start + used batches
-  pub version_is : front.version ≡ version_behind One batches
-  pub last_is : front.last ≡ last_behind None (records_of batches)
+  pub version_is : front.version ≡ version_after One batches
+  pub last_is : front.last ≡ last_command_after None (records_of batches)
   pub taken : TakesAll takes was batches is
 
 module _ {V : Type 0} (takes : V → List Record → V → Type 0) where
@@ -53,11 +53,11 @@ module _ {V : Type 0} (takes : V → List Record → V → Type 0) where
       let gate : next.gate ≡ front.gate + (1 + body_size (length stored.records.items)) = ap (λ (f : Front). f.gate) is in
       record {
         sound = front_push batches batch shown.sound (subst (λ v. version_number v ≤ version_number stored.version) shown.version_is passes.rises)
-            (subst (λ l. IsInOrderBehind l stored.records.items) shown.last_is passes.ordered);
+            (subst (λ l. IsInOrderAfter l stored.records.items) shown.last_is passes.ordered);
         sized = All-append IsSized batches (batch ∷ []) shown.sized (All-from_recursion IsSized (batch ∷ []) (sized, tt));
         stands = omega (arith, gate, shown.stands, used_more batches batch);
         version_is = ap (λ (f : Front). f.version) is ∙ sym (version_push One batches batch);
-        last_is = ap (λ (f : Front). f.last) is ∙ ap (λ l. last_behind l stored.records.items) shown.last_is ∙ sym (last_push batches batch);
+        last_is = ap (λ (f : Front). f.last) is ∙ ap (λ l. last_command_after l stored.records.items) shown.last_is ∙ sym (last_push batches batch);
         taken = takes_push batches batch was mid new shown.taken step;
       }
 

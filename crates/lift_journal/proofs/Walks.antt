@@ -6,9 +6,9 @@ use Rattle.lift_disk.specs.Disk.{DiskState, Image, IsSynced, LeavesNoOther}
 use Rattle.lift_journal.specs.Steps.{ReadsOnly, ReadsWell}
 use Rattle.lift_record.specs.declared.version.Version.TheVariants.{One}
 use Rattle.lift_record.specs.Version.{version_number}
-use Rattle.lift_journal.specs.Order.{last_behind, MayEnd, IsInOrderBehind}
+use Rattle.lift_journal.specs.Order.{last_command_after, MayEnd, IsInOrderAfter}
 use Rattle.lift_journal.specs.Layout.{Batch, records_of, IsOpen, IsClosed, size_of, IsBody, IsChain, used, sector_at}
-use Rattle.lift_journal.specs.Walk.{IsFront, IsBatchAt, IsSoundFront, version_behind, Reaches, EndsAt, IsDamagedAt}
+use Rattle.lift_journal.specs.Walk.{AreFirstBatches, IsBatchAt, MayBeginChain, version_after, Reaches, EndsAt, IsDamagedAt}
 use Rattle.lift_journal.specs.declared.batch.Stored.{Stored}
 use Rattle.lift_journal.specs.declared.walk.Front.{Front}
 use Rattle.lift_journal.specs.Fronts.{Passes, passed}
@@ -25,19 +25,19 @@ use Rattle.lift_journal.proofs.Visiting.{IsShown, none_shown}
 pub record IsAtFront (image : Image) (start end : ℕ) (front : Front) (batches : List Batch) : Type 0 where
   pub reached : Reaches image start end front.gate batches
   pub counts : front.number ≡ 1 + length batches
-  pub version_is : front.version ≡ version_behind One batches
-  pub last_is : front.last ≡ last_behind None (records_of batches)
+  pub version_is : front.version ≡ version_after One batches
+  pub last_is : front.last ≡ last_command_after None (records_of batches)
 
-pub front_then : (batches more : List Batch) (number : ℕ) (sectors : Image) → IsFront batches number sectors → IsFront more (number + length batches) (drop (used batches) sectors) → IsFront (batches ++ more) number sectors
-front_then [] more number sectors front behind = subst (λ k. IsFront more k sectors) (add-zero number) behind
+pub front_then : (batches more : List Batch) (number : ℕ) (sectors : Image) → AreFirstBatches batches number sectors → AreFirstBatches more (number + length batches) (drop (used batches) sectors) → AreFirstBatches (batches ++ more) number sectors
+front_then [] more number sectors front behind = subst (λ k. AreFirstBatches more k sectors) (add-zero number) behind
 front_then (batch ∷ batches) more number [] front behind = absurd front
 front_then (batch ∷ batches) more number (gate ∷ rest) front behind =
     let n = size_of batch in
     let count : number + suc (length batches) ≡ (number + 1) + length batches = omega arith in
-    let next = subst (λ (l : Image). IsFront more ((number + 1) + length batches) l) (sym (drop-drop (used batches) n rest)) (subst (λ k. IsFront more k (drop (n + used batches) rest)) count behind) in
+    let next = subst (λ (l : Image). AreFirstBatches more ((number + 1) + length batches) l) (sym (drop-drop (used batches) n rest)) (subst (λ k. AreFirstBatches more k (drop (n + used batches) rest)) count behind) in
     (front.0, front.1, front_then batches more (number + 1) (drop n rest) front.2 next)
 
-pub chain_then : (batches more : List Batch) (number : ℕ) (sectors : Image) → IsFront batches number sectors → IsChain more (number + length batches) (drop (used batches) sectors) → IsChain (batches ++ more) number sectors
+pub chain_then : (batches more : List Batch) (number : ℕ) (sectors : Image) → AreFirstBatches batches number sectors → IsChain more (number + length batches) (drop (used batches) sectors) → IsChain (batches ++ more) number sectors
 chain_then [] more number sectors front behind = subst (λ k. IsChain more k sectors) (add-zero number) behind
 chain_then (batch ∷ batches) more number [] front behind = absurd front
 chain_then (batch ∷ batches) more number (gate ∷ rest) front behind =
@@ -59,16 +59,16 @@ module _ (image : Image) (start end gate : ℕ) (batches : List Batch) (reached 
       ∙ ap (λ k. take k (drop gate image)) long
       ∙ from_gate (end - start - used batches - 1) gate image (omega arith)
 
-  pub reaches_more : (batch : Batch) → IsOpen (sector_at image gate) → IsBatchAt image gate end (1 + length batches) batch → IsSoundFront (batches ++ batch ∷ [])
+  pub reaches_more : (batch : Batch) → IsOpen (sector_at image gate) → IsBatchAt image gate end (1 + length batches) batch → MayBeginChain (batches ++ batch ∷ [])
       → Reaches image start end (gate + (1 + size_of batch)) (batches ++ batch ∷ [])
   reaches_more batch is_open there sound =
       let m = end - start - used batches - 1 in
       let body : take (size_of batch) (take m (drop (gate + 1) image)) ≡ take (size_of batch) (drop (gate + 1) image) =
       take-take (size_of batch) m (drop (gate + 1) image) (omega (arith, reached.at, there.next)) in
-      let one : IsFront (batch ∷ []) (1 + length batches) (sector_at image gate ∷ take m (drop (gate + 1) image)) =
+      let one : AreFirstBatches (batch ∷ []) (1 + length batches) (sector_at image gate ∷ take m (drop (gate + 1) image)) =
       (is_open, subst (IsBody (1 + length batches) batch) (sym body) there.body, tt) in
       record {
-        front = front_then batches (batch ∷ []) 1 (take (end - start) (drop start image)) reached.front (subst (IsFront (batch ∷ []) (1 + length batches)) (sym from_here) one);
+        front = front_then batches (batch ∷ []) 1 (take (end - start) (drop start image)) reached.front (subst (AreFirstBatches (batch ∷ []) (1 + length batches)) (sym from_here) one);
         sound = sound;
         at = omega (arith, reached.at, used_more batches batch);
       }
@@ -107,12 +107,12 @@ module _ (image : Image) (start end : ℕ) (front : Front) (batches : List Batch
   goes_on next stored is_open there passes is =
       let batch = batch_of stored in
       let sound = front_push batches batch at.reached.sound (subst (λ v. version_number v ≤ version_number stored.version) at.version_is passes.rises)
-      (subst (λ l. IsInOrderBehind l stored.records.items) at.last_is passes.ordered) in
+      (subst (λ l. IsInOrderAfter l stored.records.items) at.last_is passes.ordered) in
       let now : IsAtFront image start end (passed front stored) (batches ++ batch ∷ []) = record {
         reached = reaches_more image start end front.gate batches at.reached below whole batch is_open (subst (λ n. IsBatchAt image front.gate end n batch) at.counts there) sound;
         counts = omega (arith, at.counts, length-append batches (batch ∷ []));
         version_is = sym (version_push One batches batch);
-        last_is = ap (λ l. last_behind l stored.records.items) at.last_is ∙ sym (last_push batches batch);
+        last_is = ap (λ l. last_command_after l stored.records.items) at.last_is ∙ sym (last_push batches batch);
       } in
       subst (λ (f : Front). IsAtFront image start end f (batches ++ batch ∷ [])) (sym is) now
 
@@ -158,16 +158,16 @@ module _ (image : Image) (start end : ℕ) (front : Front) (batches : List Batch
       λ other is sound.
           let here = subst (λ n. IsBatchAt image front.gate end n (batch_of stored)) at.counts there in
           let same : other ≡ batch_of stored = body_unique (1 + length batches) other (batch_of stored) (drop (front.gate + 1) image) is.body here.body in
-          let sound_here = subst (λ (b : Batch). IsSoundFront (batches ++ b ∷ [])) same sound in
+          let sound_here = subst (λ (b : Batch). MayBeginChain (batches ++ b ∷ [])) same sound in
           not (record {
             rises = subst (λ v. version_number v ≤ version_number stored.version) (sym at.version_is) (front_rises batches (batch_of stored) sound_here);
-            ordered = subst (λ l. IsInOrderBehind l stored.records.items) (sym at.last_is) (front_order batches (batch_of stored) sound_here);
+            ordered = subst (λ l. IsInOrderAfter l stored.records.items) (sym at.last_is) (front_order batches (batch_of stored) sound_here);
           }),
     );
   }
 
 -- a front of the same sectors
-pub front_same : (batches : List Batch) (number : ℕ) (old new : Image) → IsFront batches number old → take (used batches) new ≡ take (used batches) old → IsFront batches number new
+pub front_same : (batches : List Batch) (number : ℕ) (old new : Image) → AreFirstBatches batches number old → take (used batches) new ≡ take (used batches) old → AreFirstBatches batches number new
 front_same [] number old new front same = tt
 front_same (batch ∷ batches) number [] new front same = absurd front
 front_same (batch ∷ batches) number (gate ∷ rest) [] front same = absurd (cc same)

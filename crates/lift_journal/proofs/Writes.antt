@@ -5,7 +5,7 @@ use Rattle.std.proofs.lemmas.List.Edits.{paste_none, paste_more}
 use Rattle.std.proofs.Math.Seq.{paste, take-suc}
 use Rattle.lift_disk.specs.Trace.{Access}
 use Rattle.lift_disk.specs.Trace.Access.{Write}
-use Rattle.lift_journal.specs.Calls.{writes_from, MakesFront}
+use Rattle.lift_journal.specs.Calls.{writes_from, MakesPrefix}
 use Rattle.lift_journal.proofs.Following.{all_then, writes-push, writes-take, length-writes}
 use Rattle.lift_disk.specs.Disk.{DiskState, Image, GoesOn, RunsOn, Touches, LooseWithin, TouchesOnly, IsSteadyAt, LeavesNoOther, IsWhole}
 use Rattle.lift_disk.specs.lemmas.Moments.{runs_none, runs_call, runs_then, touches_write, touches_then, touches_none}
@@ -33,7 +33,7 @@ writes-next first count sectors within =
 
 -- a failed write: those before it were made
 pub written_front : (old now new : DiskState) (first : ℕ) (sectors : Image) (count : ℕ) → Written old now first sectors count → count < length sectors → new.trace ≡ now.trace
-    → MakesFront (writes_from first sectors) old new
+    → MakesPrefix (writes_from first sectors) old new
 written_front old now new first sectors count so_far within same = record {
   count = count;
   some_left = omega (arith, within, length-writes first sectors);

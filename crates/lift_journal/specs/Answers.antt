@@ -8,7 +8,7 @@ use Rattle.lift_journal.specs.Layout.{Picks}
 use Rattle.lift_journal.specs.Journal.{JournalView}
 use Rattle.lift_journal.specs.Calls.{opening_of}
 use Rattle.lift_journal.specs.Opening.{Opens, Refuses}
-use Rattle.lift_journal.specs.Behind.{RefusedBehind}
+use Rattle.lift_journal.specs.Behind.{RefusedAfter}
 
 -- A device that was so has been opened as this journal.
 pub record OpensAs {D : Type 0} (state : D → DiskState) (old : DiskState)
@@ -24,7 +24,7 @@ pub record OpensAs {D : Type 0} (state : D → DiskState) (old : DiskState)
 -- It was refused for this fault, and read up to the sector that refuses it.
 pub record RefusesAt (old new : DiskState) (fault : JournalFault) : Type 0 where
   pub refused : Refuses old new fault
-  pub behind : RefusedBehind fault old new
+  pub behind : RefusedAfter fault old new
 
 -- A journal is open again; or it was refused, and stands where it stood, but that a failed call
 -- leaves it broken.

@@ -10,7 +10,7 @@ use Rattle.lift_journal.specs.declared.fault.JournalFault.TheVariants.{Disk, Not
 use Rattle.lift_journal.specs.declared.fault.JournalFault.TheVariants.{Full, Broken}
 use Rattle.lift_journal.specs.Layout.{Batch}
 use Rattle.lift_journal.specs.Walk.{Reaches, IsDamagedAt}
-use Rattle.lift_journal.specs.Calls.{reads_from, MakesFront}
+use Rattle.lift_journal.specs.Calls.{reads_from, MakesPrefix}
 
 -- a half of a device of this many sectors, for some shape, from its first sector to its end
 pub record IsHalfOf (size start end : ℕ) : Type 0 where
@@ -60,23 +60,23 @@ EndsInHalf fault before is_known image old new = (start end : ℕ) × IsHalfOf o
     × EndsIn fault before start end is_known image old new
 
 -- what was read of a stamp that was refused
-abbrev pub StampBehind : JournalFault → DiskState → DiskState → Type 0
-StampBehind Disk old new = new.trace ≡ old.trace
-StampBehind NotFormatted old new = (old.size < 2) × (new.trace ≡ old.trace)
+abbrev pub StampAfter : JournalFault → DiskState → DiskState → Type 0
+StampAfter Disk old new = new.trace ≡ old.trace
+StampAfter NotFormatted old new = (old.size < 2) × (new.trace ≡ old.trace)
     ⊎ (2 ≤ old.size) × (new.trace ≡ old.trace ++ Read 1 ∷ [])
-StampBehind (Damaged sector) old new = ⊥
-StampBehind Full old new = ⊥
-StampBehind Broken old new = ⊥
+StampAfter (Damaged sector) old new = ⊥
+StampAfter Full old new = ⊥
+StampAfter Broken old new = ⊥
 
 -- Which calls an opening has made that was refused: the sync, the stamp and the pick, and then a
 -- half up to the sector that refuses it, each of them as far as it came.
-abbrev pub RefusedBehind : JournalFault → DiskState → DiskState → Type 0
-RefusedBehind Disk old new = MakesFront (Sync ∷ Read 1 ∷ Read 0 ∷ []) old new
+abbrev pub RefusedAfter : JournalFault → DiskState → DiskState → Type 0
+RefusedAfter Disk old new = MakesPrefix (Sync ∷ Read 1 ∷ Read 0 ∷ []) old new
     ⊎ EndsInHalf Disk (Sync ∷ Read 1 ∷ Read 0 ∷ []) old.is_honest new.image old new
-RefusedBehind NotFormatted old new =
+RefusedAfter NotFormatted old new =
     (old.size < 2) × (new.trace ≡ old.trace ++ Sync ∷ [])
     ⊎ (2 ≤ old.size) × (new.trace ≡ old.trace ++ Sync ∷ Read 1 ∷ [])
-RefusedBehind (Damaged sector) old new =
+RefusedAfter (Damaged sector) old new =
     EndsInHalf (Damaged sector) (Sync ∷ Read 1 ∷ Read 0 ∷ []) old.is_honest new.image old new
-RefusedBehind Full old new = ⊥
-RefusedBehind Broken old new = ⊥
+RefusedAfter Full old new = ⊥
+RefusedAfter Broken old new = ⊥

@@ -64,7 +64,7 @@ checkpoint_calls start pick batches =
     draft_calls start 1 batches ++ (puts (start + used batches) unmarked ++ puts 0 pick)
 
 -- Some of these calls were made, from the first on, and not all.
-pub record MakesFront (calls : List Access) (old new : DiskState) : Type 0 where
+pub record MakesPrefix (calls : List Access) (old new : DiskState) : Type 0 where
   pub count : ℕ
   pub some_left : count < length calls
   pub made : new.trace ≡ old.trace ++ take count calls
@@ -73,7 +73,7 @@ pub record MakesFront (calls : List Access) (old new : DiskState) : Type 0 where
 pub record Follows {T E : Type 0} (result : Result T E) (calls : List Access)
     (old new : DiskState) : Type 0 where
   pub all : OnOk result (new.trace ≡ old.trace ++ calls)
-  pub front : OnErr result (MakesFront calls old new)
+  pub front : OnErr result (MakesPrefix calls old new)
 
 -- A step of the journal: these calls, this many in all, this many of them writes. It stops at the
 -- first that fails.
@@ -92,7 +92,7 @@ pub record CallsDevice {T : Type 0} (result : Result T JournalFault) (calls : Li
   pub runs : RunsOn old new
   pub made : Makes result count writes old new
   pub all : OnOk result (new.trace ≡ old.trace ++ calls)
-  pub front : IsErrOf result Disk → MakesFront calls old new
+  pub front : IsErrOf result Disk → MakesPrefix calls old new
   -- which of them fails
   pub told : AnswersAsTold result old new
 

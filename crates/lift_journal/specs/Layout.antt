@@ -137,8 +137,8 @@ pub record HoldsIn (shape : Shape) (is_in_second_half : Bool) (batches : List Ba
   pub picks : Picks is_in_second_half image
 
 -- after this gate
-abbrev pub IsBehind : ℕ → ℕ → Type 0
-IsBehind gate i = gate < i
+abbrev pub IsAfter : ℕ → ℕ → Type 0
+IsAfter gate i = gate < i
 
 -- After the closed gate at the end stands one batch more, and a closed gate after it.
 pub record IsPrepared (shape : Shape) (batches : List Batch) (batch : Batch) (gate : ℕ)

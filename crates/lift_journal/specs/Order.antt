@@ -42,17 +42,17 @@ MayFollow (Some (Last terminal last)) next = MayFollowLast terminal next
 MayFollow (Some (Done count)) next = IsEntry next
 
 -- the records may stand in this order after that one
-abbrev pub IsInOrderBehind : Option Record → List Record → Type 0
-IsInOrderBehind last [] = Unit {0}
-IsInOrderBehind last (next ∷ rest) = MayFollow last next × IsInOrderBehind (Some next) rest
+abbrev pub IsInOrderAfter : Option Record → List Record → Type 0
+IsInOrderAfter last [] = Unit {0}
+IsInOrderAfter last (next ∷ rest) = MayFollow last next × IsInOrderAfter (Some next) rest
 
 abbrev pub AreRecordsInOrder : List Record → Type 0
-AreRecordsInOrder records = IsInOrderBehind None records
+AreRecordsInOrder records = IsInOrderAfter None records
 
 -- the last of these records, or that one where there are none
-abbrev pub last_behind : Option Record → List Record → Option Record
-last_behind last [] = last
-last_behind last (next ∷ rest) = last_behind (Some next) rest
+abbrev pub last_command_after : Option Record → List Record → Option Record
+last_command_after last [] = last
+last_command_after last (next ∷ rest) = last_command_after (Some next) rest
 
 -- a chain may end after it: no checkpoint is begun
 abbrev pub MayEnd : Option Record → Type 0
@@ -64,4 +64,4 @@ MayEnd (Some (Done count)) = Unit {0}
 
 -- a checkpoint that has begun has ended with its count of done calls
 abbrev pub IsComplete : List Record → Type 0
-IsComplete records = MayEnd (last_behind None records)
+IsComplete records = MayEnd (last_command_after None records)

@@ -9,8 +9,8 @@ use Rattle.lift_journal.specs.declared.fault.JournalFault.{JournalFault}
 use Rattle.lift_journal.specs.declared.fault.JournalFault.TheVariants.{Disk, NotFormatted, Damaged}
 use Rattle.lift_journal.specs.declared.fault.JournalFault.TheVariants.{Full, Broken}
 use Rattle.lift_journal.specs.Layout.{Batch, size_of, used, start_of, IsStamped}
-use Rattle.lift_journal.specs.Walk.{IsSoundFront, IsBatchAt, Reaches}
-use Rattle.lift_journal.specs.Calls.{reads_from, MakesFront}
+use Rattle.lift_journal.specs.Walk.{MayBeginChain, IsBatchAt, Reaches}
+use Rattle.lift_journal.specs.Calls.{reads_from, MakesPrefix}
 
 -- Each of these batches has made of the visitor what its records may make of it, in this order.
 abbrev pub TakesAll : {V : Type 0} → (V → List Record → V → Type 0) → V → List Batch → V → Type 0
@@ -27,7 +27,7 @@ IsSized batch = (1 ≤ length batch.records) × (length batch.records ≤ 63)
 pub record HasTaken {V : Type 0} (takes : V → List Record → V → Type 0) (sectors : ℕ)
     (old new : V) : Type 0 where
   pub batches : List Batch
-  pub sound : IsSoundFront batches
+  pub sound : MayBeginChain batches
   pub sized : All IsSized batches
   pub few : used batches < sectors
   pub taken : TakesAll takes old batches new
@@ -69,7 +69,7 @@ TakesInHalf takes fault was is old new = was.is_honest → (shape : Shape) × Is
 abbrev pub ShownBefore : {V : Type 0} → (V → List Record → V → Type 0) → JournalFault → DiskState
     → DiskState → V → V → Type 0
 ShownBefore takes Disk was is old new =
-    MakesFront (Sync ∷ Read 1 ∷ Read 0 ∷ []) was is × (new ≡ old)
+    MakesPrefix (Sync ∷ Read 1 ∷ Read 0 ∷ []) was is × (new ≡ old)
     ⊎ TakesInHalf takes Disk was is old new
 ShownBefore takes NotFormatted was is old new = new ≡ old
 ShownBefore takes (Damaged sector) was is old new =

@@ -9,12 +9,12 @@ use Rattle.lift_journal.specs.Layout.{IsBody, IsChain, IsSound, NeverFall, used}
 
 -- the batches from the first sector on, each after an open gate; what stands after them is left
 -- open
-abbrev pub IsFront : List Batch → ℕ → Image → Type 0
-IsFront [] number sectors = Unit {0}
-IsFront (batch ∷ batches) number [] = ⊥
-IsFront (batch ∷ batches) number (gate ∷ rest) =
+abbrev pub AreFirstBatches : List Batch → ℕ → Image → Type 0
+AreFirstBatches [] number sectors = Unit {0}
+AreFirstBatches (batch ∷ batches) number [] = ⊥
+AreFirstBatches (batch ∷ batches) number (gate ∷ rest) =
     IsOpen gate × IsBody number batch (take (size_of batch) rest)
-    × IsFront batches (number + 1) (drop (size_of batch) rest)
+    × AreFirstBatches batches (number + 1) (drop (size_of batch) rest)
 
 -- after this gate stands this batch, with the place of the next gate below the end
 pub record IsBatchAt (image : Image) (gate end number : ℕ) (batch : Batch) : Type 0 where
@@ -22,19 +22,19 @@ pub record IsBatchAt (image : Image) (gate end number : ℕ) (batch : Batch) : T
   pub next : gate + 1 + size_of batch < end
 
 -- these batches may begin a chain
-pub record IsSoundFront (batches : List Batch) : Type 0 where
+pub record MayBeginChain (batches : List Batch) : Type 0 where
   pub versions : NeverFall One batches
   pub ordered : AreRecordsInOrder (records_of batches)
 
 -- the version of the last of these batches, or that one where there are none
-abbrev pub version_behind : Version → List Batch → Version
-version_behind version [] = version
-version_behind version (batch ∷ batches) = version_behind batch.version batches
+abbrev pub version_after : Version → List Batch → Version
+version_after version [] = version
+version_after version (batch ∷ batches) = version_after batch.version batches
 
 -- these batches stand from start to this gate
 pub record Reaches (image : Image) (start end gate : ℕ) (batches : List Batch) : Type 0 where
-  pub front : IsFront batches 1 (take (end - start) (drop start image))
-  pub sound : IsSoundFront batches
+  pub front : AreFirstBatches batches 1 (take (end - start) (drop start image))
+  pub sound : MayBeginChain batches
   pub at : gate ≡ start + used batches
 
 -- A gate below the end that batches reach is damaged: it is open, and no batch that may stand
@@ -45,7 +45,7 @@ pub record IsDamagedAt (image : Image) (start end gate : ℕ) : Type 0 where
   pub reached : Reaches image start end gate batches
   pub broken : (IsOpen (sector_at image gate)
       × ((batch : Batch) → IsBatchAt image gate end (1 + length batches) batch
-      → ¬ IsSoundFront (batches ++ batch ∷ [])))
+      → ¬ MayBeginChain (batches ++ batch ∷ [])))
       ⊎ (IsClosed (sector_at image gate) × ¬ IsComplete (records_of batches))
 
 -- the chain ends at this closed gate

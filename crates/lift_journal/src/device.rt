@@ -66,7 +66,7 @@ pub fn mark() -> [u8; 512]
 }
 
 /// Writes the body of a batch after a closed gate, and a closed gate after it.
-fn store_behind<D: Disk>(disk: &mut D, gate: u32, body: &[[u8; 512]]) -> Result<(), DiskFault>
+fn store_after<D: Disk>(disk: &mut D, gate: u32, body: &[[u8; 512]]) -> Result<(), DiskFault>
     requires there { gate + 1 + length body.now < (D.state disk.old).size }
     requires fits { gate + 1 + length body.now < 2 ^ 32 }
     ensures performs { Performs result (writes_from (gate + 1) body.now
@@ -126,6 +126,6 @@ pub fn write_batch<D: Disk>(disk: &mut D, gate: u32, body: &[[u8; 512]]) -> Resu
         → IsFailedAppend shape batches batch (length body.now) (D.state disk.old)
         (D.state disk.new)) }
 {
-    store_behind(disk, gate, body)?;
+    store_after(disk, gate, body)?;
     open_gate(disk, gate)
 }

@@ -1,7 +1,7 @@
 //! The order of the records in a chain.
 ghost use Rattle.std.specs.Prelude.{◌≡◌, ◌↔◌, IsTrue, Some};
 ghost use Rattle.lift_journal.specs.Order.{IsEntry, MayFollow, MayFollowRow, MayFollowLast};
-ghost use Rattle.lift_journal.specs.Order.{AreRecordsInOrder, IsInOrderBehind, last_behind, MayEnd};
+ghost use Rattle.lift_journal.specs.Order.{AreRecordsInOrder, IsInOrderAfter, last_command_after, MayEnd};
 
 use lift_base::{Letter, Record, Terminal};
 
@@ -39,7 +39,7 @@ fn may_follow_last(terminal: Terminal, next: &Record) -> bool
 
 /// Whether a record may stand right after that one.
 #[inline(never)]
-fn may_stand_behind(last: &Record, next: &Record) -> bool
+fn may_stand_after(last: &Record, next: &Record) -> bool
     ensures { IsTrue result ↔ MayFollow (Some last.now) next.now }
 {
     match *last {
@@ -53,7 +53,7 @@ fn may_stand_behind(last: &Record, next: &Record) -> bool
 fn may_come_next(last: &Record, next: &Record) -> bool
     ensures { IsTrue result ↔ MayFollow (Some last.now) next.now }
 {
-    is_entry(last) && is_entry(next) || may_stand_behind(last, next)
+    is_entry(last) && is_entry(next) || may_stand_after(last, next)
 }
 
 fn may_follow(last: &Option<Record>, next: &Record) -> bool
@@ -61,7 +61,7 @@ fn may_follow(last: &Option<Record>, next: &Record) -> bool
 {
     match last {
         None => true,
-        Some(last) => may_stand_behind(last, next),
+        Some(last) => may_stand_after(last, next),
     }
 }
 
@@ -80,8 +80,8 @@ fn is_in_order(records: &[Record]) -> bool
 
 /// Goes on after these records, if they may stand in this order after that one.
 pub fn pass_records(last: &mut Option<Record>, records: &[Record]) -> bool
-    ensures ordered { IsTrue result ↔ IsInOrderBehind last.old records.now }
-    ensures passed { IsTrue result → last.new ≡ last_behind last.old records.now }
+    ensures ordered { IsTrue result ↔ IsInOrderAfter last.old records.now }
+    ensures passed { IsTrue result → last.new ≡ last_command_after last.old records.now }
 {
     if records.is_empty() {
         return true;

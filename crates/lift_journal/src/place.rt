@@ -14,7 +14,7 @@ ghost use Rattle.lift_journal.specs.Found.{FindsPlace};
 ghost use Rattle.lift_journal.specs.Visits.{TakesAll, HasTaken, TakesBefore, ShownBefore};
 ghost use Rattle.lift_disk.specs.Trace.Access.{Read};
 ghost use Rattle.lift_journal.specs.Calls.{reads_from};
-ghost use Rattle.lift_journal.specs.Behind.{StampBehind, EndsInHalf, RefusedBehind};
+ghost use Rattle.lift_journal.specs.Behind.{StampAfter, EndsInHalf, RefusedAfter};
 
 use crate::fault::JournalFault;
 use crate::reads::{read_mark, read_sector, sync_device};
@@ -50,7 +50,7 @@ fn read_shape<D: Disk>(disk: &mut D) -> Result<Shape, JournalFault>
     ensures read { OnOk result ((D.state disk.new).trace ≡ (D.state disk.old).trace ++ Read 1
         ∷ []) }
     ensures behind { IfErr result (λ fault.
-        StampBehind fault (D.state disk.old) (D.state disk.new)) }
+        StampAfter fault (D.state disk.old) (D.state disk.new)) }
 {
     if disk.sectors() < 2 {
         return Err(JournalFault::NotFormatted);
@@ -128,7 +128,7 @@ pub fn find_place<D: Disk, V: Visitor>(disk: &mut D, visitor: &mut V) -> Result<
     ensures fixed { OnErr result (((D.state disk.new).trace ≡ (D.state disk.old).trace)
         ⊎ ((D.state disk.old).is_honest → FixesImage (D.state disk.old) (D.state disk.new))) }
     ensures behind { IfErr result (λ fault.
-        RefusedBehind fault (D.state disk.old) (D.state disk.new)) }
+        RefusedAfter fault (D.state disk.old) (D.state disk.new)) }
     ensures shown { IfOk result (λ place. (D.state disk.old).is_honest → (batches : List Batch)
         → Holds place.shape batches (D.state disk.new).image
         → TakesAll V.takes visitor.old batches visitor.new) }

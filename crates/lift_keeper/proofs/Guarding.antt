@@ -169,9 +169,9 @@ entries_more : (entries : List Record) (batch : List Entry) → entries_of (entr
 entries_more entries batch = entries_then entries (map EntryRecord batch) ∙ ap (λ (l : List Entry). entries_of entries ++ l) (entries_same batch)
 
 -- a batch after the entries
-pub batch_behind : (plan : Plan) (base entries : List Record) (register : RegisterState) (batch : List Entry) (records : List Record) → IsRegisterOf plan base entries register
+pub batch_after : (plan : Plan) (base entries : List Record) (register : RegisterState) (batch : List Entry) (records : List Record) → IsRegisterOf plan base entries register
     → FitFrom plan register batch → records ≡ map EntryRecord batch → IsRegisterOf plan base (entries ++ records) (register_of register batch)
-batch_behind plan base entries register batch records is fit kept =
+batch_after plan base entries register batch records is fit kept =
     let start = with_records empty base in
     let same : entries_of (entries ++ records) ≡ entries_of entries ++ batch = ap (λ (l : List Record). entries_of (entries ++ l)) kept ∙ entries_more entries batch in
     record {
@@ -288,7 +288,7 @@ module _ (plan : Plan) (shape : Shape) (is_in_second_half : Bool) (taken : ℕ) 
     append_leaves new same leaves =
         leaves_if_honest old new (IsInDoubt plan register batch) same (λ honest.
         let keeps = guards.keeps honest in
-        let more = batch_behind plan keeps.base keeps.entries register batch records keeps.is fit kept in
+        let more = batch_after plan keeps.base keeps.entries register batch records keeps.is fit kept in
         leaves_weaker old new (λ left. ReadsAs shape keeps.base keeps.entries left ⊎ ReadsAs shape keeps.base (keeps.entries ++ records) left) (IsInDoubt plan register batch)
         (λ _ left reads. ⊎_elim (λ was. inl (image_from plan shape register keeps.base keeps.entries left keeps.of_building keeps.is was))
         (λ now. inr (image_from plan shape (register_of register batch) keeps.base (keeps.entries ++ records) left keeps.of_building more now)) reads)
@@ -309,7 +309,7 @@ module _ (plan : Plan) (shape : Shape) (is_in_second_half : Bool) (taken : ℕ) 
           holds = holds keeps.batches keeps.holds;
           stands = stands keeps.base keeps.entries keeps.stands;
           joined = records_push keeps.batches (new_batch records) ∙ ap (λ (l : List Record). l ++ records) keeps.joined ∙ append_assoc keeps.base keeps.entries records;
-          is = batch_behind plan keeps.base keeps.entries register batch records keeps.is fit kept;
+          is = batch_after plan keeps.base keeps.entries register batch records keeps.is fit kept;
           picks = subst (λ (b : Bool). LeavesNow new (Picks b)) (sym half) picks;
           counts = omega (arith, counts, keeps.counts, used_push keeps.batches (new_batch records));
         }
@@ -333,7 +333,7 @@ module _ (plan : Plan) (shape : Shape) (is_in_second_half : Bool) (taken : ℕ) 
           let reads = keeps_reads plan shape is_in_second_half taken register old keeps honest in
           image_in plan shape is_in_second_half (taken + (body_size (length batch) + 1)) (register_of register batch) (keeps.batches ++ new_batch records ∷ []) keeps.base (keeps.entries ++ records) left keeps.of_building holds
           (records_push keeps.batches (new_batch records) ∙ ap (λ (l : List Record). l ++ records) keeps.joined ∙ append_assoc keeps.base keeps.entries records)
-          reads.is_base (All-append IsEntry keeps.entries records reads.are_entries are) (batch_behind plan keeps.base keeps.entries register batch records keeps.is fit kept) (pick_at left leaves)
+          reads.is_base (All-append IsEntry keeps.entries records reads.are_entries are) (batch_after plan keeps.base keeps.entries register batch records keeps.is fit kept) (pick_at left leaves)
           (omega (arith, keeps.counts, used_push keeps.batches (new_batch records), ap body_size long))
 
       -- this many calls were made before

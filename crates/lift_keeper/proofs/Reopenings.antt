@@ -14,7 +14,7 @@ use Rattle.lift_register.specs.Base.{with_records}
 use Rattle.lift_register.specs.Belongs.{BelongsTo}
 use Rattle.lift_journal.specs.declared.fault.JournalFault.{JournalFault}
 use Rattle.lift_journal.specs.declared.fault.JournalFault.TheVariants.{Disk}
-use Rattle.lift_journal.specs.Behind.{RefusedBehind}
+use Rattle.lift_journal.specs.Behind.{RefusedAfter}
 use Rattle.lift_journal.specs.Calls.{opening_of}
 use Rattle.lift_journal.specs.Journal.{ReadsAs}
 use Rattle.lift_journal.specs.Layout.{Batch, records_of, Holds, Picks}
@@ -114,7 +114,7 @@ module _ (plan : Plan) (old new : DiskState) (shape : Shape) (taken : ℕ) (open
     }
 
 -- those of one that was refused
-pub journal_calls : (old new : DiskState) (fault : JournalFault) → Refuses old new fault → RefusedBehind fault old new → RefusedCalls old new (Journal fault)
+pub journal_calls : (old new : DiskState) (fault : JournalFault) → Refuses old new fault → RefusedAfter fault old new → RefusedCalls old new (Journal fault)
 journal_calls old new fault refuses made = record {
   runs = refuses.runs;
   made = made;

@@ -6,7 +6,7 @@ use Rattle.lift_building.specs.Plan.{Plan}
 use Rattle.lift_disk.specs.Disk.{DiskState, KeepsImage, RunsOn}
 use Rattle.lift_register.specs.Register.{RegisterState}
 use Rattle.lift_journal.specs.declared.fault.JournalFault.TheVariants.{Disk}
-use Rattle.lift_journal.specs.Behind.{RefusedBehind}
+use Rattle.lift_journal.specs.Behind.{RefusedAfter}
 use Rattle.lift_journal.specs.Calls.{opening_of}
 use Rattle.lift_journal.specs.Layout.{Batch, Holds, Picks, used}
 use Rattle.lift_journal.specs.Steps.{Makes, SavesAsRead}
@@ -34,7 +34,7 @@ pub record ReadsAll (old new : DiskState) : Type 0 where
 -- Which calls a refused opening has made: those of the journal's opening, up to the sector that
 -- refused it; where the journal itself is good, all of them.
 abbrev pub ReadsUntilRefused : KeeperFault → DiskState → DiskState → Type 0
-ReadsUntilRefused (Journal fault) old new = RefusedBehind fault old new
+ReadsUntilRefused (Journal fault) old new = RefusedAfter fault old new
 ReadsUntilRefused OtherBuilding old new = ReadsAll old new
 ReadsUntilRefused (BadEntry place) old new = ReadsAll old new
 

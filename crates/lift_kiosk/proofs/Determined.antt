@@ -58,11 +58,11 @@ module _ (wants : List ℕ → Wanted → Type 0) (unique : (line : List ℕ) (o
       let rest : later ≡ more = cc is in
       (ap (λ (x : Ask). Refused x) (one_ask line ask other a b), rest)
 
-  nothing_behind : (o : Outcome) → given o ++ [] ≡ given o
-  nothing_behind o = append-nil (given o)
+  nothing_after : (o : Outcome) → given o ++ [] ≡ given o
+  nothing_after o = append-nil (given o)
 
   pub outcome_is : (line : List ℕ) (one other : Outcome) → Means wants line one → Means wants line other → given one ≡ given other → one ≡ other
-  outcome_is line one other a b is = (same_outcome line one other [] [] a b (nothing_behind one ∙ is ∙ sym (nothing_behind other))).0
+  outcome_is line one other a b is = (same_outcome line one other [] [] a b (nothing_after one ∙ is ∙ sym (nothing_after other))).0
 
   module _ (keeps : LastLetter → ℕ → Reply → LastLetter) (limits : Limits) where
     pub same_exchanges : (ones others : List (List ℕ × Outcome)) (a after b behind : Standing) → AnswersLines wants keeps limits ones a after → AnswersLines wants keeps limits others b behind

@@ -15,7 +15,7 @@ use Rattle.lift_kiosk.specs.declared.terms.Limits.{Limits}
 use Rattle.lift_kiosk.specs.declared.terms.End.{End}
 use Rattle.lift_kiosk.specs.declared.terms.End.TheVariants.{Limit}
 use Rattle.lift_kiosk.specs.Session.{Standing, IsOf, Means, GoesOn, EndsWith, AnswersLines, AnswersLine, LastStep, SessionOpens, Converses, opening_line}
-use Rattle.lift_kiosk.specs.lemmas.Ends.{behind_greeting}
+use Rattle.lift_kiosk.specs.lemmas.Ends.{after_greeting}
 
 pub means_its_ask : (wants : List ℕ → Wanted → Type 0) (line : List ℕ) (ask : Ask) (outcome : Outcome) → IsOf ask outcome → wants line (Asks ask) → Means wants line outcome
 means_its_ask wants line ask Malformed own asks = absurd own
@@ -71,7 +71,7 @@ module _ (wants : List ℕ → Wanted → Type 0) (keeps : LastLetter → ℕ �
   -- it has answered all that it may
   pub ends_full : count ≡ limits.lines → mid.source.calls ≤ before.source.calls + limits.reads → Converses wants keeps limits Limit before mid
   ends_full all within =
-      behind_greeting wants keeps limits Limit so_far.opening before so_far.greeted mid so_far.opens so_far.greets so_far.ready
+      after_greeting wants keeps limits Limit so_far.opening before so_far.greeted mid so_far.opens so_far.greets so_far.ready
       (record {
         exchanges = so_far.exchanges;
         answered = mid;
@@ -83,7 +83,7 @@ module _ (wants : List ℕ → Wanted → Type 0) (keeps : LastLetter → ℕ �
   pub ends_early : (end : End) (after : Standing) → count < limits.lines → LastStep wants keeps limits (before.source.calls + limits.reads) end mid after
       → after.source.calls ≤ before.source.calls + limits.reads → Converses wants keeps limits end before after
   ends_early end after fewer step within =
-      behind_greeting wants keeps limits end so_far.opening before so_far.greeted after so_far.opens so_far.greets so_far.ready
+      after_greeting wants keeps limits end so_far.opening before so_far.greeted after so_far.opens so_far.greets so_far.ready
       (record {
         exchanges = so_far.exchanges;
         answered = mid;

@@ -15,9 +15,9 @@ use Rattle.lift_kiosk.specs.declared.terms.End.TheVariants.{Closed, Limit, Late,
 use Rattle.lift_kiosk.specs.declared.terms.LastLetter.{LastLetter}
 use Rattle.lift_kiosk.specs.declared.terms.Limits.{Limits}
 use Rattle.lift_kiosk.specs.Lines.{HasNoFeed}
-use Rattle.lift_kiosk.specs.Session.{Standing, Means, AnswersLines, GoesOn, LastStep, EndsAtOnce, EndsBehind, IsSession, last_after, last_opened, answer_line, opening_line}
+use Rattle.lift_kiosk.specs.Session.{Standing, Means, AnswersLines, GoesOn, LastStep, EndsAtOnce, EndsAfter, IsSession, last_after, last_opened, answer_line, opening_line}
 use Rattle.lift_kiosk.specs.Determined.{given, lines_of, all_given, answers_text, last_after_lines}
-use Rattle.lift_kiosk.specs.Whole.{Came, SessionLinesEnd, brought_by, cut_to, came_first, came_last, last_text, came_behind, text_behind, came_to, text_of}
+use Rattle.lift_kiosk.specs.Whole.{Came, SessionLinesEnd, brought_by, cut_to, came_first, came_last, last_text, came_after, text_after, came_to, text_of}
 use Rattle.lift_kiosk.specs.Streams.{LastRead, GaveByte, GaveEnd, GaveFault, Streams, lines_read, bytes_that_came_last, last_read, last_given, last_cut, streams_of}
 use Rattle.lift_kiosk.proofs.Determined.{same_outcome, last_is}
 use Rattle.lift_kiosk.proofs.Whole.{first_came, same_opening, first_seen, same_first}
@@ -232,9 +232,9 @@ module _ (wants : List ℕ → Wanted → Type 0) (unique : (line : List ℕ) (o
 
   abbrev FollowsLines : (calls : ℕ) (end : End) (xs : List Exchanged) (before answered after : Standing) → SessionLinesEnd wants keeps limits calls end (length xs) answered after → Type 0
   FollowsLines calls end xs before answered after ends =
-      let came = came_behind wants keeps limits calls end (length xs) answered after ends in
+      let came = came_after wants keeps limits calls end (length xs) answered after ends in
       Follows end before.last (lines_read (lines_of xs) (bytes_that_came_last came)) (last_read came) (all_given xs ++ last_given came) (last_cut came)
-      (answers_text xs ++ text_behind wants keeps limits calls end (length xs) answered after ends) after.last
+      (answers_text xs ++ text_after wants keeps limits calls end (length xs) answered after ends) after.last
 
   lines_follow : (calls : ℕ) (end : End) (xs : List Exchanged) (before answered after : Standing) → AnswersLines wants keeps limits xs before answered
       → (ends : SessionLinesEnd wants keeps limits calls end (length xs) answered after) → FollowsLines calls end xs before answered after ends
@@ -267,10 +267,10 @@ module _ (wants : List ℕ → Wanted → Type 0) (unique : (line : List ℕ) (o
   not_first Spent before after first streams opening ready line brought same = absurd first
   not_first ReadFault before after first streams opening ready line brought same = absurd first
 
-  abbrev FollowsAll : (end : End) (before after : Standing) → EndsBehind wants keeps limits end before after → Type 0
+  abbrev FollowsAll : (end : End) (before after : Standing) → EndsAfter wants keeps limits end before after → Type 0
   FollowsAll end before after behind = FollowsLines (before.source.calls + limits.reads) end behind.lines.exchanges behind.greeted behind.lines.answered after behind.lines.ends
 
-  all_follow : (end : End) (before after : Standing) (behind : EndsBehind wants keeps limits end before after) → FollowsAll end before after behind
+  all_follow : (end : End) (before after : Standing) (behind : EndsAfter wants keeps limits end before after) → FollowsAll end before after behind
   all_follow end before after behind =
       lines_follow (before.source.calls + limits.reads) end behind.lines.exchanges behind.greeted behind.lines.answered after behind.lines.runs behind.lines.ends
 
@@ -302,8 +302,8 @@ module _ (wants : List ℕ → Wanted → Type 0) (unique : (line : List ℕ) (o
       let greeting : opening_line a.greeted.last a.opening ≡ opening_line b.greeted.last b.opening =
       ap (λ (l : LastLetter). opening_line l a.opening) known ∙ ap (λ (o : Opening). opening_line b.greeted.last o) opening in
       let calls = one.source.calls + limits.reads in
-      let ended = text_behind wants keeps limits calls one_end (length a.lines.exchanges) a.lines.answered one_after a.lines.ends in
-      let other_ended = text_behind wants keeps limits (other.source.calls + limits.reads) other_end (length b.lines.exchanges) b.lines.answered other_after b.lines.ends in
+      let ended = text_after wants keeps limits calls one_end (length a.lines.exchanges) a.lines.answered one_after a.lines.ends in
+      let other_ended = text_after wants keeps limits (other.source.calls + limits.reads) other_end (length b.lines.exchanges) b.lines.answered other_after b.lines.ends in
       let all = same_follows one_end other_end _ _ _ _ _ _ _ _ _ _ _ _ one_after.last other_after.last (all_follow one_end one one_after a) (all_follow other_end other other_after b) known
       (ap (λ (s : Streams). s.bytes) same) (ap (λ (s : Streams). s.read) same) (ap (λ (s : Streams). s.given) same) (ap (λ (s : Streams). s.cut) same) in (
         all.0,

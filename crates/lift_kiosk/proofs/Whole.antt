@@ -16,10 +16,10 @@ use Rattle.lift_kiosk.specs.declared.terms.End.TheVariants.{Closed, Limit, Late,
 use Rattle.lift_kiosk.specs.declared.terms.LastLetter.{LastLetter}
 use Rattle.lift_kiosk.specs.declared.terms.Limits.{Limits}
 use Rattle.lift_kiosk.specs.Port.{PortView}
-use Rattle.lift_kiosk.specs.Session.{Standing, Means, PortOpened, LastStep, EndsAtOnce, EndsBehind, IsSession, last_after, last_opened, answer_line, opening_line}
+use Rattle.lift_kiosk.specs.Session.{Standing, Means, PortOpened, LastStep, EndsAtOnce, EndsAfter, IsSession, last_after, last_opened, answer_line, opening_line}
 use Rattle.lift_kiosk.specs.Determined.{given, answers_text}
 use Rattle.lift_kiosk.specs.Whole.{LastCame, NoAnswer, FirstLineCut, NothingMore, ReaderEnded, ReaderFailed, CallsUsed, LastLine}
-use Rattle.lift_kiosk.specs.Whole.{Came, SessionLinesEnd, brought_by, cut_to, came_first, first_text, came_last, last_text, came_behind, text_behind, came_to, text_of}
+use Rattle.lift_kiosk.specs.Whole.{Came, SessionLinesEnd, brought_by, cut_to, came_first, first_text, came_last, last_text, came_after, text_after, came_to, text_of}
 use Rattle.lift_kiosk.proofs.Determined.{outcome_is, exchanges_are, written_is, appends_then, appends_none}
 
 abbrev end_for : List (Option (Option Reply)) → Option ℕ → End
@@ -134,11 +134,11 @@ module _ (wants : List ℕ → Wanted → Type 0) (unique : (line : List ℕ) (o
   step_seen calls WriteFault before after step =
       inr (record { line = step.0; outcome = step.1; cut = Some step.3; came_so = refl; means = step.2.means; last = step.2.last; wrote = refl })
 
-  behind_seen : (calls : ℕ) (end : End) (count : ℕ) (answered after : Standing) (ends : SessionLinesEnd wants keeps limits calls end count answered after)
-      → Silent (came_behind wants keeps limits calls end count answered after ends) (text_behind wants keeps limits calls end count answered after ends) answered after
-      ⊎ Spoken wants keeps (came_behind wants keeps limits calls end count answered after ends) (text_behind wants keeps limits calls end count answered after ends) answered after
-  behind_seen calls end count answered after (inl all) = inl (record { last = ap (λ (s : Standing). s.last) all.2; nothing = refl; lineless = refl })
-  behind_seen calls end count answered after (inr step) = step_seen calls end answered after step.1
+  after_seen : (calls : ℕ) (end : End) (count : ℕ) (answered after : Standing) (ends : SessionLinesEnd wants keeps limits calls end count answered after)
+      → Silent (came_after wants keeps limits calls end count answered after ends) (text_after wants keeps limits calls end count answered after ends) answered after
+      ⊎ Spoken wants keeps (came_after wants keeps limits calls end count answered after ends) (text_after wants keeps limits calls end count answered after ends) answered after
+  after_seen calls end count answered after (inl all) = inl (record { last = ap (λ (s : Standing). s.last) all.2; nothing = refl; lineless = refl })
+  after_seen calls end count answered after (inr step) = step_seen calls end answered after step.1
 
   step_ends : (calls : ℕ) (end : End) (before after : Standing) (step : LastStep wants keeps limits calls end before after)
       → (end_by (came_last wants keeps limits calls end before after step) ≡ end) × (is_first (came_last wants keeps limits calls end before after step) ≡ false)
@@ -149,10 +149,10 @@ module _ (wants : List ℕ → Wanted → Type 0) (unique : (line : List ℕ) (o
   step_ends calls Spent before after step = (refl, refl)
   step_ends calls WriteFault before after step = (refl, refl)
 
-  behind_ends : (calls : ℕ) (end : End) (count : ℕ) (answered after : Standing) (ends : SessionLinesEnd wants keeps limits calls end count answered after)
-      → (end_by (came_behind wants keeps limits calls end count answered after ends) ≡ end) × (is_first (came_behind wants keeps limits calls end count answered after ends) ≡ false)
-  behind_ends calls end count answered after (inl all) = (sym all.1, refl)
-  behind_ends calls end count answered after (inr step) = step_ends calls end answered after step.1
+  after_ends : (calls : ℕ) (end : End) (count : ℕ) (answered after : Standing) (ends : SessionLinesEnd wants keeps limits calls end count answered after)
+      → (end_by (came_after wants keeps limits calls end count answered after ends) ≡ end) × (is_first (came_after wants keeps limits calls end count answered after ends) ≡ false)
+  after_ends calls end count answered after (inl all) = (sym all.1, refl)
+  after_ends calls end count answered after (inr step) = step_ends calls end answered after step.1
 
   same_spoken : (came more : LastCame) (text words : List ℕ) (one one_after other other_after : Standing)
       → Spoken wants keeps came text one one_after → Spoken wants keeps more words other other_after → one.last ≡ other.last → came ≡ more
@@ -168,15 +168,15 @@ module _ (wants : List ℕ → Wanted → Type 0) (unique : (line : List ℕ) (o
         a.wrote ∙ ap (λ (c : Option ℕ). cut_to c (answer_line a.outcome)) cut ∙ ap (λ (o : Outcome). cut_to b.cut (answer_line o)) outcome ∙ sym b.wrote,
       )
 
-  same_behind : (came more : LastCame) (text words : List ℕ) (one one_after other other_after : Standing)
+  same_after : (came more : LastCame) (text words : List ℕ) (one one_after other other_after : Standing)
       → Silent came text one one_after ⊎ Spoken wants keeps came text one one_after → Silent more words other other_after ⊎ Spoken wants keeps more words other other_after
       → one.last ≡ other.last → came ≡ more → (one_after.last ≡ other_after.last) × (text ≡ words)
-  same_behind came more text words one one_after other other_after (inl a) (inl b) last same = (a.last ∙ last ∙ sym b.last, a.nothing ∙ sym b.nothing)
-  same_behind came more text words one one_after other other_after (inl a) (inr b) last same =
+  same_after came more text words one one_after other other_after (inl a) (inl b) last same = (a.last ∙ last ∙ sym b.last, a.nothing ∙ sym b.nothing)
+  same_after came more text words one one_after other other_after (inl a) (inr b) last same =
       absurd (false≢true (sym a.lineless ∙ ap is_line (same ∙ b.came_so)))
-  same_behind came more text words one one_after other other_after (inr a) (inl b) last same =
+  same_after came more text words one one_after other other_after (inr a) (inl b) last same =
       absurd (false≢true (sym b.lineless ∙ ap is_line (sym same ∙ a.came_so)))
-  same_behind came more text words one one_after other other_after (inr a) (inr b) last same = same_spoken came more text words one one_after other other_after a b last same
+  same_after came more text words one one_after other other_after (inr a) (inr b) last same = same_spoken came more text words one one_after other other_after a b last same
 
   pub first_seen : (end : End) (before after : Standing) (first : EndsAtOnce keeps limits end before after)
       → AtOnce keeps limits.looks end (came_first keeps limits end before after first) (first_text keeps limits end before after first) before after
@@ -209,7 +209,7 @@ module _ (wants : List ℕ → Wanted → Type 0) (unique : (line : List ℕ) (o
   not_both one_end other_end came more text one one_after a same later =
       false≢true (sym later ∙ ap is_first (sym same ∙ ap (λ (c : Came). c.last) a.came_so) ∙ first_is_first a.cut)
 
-  same_lines : (one_end other_end : End) (one one_after other other_after : Standing) (a : EndsBehind wants keeps limits one_end one one_after) (b : EndsBehind wants keeps limits other_end other other_after)
+  same_lines : (one_end other_end : End) (one one_after other other_after : Standing) (a : EndsAfter wants keeps limits one_end one one_after) (b : EndsAfter wants keeps limits other_end other other_after)
       → one.last ≡ other.last → one.port.pending ≡ other.port.pending
       → came_to wants keeps limits one_end one one_after (inr a) ≡ came_to wants keeps limits other_end other other_after (inr b)
       → (one_end ≡ other_end) × (one_after.last ≡ other_after.last)
@@ -222,18 +222,18 @@ module _ (wants : List ℕ → Wanted → Type 0) (unique : (line : List ℕ) (o
       let lines = exchanges_are wants unique keeps limits a.lines.exchanges b.lines.exchanges a.greeted a.lines.answered b.greeted b.lines.answered a.lines.runs b.lines.runs known
       (ap (λ (c : Came). c.lines) same) (ap (λ (c : Came). c.given) same) in
       let closes = ap (λ (c : Came). c.last) same in
-      let behind = same_behind _ _ _ _ a.lines.answered one_after b.lines.answered other_after
-      (behind_seen calls one_end (length a.lines.exchanges) a.lines.answered one_after a.lines.ends)
-      (behind_seen more other_end (length b.lines.exchanges) b.lines.answered other_after b.lines.ends) lines.1 closes in
-      let one_ends = behind_ends calls one_end (length a.lines.exchanges) a.lines.answered one_after a.lines.ends in
-      let other_ends = behind_ends more other_end (length b.lines.exchanges) b.lines.answered other_after b.lines.ends in
+      let behind = same_after _ _ _ _ a.lines.answered one_after b.lines.answered other_after
+      (after_seen calls one_end (length a.lines.exchanges) a.lines.answered one_after a.lines.ends)
+      (after_seen more other_end (length b.lines.exchanges) b.lines.answered other_after b.lines.ends) lines.1 closes in
+      let one_ends = after_ends calls one_end (length a.lines.exchanges) a.lines.answered one_after a.lines.ends in
+      let other_ends = after_ends more other_end (length b.lines.exchanges) b.lines.answered other_after b.lines.ends in
       let greeting : opening_line a.greeted.last a.opening ≡ opening_line b.greeted.last b.opening =
       ap (λ (l : LastLetter). opening_line l a.opening) known ∙ ap (λ (o : Opening). opening_line b.greeted.last o) opening in
       let answers : answers_text a.lines.exchanges ≡ answers_text b.lines.exchanges = ap answers_text lines.0 in (
         sym one_ends.0 ∙ ap end_by closes ∙ other_ends.0,
         behind.0,
-        ap (λ (t : List ℕ). t ++ answers_text a.lines.exchanges ++ text_behind wants keeps limits calls one_end (length a.lines.exchanges) a.lines.answered one_after a.lines.ends) greeting
-            ∙ ap (λ (t : List ℕ). opening_line b.greeted.last b.opening ++ t ++ text_behind wants keeps limits calls one_end (length a.lines.exchanges) a.lines.answered one_after a.lines.ends) answers
+        ap (λ (t : List ℕ). t ++ answers_text a.lines.exchanges ++ text_after wants keeps limits calls one_end (length a.lines.exchanges) a.lines.answered one_after a.lines.ends) greeting
+            ∙ ap (λ (t : List ℕ). opening_line b.greeted.last b.opening ++ t ++ text_after wants keeps limits calls one_end (length a.lines.exchanges) a.lines.answered one_after a.lines.ends) answers
             ∙ ap (λ (t : List ℕ). opening_line b.greeted.last b.opening ++ answers_text b.lines.exchanges ++ t) behind.1,
       )
 
@@ -247,10 +247,10 @@ module _ (wants : List ℕ → Wanted → Type 0) (unique : (line : List ℕ) (o
       same_first one_end other_end _ _ _ _ one one_after other other_after (first_seen one_end one one_after a) (first_seen other_end other other_after b) last waits same
   same_session one_end other_end one one_after other other_after (inl a) (inr b) last waits same =
       absurd (not_both one_end other_end _ _ _ one one_after (first_seen one_end one one_after a) (ap (λ (c : Came). c.last) same)
-      (behind_ends (other.source.calls + limits.reads) other_end (length b.lines.exchanges) b.lines.answered other_after b.lines.ends).1)
+      (after_ends (other.source.calls + limits.reads) other_end (length b.lines.exchanges) b.lines.answered other_after b.lines.ends).1)
   same_session one_end other_end one one_after other other_after (inr a) (inl b) last waits same =
       absurd (not_both other_end one_end _ _ _ other other_after (first_seen other_end other other_after b) (ap (λ (c : Came). c.last) (sym same))
-      (behind_ends (one.source.calls + limits.reads) one_end (length a.lines.exchanges) a.lines.answered one_after a.lines.ends).1)
+      (after_ends (one.source.calls + limits.reads) one_end (length a.lines.exchanges) a.lines.answered one_after a.lines.ends).1)
   same_session one_end other_end one one_after other other_after (inr a) (inr b) last waits same = same_lines one_end other_end one one_after other other_after a b last waits same
 
   abbrev Wrote : Standing → Standing → List ℕ → Type 0
@@ -269,10 +269,10 @@ module _ (wants : List ℕ → Wanted → Type 0) (unique : (line : List ℕ) (o
   step_written calls Spent before after step = step.2.wrote.written
   step_written calls WriteFault before after step = step.4.written
 
-  behind_written : (calls : ℕ) (end : End) (count : ℕ) (answered after : Standing) (ends : SessionLinesEnd wants keeps limits calls end count answered after)
-      → Wrote answered after (text_behind wants keeps limits calls end count answered after ends)
-  behind_written calls end count answered after (inl all) = nothing_written answered after (ap (λ (s : Standing). s.sink) all.2)
-  behind_written calls end count answered after (inr step) = step_written calls end answered after step.1
+  after_written : (calls : ℕ) (end : End) (count : ℕ) (answered after : Standing) (ends : SessionLinesEnd wants keeps limits calls end count answered after)
+      → Wrote answered after (text_after wants keeps limits calls end count answered after ends)
+  after_written calls end count answered after (inl all) = nothing_written answered after (ap (λ (s : Standing). s.sink) all.2)
+  after_written calls end count answered after (inr step) = step_written calls end answered after step.1
 
   first_written : (end : End) (before after : Standing) (first : EndsAtOnce keeps limits end before after) → Wrote before after (first_text keeps limits end before after first)
   first_written Late before after first = first.1.written
@@ -290,4 +290,4 @@ module _ (wants : List ℕ → Wanted → Type 0) (unique : (line : List ℕ) (o
       appends_then wants unique keeps limits before.sink.written lines.answered.sink.written after.sink.written _ _
       (appends_then wants unique keeps limits before.sink.written behind.greeted.sink.written lines.answered.sink.written _ _
       behind.greets.written (written_is wants unique keeps limits lines.exchanges behind.greeted lines.answered lines.runs))
-      (behind_written (before.source.calls + limits.reads) end (length lines.exchanges) lines.answered after lines.ends)
+      (after_written (before.source.calls + limits.reads) end (length lines.exchanges) lines.answered after lines.ends)

@@ -6,7 +6,7 @@ use Rattle.std.specs.Prelude.{Option, Some, None, nat_lt, if◌then◌else◌}
 use Rattle.std.specs.Fmt.{decimal}
 use Rattle.std.specs.Str.Lines.{strip_carriage_return}
 use Rattle.lift_base.specs.Text.{letter_text, reply_text}
-use Rattle.lift_base.specs.Output.{Sink, Takes, TakesFront}
+use Rattle.lift_base.specs.Output.{Sink, Takes, TakesPrefix}
 use Rattle.lift_base.specs.declared.command.Reply.{Reply}
 use Rattle.lift_desk.specs.declared.words.Ask.{Ask}
 use Rattle.lift_kiosk.specs.declared.terms.LastLetter.{LastLetter}
@@ -179,7 +179,7 @@ EndsAtOnce keeps limits Late before after = SessionOpens keeps limits StillWaits
     × Takes (opening_line after.last StillWaits) before.sink after.sink
 EndsAtOnce keeps limits WriteFault before after =
     (opening : Opening) × SessionOpens keeps limits opening before after × (count : ℕ)
-    × TakesFront count (opening_line after.last opening) before.sink after.sink
+    × TakesPrefix count (opening_line after.last opening) before.sink after.sink
 EndsAtOnce keeps limits Closed before after = ⊥
 EndsAtOnce keeps limits Limit before after = ⊥
 EndsAtOnce keeps limits Spent before after = ⊥
@@ -213,7 +213,7 @@ LastStep wants keeps limits calls Spent before after =
 LastStep wants keeps limits calls WriteFault before after =
     (line : List ℕ) × (outcome : Outcome) × Exchanges wants keeps limits line outcome before after
     × (count : ℕ)
-    × TakesFront count (answer_line outcome) before.sink after.sink
+    × TakesPrefix count (answer_line outcome) before.sink after.sink
 
 -- It answered these lines, and ended since these were all that it may answer, or by its last step.
 pub record EndsLines (wants : List ℕ → Wanted → Type 0) (keeps : LastLetter → ℕ → Reply
@@ -225,7 +225,7 @@ pub record EndsLines (wants : List ℕ → Wanted → Type 0) (keeps : LastLette
       ⊎ ((length exchanges < limits.lines) × LastStep wants keeps limits calls end answered after)
 
 -- A session that greeted, and then answered lines.
-pub record EndsBehind (wants : List ℕ → Wanted → Type 0) (keeps : LastLetter → ℕ → Reply
+pub record EndsAfter (wants : List ℕ → Wanted → Type 0) (keeps : LastLetter → ℕ → Reply
     → LastLetter) (limits : Limits) (end : End) (before after : Standing) : Type 0 where
   pub opening : Opening
   pub greeted : Standing
@@ -239,7 +239,7 @@ abbrev pub IsSession : (wants : List ℕ → Wanted → Type 0)
     → (keeps : LastLetter → ℕ → Reply → LastLetter) → Limits → End → (before after : Standing)
     → Type 0
 IsSession wants keeps limits end before after = EndsAtOnce keeps limits end before after
-    ⊎ EndsBehind wants keeps limits end before after
+    ⊎ EndsAfter wants keeps limits end before after
 
 -- A session, and what its end says. It called the reader as often as the limits say at most. One
 -- that ends late awaits an answer and has made all looks for it; one that ends spent has no turn

@@ -109,18 +109,18 @@ SessionLinesEnd wants keeps limits calls end count answered after =
     ((count ≡ limits.lines) × (end ≡ Limit) × (after ≡ answered))
     ⊎ ((count < limits.lines) × LastStep wants keeps limits calls end answered after)
 
-abbrev pub came_behind : (wants : List ℕ → Wanted → Type 0) (keeps : LastLetter → ℕ → Reply
+abbrev pub came_after : (wants : List ℕ → Wanted → Type 0) (keeps : LastLetter → ℕ → Reply
     → LastLetter) (limits : Limits) (calls : ℕ) (end : End) (count : ℕ) (answered after : Standing)
     → SessionLinesEnd wants keeps limits calls end count answered after → LastCame
-came_behind wants keeps limits calls end count answered after (inl all) = NothingMore
-came_behind wants keeps limits calls end count answered after (inr step) =
+came_after wants keeps limits calls end count answered after (inl all) = NothingMore
+came_after wants keeps limits calls end count answered after (inr step) =
     came_last wants keeps limits calls end answered after step.1
 
-abbrev pub text_behind : (wants : List ℕ → Wanted → Type 0) (keeps : LastLetter → ℕ → Reply
+abbrev pub text_after : (wants : List ℕ → Wanted → Type 0) (keeps : LastLetter → ℕ → Reply
     → LastLetter) (limits : Limits) (calls : ℕ) (end : End) (count : ℕ) (answered after : Standing)
     → SessionLinesEnd wants keeps limits calls end count answered after → List ℕ
-text_behind wants keeps limits calls end count answered after (inl all) = []
-text_behind wants keeps limits calls end count answered after (inr step) =
+text_after wants keeps limits calls end count answered after (inl all) = []
+text_after wants keeps limits calls end count answered after (inr step) =
     last_text wants keeps limits calls end answered after step.1
 
 -- what came to a session
@@ -133,7 +133,7 @@ came_to wants keeps limits end before after (inr behind) = record {
   brought = brought_by behind.opening;
   lines = lines_of behind.lines.exchanges;
   given = all_given behind.lines.exchanges;
-  last = came_behind wants keeps limits (before.source.calls + limits.reads) end
+  last = came_after wants keeps limits (before.source.calls + limits.reads) end
       (length behind.lines.exchanges) behind.lines.answered after behind.lines.ends;
 }
 
@@ -145,7 +145,7 @@ text_of wants keeps limits end before after (inl first) =
     first_text keeps limits end before after first
 text_of wants keeps limits end before after (inr behind) =
     opening_line behind.greeted.last behind.opening ++ answers_text behind.lines.exchanges
-    ++ text_behind wants keeps limits (before.source.calls + limits.reads) end
+    ++ text_after wants keeps limits (before.source.calls + limits.reads) end
     (length behind.lines.exchanges) behind.lines.answered after behind.lines.ends
 
 -- Two sessions that know the same last command, whose ports await the answer to the same ask, and

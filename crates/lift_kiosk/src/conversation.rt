@@ -36,7 +36,7 @@ fn outcome_of<T: Dialect, P: Port>(line: &Line, port: &mut P, looks: u32) -> Out
 }
 
 /// The last command, after a line.
-fn last_behind<T: Dialect>(last: &LastLetter, outcome: &Outcome) -> LastLetter
+fn last_command_after<T: Dialect>(last: &LastLetter, outcome: &Outcome) -> LastLetter
     ensures { result ≡ last_after T.keeps last.now outcome.now }
 {
     match outcome {
@@ -46,7 +46,7 @@ fn last_behind<T: Dialect>(last: &LastLetter, outcome: &Outcome) -> LastLetter
 }
 
 /// The last command, after the start.
-fn last_behind_opening<T: Dialect>(last: &LastLetter, opening: &Opening) -> LastLetter
+fn last_after_opening<T: Dialect>(last: &LastLetter, opening: &Opening) -> LastLetter
     ensures { result ≡ last_opened T.keeps last.now opening.now }
 {
     match opening {
@@ -110,7 +110,7 @@ fn exchange<T: Dialect, R: Read + Drop, W: Write + Drop, P: Port>(
         Err(no_line) => return Err(end_without_line(no_line)),
     };
     let outcome = outcome_of::<T, P>(&line, port, limits.looks);
-    *last = last_behind::<T>(last, &outcome);
+    *last = last_command_after::<T>(last, &outcome);
     match writer.put(&answer_of(&outcome)) {
         Ok(()) => {}
         Err(_) => return Err(End::WriteFault),
@@ -139,7 +139,7 @@ pub fn converse<T: Dialect, R: Read + Drop, W: Write + Drop, P: Port>(
     ensures stays { P.place port.new ≡ P.place port.old }
 {
     let opening = bring_in(port, limits.looks);
-    *last = last_behind_opening::<T>(last, &opening);
+    *last = last_after_opening::<T>(last, &opening);
     match writer.put(&opening_of(last, &opening)) {
         Ok(()) => {}
         Err(_) => return End::WriteFault,

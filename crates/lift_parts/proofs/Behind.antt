@@ -40,7 +40,7 @@ use Rattle.lift_parts.specs.Batch.{BatchState, state_with_entries, AreBelow, com
 use Rattle.lift_clerk.specs.lemmas.Asked.{not_both}
 use Rattle.lift_parts.specs.Flusher.{FlusherState, IsFlusher, IsEmptyTurn, IsBatchTurn, Answered}
 use Rattle.lift_parts.specs.Turns.{NoFlush, OneFlush}
-use Rattle.lift_parts.specs.History.{group_behind, held_in, Adds, GoesOnTo, FlushStands, FlushesStand, TurnsGoOn, SplitsGoOn, JoinedGoOn}
+use Rattle.lift_parts.specs.History.{group_after, held_in, Adds, GoesOnTo, FlushStands, FlushesStand, TurnsGoOn, SplitsGoOn, JoinedGoOn}
 use Rattle.lift_parts.specs.Past.{flush_events, FlushLeadsOn, FlushesLeadOn, SplitsKeepPasts, JoinedKeepPasts}
 use Rattle.lift_parts.specs.lemmas.Received.{entries_between, commits_to}
 use Rattle.lift_parts.proofs.Answering.{replies_of, held_is, answers_them}
@@ -78,13 +78,13 @@ module _ {D : Type 0} (state : D → DiskState) (old : WriterView D) (batch : Li
   leaves_by (Ok counts) c leaves = left_safe c.same.0 (register_of old.register batch) c.safe.register c.safe.acknowledged
   leaves_by (Err fault) c leaves = by_fault fault c c.causes leaves
 
-pub leaves_behind : {D : Type 0} (state : D → DiskState) (f g : FlusherState D) (answer : Result FlushCounts KeeperFault)
+pub leaves_after : {D : Type 0} (state : D → DiskState) (f g : FlusherState D) (answer : Result FlushCounts KeeperFault)
     → CommitsTo {T = FlushCounts} state f.writer (entries_between f.end g.end) g.end.state.register g.writer answer → LeavesSafe f.writer (state f.writer.device)
     → LeavesSafe g.writer (state g.writer.device)
-leaves_behind state f g answer c leaves = leaves_by state f.writer c.batch g.writer answer c.is leaves
+leaves_after state f g answer c leaves = leaves_by state f.writer c.batch g.writer answer c.is leaves
 
 -- ---- one turn
-module _ {D : Type 0} (state : D → DiskState) (crashes : CrashesKeep D) (law : MomentsKeep D state) (f g : FlusherState D) (base : RegisterState) (safe : List Entry) (given : List Taken) (h : History base (group_behind f) safe given) where
+module _ {D : Type 0} (state : D → DiskState) (crashes : CrashesKeep D) (law : MomentsKeep D state) (f g : FlusherState D) (base : RegisterState) (safe : List Entry) (given : List Taken) (h : History base (group_after f) safe given) where
   abbrev old : DiskState
   old = state f.writer.device
 
@@ -98,12 +98,12 @@ module _ {D : Type 0} (state : D → DiskState) (crashes : CrashesKeep D) (law :
   register = f.writer.register
 
   abbrev Now : List Entry → List Taken → Type 0
-  Now entries told = History base (group_behind g) entries told
+  Now entries told = History base (group_after g) entries told
 
   -- from its end on
-  keeps_behind : (answer : Result FlushCounts KeeperFault) → CommitsTo {T = FlushCounts} state f.writer (entries_between f.end g.end) g.end.state.register g.writer answer
-      → (entries : List Entry) (told : List Taken) → Now entries told → LeavesSafe f.writer old → KeepsNow base (group_behind g) entries told new
-  keeps_behind answer c entries told k leaves = kept_now crashes base (group_behind g) entries told k new (leaves_behind state f g answer c leaves)
+  keeps_after : (answer : Result FlushCounts KeeperFault) → CommitsTo {T = FlushCounts} state f.writer (entries_between f.end g.end) g.end.state.register g.writer answer
+      → (entries : List Entry) (told : List Taken) → Now entries told → LeavesSafe f.writer old → KeepsNow base (group_after g) entries told new
+  keeps_after answer c entries told k leaves = kept_now crashes base (group_after g) entries told k new (leaves_after state f g answer c leaves)
 
   -- a turn that received nothing
   module _ (answer : Result FlushCounts KeeperFault) (e : IsEmptyTurn f g answer) (c : CommitsTo {T = FlushCounts} state f.writer (entries_between f.end g.end) g.end.state.register g.writer answer) where
@@ -128,9 +128,9 @@ module _ {D : Type 0} (state : D → DiskState) (crashes : CrashesKeep D) (law :
 
     empty_history : Now (safe ++ []) (given ++ [])
     empty_history =
-        subst (λ (x : FlusherState D). History base (group_behind x) (safe ++ []) (given ++ [])) (sym e.same)
-        (subst (λ (xs : List Entry). History base (group_behind f) xs (given ++ [])) (sym (append-nil safe))
-        (subst (λ (ts : List Taken). History base (group_behind f) safe ts) (sym (append-nil given)) h))
+        subst (λ (x : FlusherState D). History base (group_after x) (safe ++ []) (given ++ [])) (sym e.same)
+        (subst (λ (xs : List Entry). History base (group_after f) xs (given ++ [])) (sym (append-nil safe))
+        (subst (λ (ts : List Taken). History base (group_after f) safe ts) (sym (append-nil given)) h))
 
     empty_adds : Adds f g [] []
     empty_adds = record {
@@ -144,7 +144,7 @@ module _ {D : Type 0} (state : D → DiskState) (crashes : CrashesKeep D) (law :
     }
 
     -- no event
-    pub empty_leads : (w : World) (terminals : Terminals) → IsPastOf w (group_behind f) terminals safe given → FlushLeadsOn f g answer w terminals safe given
+    pub empty_leads : (w : World) (terminals : Terminals) → IsPastOf w (group_after f) terminals safe given → FlushLeadsOn f g answer w terminals safe given
     empty_leads w terminals p = record {
       received = [];
       receives = same_received;
@@ -155,9 +155,9 @@ module _ {D : Type 0} (state : D → DiskState) (crashes : CrashesKeep D) (law :
       leads = λ folds. record {
         end = w;
         possible = refl;
-        past = subst (λ (x : FlusherState D). IsPastOf w (group_behind x) terminals (safe ++ []) (given ++ [])) (sym e.same)
-            (subst (λ (xs : List Entry). IsPastOf w (group_behind f) terminals xs (given ++ [])) (sym (append-nil safe))
-            (subst (λ (ts : List Taken). IsPastOf w (group_behind f) terminals safe ts) (sym (append-nil given)) p));
+        past = subst (λ (x : FlusherState D). IsPastOf w (group_after x) terminals (safe ++ []) (given ++ [])) (sym e.same)
+            (subst (λ (xs : List Entry). IsPastOf w (group_after f) terminals xs (given ++ [])) (sym (append-nil safe))
+            (subst (λ (ts : List Taken). IsPastOf w (group_after f) terminals safe ts) (sym (append-nil given)) p));
       };
     }
 
@@ -174,8 +174,8 @@ module _ {D : Type 0} (state : D → DiskState) (crashes : CrashesKeep D) (law :
       batch = f.writer.doubt;
       while_whole = no_doubt;
       while_broken = λ broken. refl;
-      stands = law (group_behind f) f.writer.doubt g.writer.device (inl refl) (moments f.writer.is_broken refl) base safe given h;
-      now = keeps_behind answer c (safe ++ []) (given ++ []) empty_history;
+      stands = law (group_after f) f.writer.doubt g.writer.device (inl refl) (moments f.writer.is_broken refl) base safe given h;
+      now = keeps_after answer c (safe ++ []) (given ++ []) empty_history;
     }
 
   -- one that received a batch
@@ -258,7 +258,7 @@ module _ {D : Type 0} (state : D → DiskState) (crashes : CrashesKeep D) (law :
       was_whole : f.writer.is_broken ≡ false
       was_whole = is_whole f.writer.is_broken (λ broken. let wrong : Ok counts ≡ Err (Journal Broken) = c.is.broken.1 broken in absurd (cc))
 
-      abbrev makes_safe : TurnMakesSafe (group_behind f) (group_behind g)
+      abbrev makes_safe : TurnMakesSafe (group_after f) (group_after g)
       makes_safe = record {
         commands = cs;
         replies = replies_in batch.commands;
@@ -290,14 +290,14 @@ module _ {D : Type 0} (state : D → DiskState) (crashes : CrashesKeep D) (law :
         batch = batch.entries;
         while_whole = λ whole. sym (append-nil batch.entries);
         while_broken = λ broken. not_both f.writer.is_broken was_whole broken;
-        stands = law (group_behind f) batch.entries g.writer.device (inr (accepts (Ok counts) t was_whole)) (moments_whole (Ok counts) t was_whole c) base safe given h;
-        now = keeps_behind (Ok counts) c (safe ++ entries_of_batches (batch ∷ [])) (given ++ (held_in (batch ∷ []) ++ map unknown_to (held_in []))) safe_history;
+        stands = law (group_after f) batch.entries g.writer.device (inr (accepts (Ok counts) t was_whole)) (moments_whole (Ok counts) t was_whole c) base safe given h;
+        now = keeps_after (Ok counts) c (safe ++ entries_of_batches (batch ∷ [])) (given ++ (held_in (batch ∷ []) ++ map unknown_to (held_in []))) safe_history;
       }
 
-      pub safe_leads : PastsGoOn D → (w : World) (terminals : Terminals) → IsPastOf w (group_behind f) terminals safe given → TakesAsks (group_behind g) terminals
+      pub safe_leads : PastsGoOn D → (w : World) (terminals : Terminals) → IsPastOf w (group_after f) terminals safe given → TakesAsks (group_after g) terminals
           → FlushLeadsOn f g (Ok counts) w terminals safe given
       safe_leads past w terminals p takes =
-          let k = past.batches (group_behind f) (group_behind g) makes_safe w terminals safe given p takes in
+          let k = past.batches (group_after f) (group_after g) makes_safe w terminals safe given p takes in
           record {
             received = batch ∷ [];
             receives = one_received (Ok counts) t;
@@ -307,8 +307,8 @@ module _ {D : Type 0} (state : D → DiskState) (crashes : CrashesKeep D) (law :
             letters = k.0;
             leads = λ folds.
                 let es : List Event = flush_events (batch ∷ []) true f.writer.is_broken k.0 folds in
-                subst (λ (xs : List Entry). LeadsToPast w es (group_behind g) terminals (safe ++ xs) (given ++ (held_in (batch ∷ []) ++ map unknown_to (held_in [])))) (sym (append-nil batch.entries))
-                (subst (λ (ts : List Taken). LeadsToPast w es (group_behind g) terminals (safe ++ batch.entries) ts) (kept_told (Ok counts) t) (k.1 folds));
+                subst (λ (xs : List Entry). LeadsToPast w es (group_after g) terminals (safe ++ xs) (given ++ (held_in (batch ∷ []) ++ map unknown_to (held_in [])))) (sym (append-nil batch.entries))
+                (subst (λ (ts : List Taken). LeadsToPast w es (group_after g) terminals (safe ++ batch.entries) ts) (kept_told (Ok counts) t) (k.1 folds));
           }
 
     -- or it doesn't
@@ -317,8 +317,8 @@ module _ {D : Type 0} (state : D → DiskState) (crashes : CrashesKeep D) (law :
       lost_history k = subst (λ (xs : List Entry). Now xs (given ++ (held_in [] ++ map unknown_to (held_in (batch ∷ []))))) (sym (append-nil safe))
           (subst (λ (ts : List Taken). Now safe ts) (lost_told (Err fault) t) k)
 
-      lost_now : Now safe (with_given false) → LeavesSafe f.writer old → KeepsNow base (group_behind g) (safe ++ []) (given ++ (held_in [] ++ map unknown_to (held_in (batch ∷ [])))) new
-      lost_now k = keeps_behind (Err fault) c (safe ++ []) (given ++ (held_in [] ++ map unknown_to (held_in (batch ∷ [])))) (lost_history k)
+      lost_now : Now safe (with_given false) → LeavesSafe f.writer old → KeepsNow base (group_after g) (safe ++ []) (given ++ (held_in [] ++ map unknown_to (held_in (batch ∷ [])))) new
+      lost_now k = keeps_after (Err fault) c (safe ++ []) (given ++ (held_in [] ++ map unknown_to (held_in (batch ∷ [])))) (lost_history k)
 
       abbrev lost_goes_on : Now safe (with_given false) → GoesOnTo f g base safe given
       lost_goes_on k = record {
@@ -328,7 +328,7 @@ module _ {D : Type 0} (state : D → DiskState) (crashes : CrashesKeep D) (law :
         history = lost_history k;
       }
 
-      abbrev leaves_in_doubt : f.writer.is_broken ≡ false → fault ≡ Journal Disk → LeavesInDoubt (group_behind f) (group_behind g)
+      abbrev leaves_in_doubt : f.writer.is_broken ≡ false → fault ≡ Journal Disk → LeavesInDoubt (group_after f) (group_after g)
       leaves_in_doubt whole e =
           let is_disk : Err fault ≡ Err (Journal Disk) = ap (λ (x : KeeperFault). Err x) e in
           record {
@@ -341,7 +341,7 @@ module _ {D : Type 0} (state : D → DiskState) (crashes : CrashesKeep D) (law :
             same_plan = c.is.same.0;
           }
 
-      abbrev answers_unknown : f.writer.is_broken ≡ true → AnswersUnknown (group_behind f) (group_behind g)
+      abbrev answers_unknown : f.writer.is_broken ≡ true → AnswersUnknown (group_after f) (group_after g)
       answers_unknown broken = record {
         commands = cs;
         desk = same_desk;
@@ -358,7 +358,7 @@ module _ {D : Type 0} (state : D → DiskState) (crashes : CrashesKeep D) (law :
         batch = batch.entries;
         while_whole = λ still. sym (append-nil batch.entries);
         while_broken = λ broken. not_both f.writer.is_broken whole broken;
-        stands = law (group_behind f) batch.entries g.writer.device (inr (accepts (Err fault) t whole)) (moments_whole (Err fault) t whole c) base safe given h;
+        stands = law (group_after f) batch.entries g.writer.device (inr (accepts (Err fault) t whole)) (moments_whole (Err fault) t whole c) base safe given h;
         now = lost_now (failed h (leaves_in_doubt whole e));
       }
 
@@ -370,12 +370,12 @@ module _ {D : Type 0} (state : D → DiskState) (crashes : CrashesKeep D) (law :
         batch = f.writer.doubt;
         while_whole = λ whole. not_both f.writer.is_broken whole broken;
         while_broken = λ still. refl;
-        stands = law (group_behind f) f.writer.doubt g.writer.device (inl refl) (c.is.safe.while_broken broken) base safe given h;
+        stands = law (group_after f) f.writer.doubt g.writer.device (inl refl) (c.is.safe.while_broken broken) base safe given h;
         now = lost_now (turned_while_broken h (answers_unknown broken));
       }
 
       lost_leads : (w : World) (terminals : Terminals) (was : Bool) (letters : List (Option ℕ)) → f.writer.is_broken ≡ was
-          → ((folds : ℕ) → LeadsToPast w (flush_events (batch ∷ []) false was letters folds) (group_behind g) terminals (safe ++ []) (with_given false)) → FlushLeadsOn f g (Err fault) w terminals safe given
+          → ((folds : ℕ) → LeadsToPast w (flush_events (batch ∷ []) false was letters folds) (group_after g) terminals (safe ++ []) (with_given false)) → FlushLeadsOn f g (Err fault) w terminals safe given
       lost_leads w terminals was letters is leads = record {
         received = batch ∷ [];
         receives = one_received (Err fault) t;
@@ -384,21 +384,21 @@ module _ {D : Type 0} (state : D → DiskState) (crashes : CrashesKeep D) (law :
         adds = lost_adds (Err fault) t c.is.breaks;
         letters = letters;
         leads = λ folds.
-            subst (λ (b : Bool). LeadsToPast w (flush_events (batch ∷ []) false b letters folds) (group_behind g) terminals (safe ++ []) (given ++ (held_in [] ++ map unknown_to (held_in (batch ∷ []))))) (sym is)
-            (subst (λ (ts : List Taken). LeadsToPast w (flush_events (batch ∷ []) false was letters folds) (group_behind g) terminals (safe ++ []) ts) (lost_told (Err fault) t) (leads folds));
+            subst (λ (b : Bool). LeadsToPast w (flush_events (batch ∷ []) false b letters folds) (group_after g) terminals (safe ++ []) (given ++ (held_in [] ++ map unknown_to (held_in (batch ∷ []))))) (sym is)
+            (subst (λ (ts : List Taken). LeadsToPast w (flush_events (batch ∷ []) false was letters folds) (group_after g) terminals (safe ++ []) ts) (lost_told (Err fault) t) (leads folds));
       }
 
-      leads_by_cause : PastsGoOn D → (w : World) (terminals : Terminals) → IsPastOf w (group_behind f) terminals safe given → TakesAsks (group_behind g) terminals
+      leads_by_cause : PastsGoOn D → (w : World) (terminals : Terminals) → IsPastOf w (group_after f) terminals safe given → TakesAsks (group_after g) terminals
           → f.writer.is_broken ≡ false → (fault ≡ Journal Disk) ⊎ (fault ≡ Journal Broken) → FlushLeadsOn f g (Err fault) w terminals safe given
       leads_by_cause past w terminals p takes whole (inl e) =
-          let k = past.doubts (group_behind f) (group_behind g) (leaves_in_doubt whole e) w terminals safe given p takes in
+          let k = past.doubts (group_after f) (group_after g) (leaves_in_doubt whole e) w terminals safe given p takes in
           lost_leads w terminals false k.0 whole k.1
       leads_by_cause past w terminals p takes whole (inr e) = not_both f.writer.is_broken whole (c.is.broken.0 (ap (λ (x : KeeperFault). Err x) e))
 
-      pub fault_leads : PastsGoOn D → (w : World) (terminals : Terminals) → IsPastOf w (group_behind f) terminals safe given → TakesAsks (group_behind g) terminals
+      pub fault_leads : PastsGoOn D → (w : World) (terminals : Terminals) → IsPastOf w (group_after f) terminals safe given → TakesAsks (group_after g) terminals
           → (b : Bool) → f.writer.is_broken ≡ b → FlushLeadsOn f g (Err fault) w terminals safe given
       fault_leads past w terminals p takes true broken =
-          let k = past.unknowns (group_behind f) (group_behind g) (answers_unknown broken) w terminals safe given p takes in
+          let k = past.unknowns (group_after f) (group_after g) (answers_unknown broken) w terminals safe given p takes in
           lost_leads w terminals true k.0 broken k.1
       fault_leads past w terminals p takes false whole = leads_by_cause past w terminals p takes whole c.is.causes
 
@@ -415,7 +415,7 @@ module _ {D : Type 0} (state : D → DiskState) (crashes : CrashesKeep D) (law :
     batch_stands (Ok counts) t c = safe_stands counts t c
     batch_stands (Err fault) t c = fault_stands fault t c f.writer.is_broken refl
 
-    pub batch_leads : PastsGoOn D → (w : World) (terminals : Terminals) → IsPastOf w (group_behind f) terminals safe given → TakesAsks (group_behind g) terminals
+    pub batch_leads : PastsGoOn D → (w : World) (terminals : Terminals) → IsPastOf w (group_after f) terminals safe given → TakesAsks (group_after g) terminals
         → (answer : Result FlushCounts KeeperFault) → IsBatchTurn f g batch answer → CommitsTo {T = FlushCounts} state f.writer (entries_between f.end g.end) g.end.state.register g.writer answer
         → FlushLeadsOn f g answer w terminals safe given
     batch_leads past w terminals p takes (Ok counts) t c = safe_leads counts t c past w terminals p takes
@@ -480,11 +480,11 @@ module _ {D : Type 0} (f m g : FlusherState D) (base : RegisterState) (safe : Li
     more = x.more ++ y.more;
     told = x.told ++ y.told;
     adds = adds_both x.more y.more x.told y.told x.adds y.adds m.writer.is_broken refl;
-    history = subst (λ (es : List Entry). History base (group_behind g) es (given ++ (x.told ++ y.told))) (append_assoc safe x.more y.more)
-        (subst (λ (hs : List Taken). History base (group_behind g) ((safe ++ x.more) ++ y.more) hs) (append_assoc given x.told y.told) y.history);
+    history = subst (λ (es : List Entry). History base (group_after g) es (given ++ (x.told ++ y.told))) (append_assoc safe x.more y.more)
+        (subst (λ (hs : List Taken). History base (group_after g) ((safe ++ x.more) ++ y.more) hs) (append_assoc given x.told y.told) y.history);
   }
 
-goes_nowhere : {D : Type 0} (f : FlusherState D) (base : RegisterState) (safe : List Entry) (given : List Taken) → History base (group_behind f) safe given → GoesOnTo f f base safe given
+goes_nowhere : {D : Type 0} (f : FlusherState D) (base : RegisterState) (safe : List Entry) (given : List Taken) → History base (group_after f) safe given → GoesOnTo f f base safe given
 goes_nowhere f base safe given h = record {
   more = [];
   told = [];
@@ -497,7 +497,7 @@ goes_nowhere f base safe given h = record {
     was_broken = λ broken. (refl, broken);
     is_whole = λ whole. refl;
   };
-  history = subst (λ (es : List Entry). History base (group_behind f) es (given ++ [])) (sym (append-nil safe)) (subst (λ (hs : List Taken). History base (group_behind f) safe hs) (sym (append-nil given)) h);
+  history = subst (λ (es : List Entry). History base (group_after f) es (given ++ [])) (sym (append-nil safe)) (subst (λ (hs : List Taken). History base (group_after f) safe hs) (sym (append-nil given)) h);
 }
 
 module _ {D : Type 0} (state : D → DiskState) (crashes : CrashesKeep D) (law : MomentsKeep D state) where
@@ -510,7 +510,7 @@ module _ {D : Type 0} (state : D → DiskState) (crashes : CrashesKeep D) (law :
 
 -- ---- splits and joins
 split_rests : {D P : Type 0} (clerk : ClerkState D P) (f : FlusherState D) → f.desk ≡ clerk.desk → f.seat ≡ clerk.seat → f.writer ≡ clerk.keeper.writer
-    → (clerk.keeper.writer.is_broken ≡ false → f.end.state ≡ clerk.keeper.state) → ClerkRests (group_of clerk) (group_behind f)
+    → (clerk.keeper.writer.is_broken ≡ false → f.end.state ≡ clerk.keeper.state) → ClerkRests (group_of clerk) (group_after f)
 split_rests {D} clerk f desk seat writer state = record {
   desk = desk;
   words = λ t. (ap (λ (s : List ClerkPlace). (view_at s t).taken) seat, ap (λ (s : List ClerkPlace). (view_at s t).answered) seat);
@@ -522,7 +522,7 @@ split_rests {D} clerk f desk seat writer state = record {
 }
 
 join_rests : {D P : Type 0} (clerk : ClerkState D P) (f : FlusherState D) → clerk.desk ≡ f.desk → clerk.seat ≡ f.seat → clerk.keeper.writer ≡ f.writer → clerk.keeper.state ≡ f.end.state
-    → ClerkRests (group_behind f) (group_of clerk)
+    → ClerkRests (group_after f) (group_of clerk)
 join_rests {D} clerk f desk seat writer state = record {
   desk = desk;
   words = λ t. (ap (λ (s : List ClerkPlace). (view_at s t).taken) seat, ap (λ (s : List ClerkPlace). (view_at s t).answered) seat);
@@ -541,8 +541,8 @@ joined_go_on clerk f base safe given desk seat writer state h = Rested h (join_r
 
 pub splits_keep_pasts : {D P : Type 0} → PastsGoOn D → SplitsKeepPasts D P
 splits_keep_pasts {D} past w clerk f terminals safe given desk seat writer state p =
-    past.rests w (group_of clerk) (group_behind f) terminals safe given p (split_rests clerk f desk seat writer state) (ap (λ (w : WriterView D). w.is_broken) writer)
+    past.rests w (group_of clerk) (group_after f) terminals safe given p (split_rests clerk f desk seat writer state) (ap (λ (w : WriterView D). w.is_broken) writer)
 
 pub joined_keep_pasts : {D P : Type 0} → PastsGoOn D → JoinedKeepPasts D P
 joined_keep_pasts {D} past w clerk f terminals safe given desk seat writer state p =
-    past.rests w (group_behind f) (group_of clerk) terminals safe given p (join_rests clerk f desk seat writer state) (ap (λ (w : WriterView D). w.is_broken) writer)
+    past.rests w (group_after f) (group_of clerk) terminals safe given p (join_rests clerk f desk seat writer state) (ap (λ (w : WriterView D). w.is_broken) writer)

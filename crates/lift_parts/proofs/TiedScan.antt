@@ -132,7 +132,7 @@ pub record Stands (w : World) (t : ℕ) (waiting : List Command) (c : Command) :
   pub stands : StandsAsk w t c
   pub only : waiting ≡ c ∷ []
 
-module _ (laws : RelayLaws) (w : World) (reached : IsReached w) (only : OnlyQueued w) (t : ℕ) (p : ClerkPlace) (behind_it : ClerkView) (s : ShowsBoth w t p.view behind_it) where
+module _ (laws : RelayLaws) (w : World) (reached : IsReached w) (only : OnlyQueued w) (t : ℕ) (p : ClerkPlace) (after_it : ClerkView) (s : ShowsBoth w t p.view after_it) where
   abbrev fa : List Command
   fa = s.first ++ on_way w t
 
@@ -267,19 +267,19 @@ module _ (laws : RelayLaws) (w : World) (reached : IsReached w) (only : OnlyQueu
 
 -- ---- all looks
 -- lists with beginnings of one length have the same rest
-pub same_behind : {A : Type 0} (xs ys us vs : List A) → length xs ≡ length ys → xs ++ us ≡ ys ++ vs → us ≡ vs
-same_behind [] [] us vs l e = e
-same_behind [] (y ∷ ys) us vs l e = absurd (omega arith)
-same_behind (x ∷ xs) [] us vs l e = absurd (omega arith)
-same_behind (x ∷ xs) (y ∷ ys) us vs l e = same_behind xs ys us vs (omega arith) (cc)
+pub same_after : {A : Type 0} (xs ys us vs : List A) → length xs ≡ length ys → xs ++ us ≡ ys ++ vs → us ≡ vs
+same_after [] [] us vs l e = e
+same_after [] (y ∷ ys) us vs l e = absurd (omega arith)
+same_after (x ∷ xs) [] us vs l e = absurd (omega arith)
+same_after (x ∷ xs) (y ∷ ys) us vs l e = same_after xs ys us vs (omega arith) (cc)
 
 pub looked_first : (place : ClerkPlace) (places : List ClerkPlace) (word : ℕ) (found : Option Ask) (visits : List Visit)
     → (view_at (looked_at (place ∷ places) (record { word = word; found = found } ∷ visits)) 0).taken ≡ (with_taking place.view word).taken
 looked_first place places word found visits = refl
 
-pub looked_behind : (place : ClerkPlace) (places : List ClerkPlace) (word : ℕ) (found : Option Ask) (visits : List Visit) (k : ℕ)
+pub looked_after : (place : ClerkPlace) (places : List ClerkPlace) (word : ℕ) (found : Option Ask) (visits : List Visit) (k : ℕ)
     → view_at (looked_at (place ∷ places) (record { word = word; found = found } ∷ visits)) (suc k) ≡ view_at (looked_at places visits) k
-looked_behind place places word found visits k = refl
+looked_after place places word found visits k = refl
 
 pub asked_same : (w : World) (t : ℕ) (u v : ClerkView) → u.taken ≡ v.taken → TakesAsked w.asked t u → TakesAsked w.asked t v
 asked_same w t u v e k = record { ahead = subst (λ (xs : List ℕ). IsAhead (ask_words 1 (map ask_of (filter (asks t) w.asked))) xs) e k.ahead; in_range = k.in_range }
@@ -319,7 +319,7 @@ module _ (laws : RelayLaws) (w : World) (reached : IsReached w) (only : OnlyQueu
       let here = look_at first p (same 0 first (omega arith)) u.word u.found takes.0
       (asked_same w first (view_at (looked_at (p ∷ places) (u ∷ visits)) 0) (with_taking p.view u.word) (looked_first p places u.word u.found visits) (asked 0 first (omega arith))) in
       let rest = looks_from (suc first) places visits (λ k t e. same (suc k) t (omega arith)) takes.1
-      (λ k t e. subst (TakesAsked w.asked t) (looked_behind p places u.word u.found visits k) (asked (suc k) t (omega arith))) in
+      (λ k t e. subst (TakesAsked w.asked t) (looked_after p places u.word u.found visits k) (asked (suc k) t (omega arith))) in
       ((here.0, rest.0), all_both (command_at first u.found) (commands_of (suc first) visits) here.1 rest.1)
 
   -- so they are found

@@ -9,7 +9,7 @@ use Rattle.lift_policy.specs.Run.{Run}
 use Rattle.lift_clerk.specs.declared.counts.Counts.{Counts}
 use Rattle.lift_clerk.specs.Turn.{without_batch}
 use Rattle.lift_clerk.specs.Visits.{Visit, commands_of, looked_at}
-use Rattle.lift_parts.specs.Batch.{BatchState, turns_behind, turns_of, commands_in}
+use Rattle.lift_parts.specs.Batch.{BatchState, next_turns, turns_of, commands_in}
 use Rattle.lift_parts.specs.Batch.{replies_in, noted_in}
 use Rattle.lift_parts.specs.Line.{SendState, Tries, tried, Begins, IsNextBatch, WasFull}
 use Rattle.lift_parts.specs.Scan.{TakesEach, turns_in, words_of}
@@ -39,11 +39,11 @@ DecidesAlong plan choice state (batch ∷ batches) last =
     × DecidesAlong plan choice (without_batch decided) batches last
 
 -- where the batches go on from what was sent: after a batch in hand
-abbrev pub GoesOnBehind : Plan → List TableId → State → List ℕ → List BatchState → State → List ℕ → Type 0
-GoesOnBehind plan desk sent turns [] shown taken = (shown ≡ sent) × (taken ≡ turns)
-GoesOnBehind plan desk sent turns (batch ∷ []) shown taken = IsNextBatch plan desk sent turns batch
-    × (shown ≡ batch.after) × (taken ≡ turns_behind batch)
-GoesOnBehind plan desk sent turns (batch ∷ other ∷ batches) shown taken = ⊥
+abbrev pub GoesOnAfter : Plan → List TableId → State → List ℕ → List BatchState → State → List ℕ → Type 0
+GoesOnAfter plan desk sent turns [] shown taken = (shown ≡ sent) × (taken ≡ turns)
+GoesOnAfter plan desk sent turns (batch ∷ []) shown taken = IsNextBatch plan desk sent turns batch
+    × (shown ≡ batch.after) × (taken ≡ next_turns batch)
+GoesOnAfter plan desk sent turns (batch ∷ other ∷ batches) shown taken = ⊥
 
 -- What is true of every allocator: what was sent, and then the batch in hand, is a run of the
 -- rules.
@@ -53,7 +53,7 @@ pub record IsAllocator {P : Type 0} (choice : Choice) (a : AllocatorState P) : T
   pub at_desk : a.end.desk ≡ a.desk
   pub all_sealed : a.state.batch ≡ []
   pub decides : DecidesAlong a.plan choice a.start (a.end.sent ++ a.hand) a.state
-  pub goes_on : GoesOnBehind a.plan a.desk a.end.state a.end.turns a.hand a.state
+  pub goes_on : GoesOnAfter a.plan a.desk a.end.state a.end.turns a.hand a.state
       (turns_of a.seat)
   -- each batch took a turn of some terminal
   pub few : length a.end.sent + length a.hand ≤ turns_in a.seat
@@ -68,9 +68,9 @@ pub record IsFullTurn {P : Type 0} (old new : AllocatorState P) (counts : Counts
   pub accepted : counts.accepted ≡ 0
 
 -- the tries of an end once a batch in hand was sent, if there is one
-abbrev pub tries_behind : List BatchState → Tries → Tries
-tries_behind [] tries = tries
-tries_behind (batch ∷ batches) tries = tried tries false
+abbrev pub tries_after : List BatchState → Tries → Tries
+tries_after [] tries = tries
+tries_after (batch ∷ batches) tries = tried tries false
 
 -- The batch in hand was sent, if there was one. Then each terminal was looked at once, in rising
 -- order, and what was asked there was decided, each command with a note of the word that its look
@@ -95,7 +95,7 @@ pub record IsScanTurn {P : Type 0} (choice : Choice) (old new : AllocatorState P
   pub sent : Begins (old.end.sent ++ old.hand) new.end.sent
   -- a batch stays in hand only where it was tried after that, and refused
   pub full : new.hand ≢ [] → WasFull new.end
-  pub refused : new.hand ≢ [] → new.end.tries ≡ tried (tries_behind old.hand old.end.tries) true
+  pub refused : new.hand ≢ [] → new.end.tries ≡ tried (tries_after old.hand old.end.tries) true
   pub same_place : (new.desk ≡ old.desk) × (new.plan ≡ old.plan) × (new.policy ≡ old.policy)
       × (new.start ≡ old.start) × (new.end.line ≡ old.end.line)
   pub taken : counts.taken ≡ length (commands_of 0 visits)

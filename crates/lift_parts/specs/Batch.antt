@@ -100,5 +100,5 @@ pub record IsLawfulBatch (batch : BatchState) : Type 0 where
   pub decided : IsDecided batch
 
 -- the turns that a batch leads to
-abbrev pub turns_behind : BatchState → List ℕ
-turns_behind batch = turns_after batch.turns batch.commands
+abbrev pub next_turns : BatchState → List ℕ
+next_turns batch = turns_after batch.turns batch.commands

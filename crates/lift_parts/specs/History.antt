@@ -20,8 +20,8 @@ use Rattle.lift_parts.specs.Turns.{FlusherTurns, IsFlush}
 
 -- The group as the flusher has it: a clerk of its seats and its writer, which shows what was
 -- received.
-abbrev pub group_behind : {D : Type 0} → FlusherState D → GroupState D
-group_behind f = record {
+abbrev pub group_after : {D : Type 0} → FlusherState D → GroupState D
+group_after f = record {
   desk = f.desk;
   seat = f.seat;
   keeper = record { state = f.end.state; writer = f.writer };
@@ -51,7 +51,7 @@ pub record GoesOnTo {D : Type 0} (f g : FlusherState D) (base : RegisterState)
   pub more : List Entry
   pub told : List Taken
   pub adds : Adds f g more told
-  pub history : History base (group_behind g) (safe ++ more) (given ++ told)
+  pub history : History base (group_after g) (safe ++ more) (given ++ told)
 
 -- One turn: the history goes on, and at each moment of the turn it stands, with the batch that was
 -- received, or the one that a fault left in doubt. From its end on a crash leaves what keeps all of
@@ -64,16 +64,16 @@ pub record FlushStands {D : Type 0} (f g : FlusherState D) (base : RegisterState
   pub batch : List Entry
   pub while_whole : f.writer.is_broken ≡ false → batch ≡ entries_of_batches received
   pub while_broken : f.writer.is_broken ≡ true → batch ≡ f.writer.doubt
-  pub stands : KeepsThroughout base (group_behind f) safe given batch old new
+  pub stands : KeepsThroughout base (group_after f) safe given batch old new
   pub now : LeavesSafe f.writer old
-      → KeepsNow base (group_behind g) (safe ++ goes_on.more) (given ++ goes_on.told) new
+      → KeepsNow base (group_after g) (safe ++ goes_on.more) (given ++ goes_on.told) new
 
 -- So it is of each turn of a flusher,
 abbrev pub FlushesStand : (D : Type 0) → (D → DiskState) → Type 0
 FlushesStand D state = (f g : FlusherState D) (answer : Result FlushCounts KeeperFault)
     → IsFlush state f g answer
     → (base : RegisterState) (safe : List Entry) (given : List Taken)
-    → History base (group_behind f) safe given
+    → History base (group_after f) safe given
     → FlushStands f g base safe given (state f.writer.device) (state g.writer.device)
 
 -- and of any number of them the history goes on.
@@ -81,18 +81,18 @@ abbrev pub TurnsGoOn : (D : Type 0) → (D → DiskState) → Type 0
 TurnsGoOn D state = (f g : FlusherState D) (first last : Option KeeperFault)
     → FlusherTurns state f first g last
     → (base : RegisterState) (safe : List Entry) (given : List Taken)
-    → History base (group_behind f) safe given → GoesOnTo f g base safe given
+    → History base (group_after f) safe given → GoesOnTo f g base safe given
 
 -- A clerk may be split: what has happened to it has happened to the flusher,
 abbrev pub SplitsGoOn : (D P : Type 0) → Type 0
 SplitsGoOn D P = (clerk : ClerkState D P) (f : FlusherState D) (base : RegisterState)
     (safe : List Entry) (given : List Taken) → f.desk ≡ clerk.desk → f.seat ≡ clerk.seat → f.writer ≡ clerk.keeper.writer
     → (clerk.keeper.writer.is_broken ≡ false → f.end.state ≡ clerk.keeper.state)
-    → History base (group_of clerk) safe given → History base (group_behind f) safe given
+    → History base (group_of clerk) safe given → History base (group_after f) safe given
 
 -- and of a clerk that is joined of both parts.
 abbrev pub JoinedGoOn : (D P : Type 0) → Type 0
 JoinedGoOn D P = (clerk : ClerkState D P) (f : FlusherState D) (base : RegisterState)
     (safe : List Entry) (given : List Taken) → clerk.desk ≡ f.desk → clerk.seat ≡ f.seat → clerk.keeper.writer ≡ f.writer
     → clerk.keeper.state ≡ f.end.state
-    → History base (group_behind f) safe given → History base (group_of clerk) safe given
+    → History base (group_after f) safe given → History base (group_of clerk) safe given

@@ -10,7 +10,7 @@ use Rattle.lift_clerk.specs.Keeping.{LeavesSafe, KeepsNow}
 use Rattle.lift_parts.specs.declared.counts.FlushCounts.{FlushCounts}
 use Rattle.lift_parts.specs.Flusher.{FlusherState}
 use Rattle.lift_parts.specs.Turns.{FlusherTurns, IsFlush}
-use Rattle.lift_parts.specs.History.{FlushStands, group_behind}
+use Rattle.lift_parts.specs.History.{FlushStands, group_after}
 
 -- Turns of a flusher, one after another, from these safe entries and answers to those.
 pub data KeepingTurns {D : Type 0} (state : D → DiskState) (base : RegisterState)
@@ -34,13 +34,13 @@ pub record HaveKept {D : Type 0} (state : D → DiskState) (base : RegisterState
   pub now_safe : List Entry
   pub now_given : List Taken
   pub turns : KeepingTurns state base f safe given g now_safe now_given
-  pub history : History base (group_behind g) now_safe now_given
+  pub history : History base (group_after g) now_safe now_given
   pub kept : LeavesSafe f.writer (state f.writer.device)
-      → KeepsNow base (group_behind g) now_safe now_given (state g.writer.device)
+      → KeepsNow base (group_after g) now_safe now_given (state g.writer.device)
 
 -- So it is of all turns that a flusher may have made by any moment, whether or not they end, and
 -- whatever the allocator took and sent meanwhile.
 abbrev pub TurnsKeep : (D : Type 0) → (D → DiskState) → Type 0
 TurnsKeep D state = (f g : FlusherState D) (first last : Option KeeperFault) (base : RegisterState)
-    (safe : List Entry) (given : List Taken) → History base (group_behind f) safe given → FlusherTurns state f first g last
+    (safe : List Entry) (given : List Taken) → History base (group_after f) safe given → FlusherTurns state f first g last
     → HaveKept state base f g safe given

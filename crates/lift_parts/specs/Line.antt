@@ -3,7 +3,7 @@ use Rattle.std.specs.Prelude.{◌≡◌, ℕ, Bool, true, false, not, List, [], 
 use Rattle.atomic_table.specs.Seated.{TableId}
 use Rattle.lift_building.specs.Plan.{Plan}
 use Rattle.lift_policy.specs.Step.{State}
-use Rattle.lift_parts.specs.Batch.{BatchState, turns_behind}
+use Rattle.lift_parts.specs.Batch.{BatchState, next_turns}
 
 -- An end's tries on its line: whether it has made an odd number of them, and whether the last one
 -- was refused. Each push or pop that is tried counts, and nothing else does.
@@ -65,7 +65,7 @@ abbrev pub BatchesGoOn : Plan → List TableId → State → List ℕ → List B
 BatchesGoOn building desk first turns [] last ended = (first ≡ last) × (turns ≡ ended)
 BatchesGoOn building desk first turns (batch ∷ batches) last ended =
     IsNextBatch building desk first turns batch
-    × BatchesGoOn building desk batch.after (turns_behind batch) batches last ended
+    × BatchesGoOn building desk batch.after (next_turns batch) batches last ended
 
 -- a new line, which goes on from where this batch was decided
 pub record IsLine (first : BatchState) (sender : SendState) (receiver : ReceiveState) : Type 0 where
@@ -96,7 +96,7 @@ pub record SendsOne (old : SendState) (batch : BatchState) (new : SendState) : T
   pub same : (new.line ≡ old.line) × (new.building ≡ old.building) × (new.desk ≡ old.desk)
   pub sends : new.sent ≡ old.sent ++ batch ∷ []
   pub state : new.state ≡ batch.after
-  pub turns : new.turns ≡ turns_behind batch
+  pub turns : new.turns ≡ next_turns batch
   pub items : List BatchState
   pub few : length items < 4
   pub before : new.sent ≡ new.gone ++ (items ++ batch ∷ [])
@@ -110,7 +110,7 @@ pub record ReceivesOne (old : ReceiveState) (batch : BatchState) (new : ReceiveS
   pub next : IsNextBatch old.building old.desk old.state old.turns batch
   pub receives : new.received ≡ old.received ++ batch ∷ []
   pub state : new.state ≡ batch.after
-  pub turns : new.turns ≡ turns_behind batch
+  pub turns : new.turns ≡ next_turns batch
   pub known : Begins new.received new.known
   pub few : length new.received ≤ 66060225
   pub later : Begins old.known new.known

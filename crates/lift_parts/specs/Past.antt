@@ -19,7 +19,7 @@ use Rattle.lift_parts.specs.declared.counts.FlushCounts.{FlushCounts}
 use Rattle.lift_parts.specs.Batch.{BatchState, commands_in}
 use Rattle.lift_parts.specs.Flusher.{FlusherState}
 use Rattle.lift_parts.specs.Turns.{IsFlush}
-use Rattle.lift_parts.specs.History.{group_behind, Adds}
+use Rattle.lift_parts.specs.History.{group_after, Adds}
 
 -- The events of a flusher's turn: those of a turn of the machine with the batch that it received,
 -- of one that the device fails, or of one after a fault; and none where it received nothing.
@@ -42,7 +42,7 @@ pub record FlushLeadsOn {D : Type 0} (f g : FlusherState D) (answer : Result Flu
   pub adds : Adds f g more told
   pub letters : List (Option ℕ)
   pub leads : (folds : ℕ) → LeadsToPast w
-      (flush_events received (is_ok answer) f.writer.is_broken letters folds) (group_behind g)
+      (flush_events received (is_ok answer) f.writer.is_broken letters folds) (group_after g)
       terminals (safe ++ more) (given ++ told)
 
 -- A flusher's turn is a step of its group's past, in each world that it may be in. By the desk's
@@ -51,7 +51,7 @@ abbrev pub FlushesLeadOn : (D : Type 0) → (D → DiskState) → Type 0
 FlushesLeadOn D state = (f g : FlusherState D) (answer : Result FlushCounts KeeperFault)
     → IsFlush state f g answer
     → (w : World) (terminals : Terminals) (safe : List Entry) (given : List Taken)
-    → IsPastOf w (group_behind f) terminals safe given → TakesAsks (group_behind g) terminals
+    → IsPastOf w (group_after f) terminals safe given → TakesAsks (group_after g) terminals
     → FlushLeadsOn f g answer w terminals safe given
 
 -- A split of a clerk is no event,
@@ -61,7 +61,7 @@ SplitsKeepPasts D P = (w : World) (clerk : ClerkState D P) (f : FlusherState D)
     → f.desk ≡ clerk.desk → f.seat ≡ clerk.seat → f.writer ≡ clerk.keeper.writer
     → (clerk.keeper.writer.is_broken ≡ false → f.end.state ≡ clerk.keeper.state)
     → IsPastOf w (group_of clerk) terminals safe given
-    → IsPastOf w (group_behind f) terminals safe given
+    → IsPastOf w (group_after f) terminals safe given
 
 -- and nor is a rejoining of its parts.
 abbrev pub JoinedKeepPasts : (D P : Type 0) → Type 0
@@ -69,5 +69,5 @@ JoinedKeepPasts D P = (w : World) (clerk : ClerkState D P) (f : FlusherState D)
     (terminals : Terminals) (safe : List Entry) (given : List Taken)
     → clerk.desk ≡ f.desk → clerk.seat ≡ f.seat → clerk.keeper.writer ≡ f.writer
     → clerk.keeper.state ≡ f.end.state
-    → IsPastOf w (group_behind f) terminals safe given
+    → IsPastOf w (group_after f) terminals safe given
     → IsPastOf w (group_of clerk) terminals safe given

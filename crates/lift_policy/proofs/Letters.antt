@@ -80,8 +80,8 @@ lacking : (placed rest : Bool) → (placed && (false && rest)) ≡ false
 lacking true rest = refl
 lacking false rest = refl
 
-pub none_behind : (plan : Plan) (view : ViewState) (call : NewCall) → NoneFrom (is_eligible plan view call) (length plan.cars)
-none_behind plan view call car behind =
+pub none_after : (plan : Plan) (view : ViewState) (call : NewCall) → NoneFrom (is_eligible plan view call) (length plan.cars)
+none_after plan view call car behind =
     let none : serves_floor plan car call.from ≡ false = ap (λ c. get_or c.served call.from false) (get_or_past plan.cars car (record { places = 0; served = [] }) behind) in
     rw none (lacking (is_some (position_of view.positions car)) (serves_floor plan car call.to && nat_le (persons_of (rows_of view.register car) + call.party) (places_of plan car)))
 
@@ -103,6 +103,6 @@ eligible_so_far plan view call letters n all few so_far =
     let p = is_eligible plan view call in
     let e : n + (16 - n) ≡ 16 = omega arith in
     so_far
-    ∙ none_above p n (16 - n) (λ number h. none_behind plan view call number (omega arith))
+    ∙ none_above p n (16 - n) (λ number h. none_after plan view call number (omega arith))
     ∙ ap (λ (m : ℕ). filter p (range_with_len 0 m)) e
     ∙ sym (eligible_cars-is plan view call)

@@ -11,7 +11,7 @@ use Rattle.lift_policy.specs.declared.policies.Shipped.{Shipped}
 use Rattle.lift_serve.specs.Open.{ServingEndState}
 use Rattle.lift_serve.specs.lemmas.Opened.{keeps_over}
 use Rattle.lift_program.proofs.Writing.{said_front}
-use Rattle.lift_program.specs.Ends.{AreReadyFor, EndOver, IsEndFor, IsEndOf, IsInputLeft, SaysFront, WritesFor}
+use Rattle.lift_program.specs.Ends.{AreReadyFor, EndOver, IsEndFor, IsEndOf, IsInputLeft, SaysPrefix, WritesFor}
 use Rattle.lift_program.specs.Serving.{IsServedOver, IsServing}
 use Rattle.lift_program.specs.declared.fault.Fault.{Fault}
 use Rattle.lift_program.specs.declared.words.Request.TheVariants.{Replay, Format, Show, Serve}
@@ -98,7 +98,7 @@ served_end files gives input words before after keeper listener port sessions po
         subst (λ (n : ℕ). IsServing files (gives asked) image.now building.now named n fault left ending) many
             (subst (λ (p : Shipped). IsServing files (gives asked) image.now building.now p sessions fault left ending) by_policy serving),
       ),
-      subst (λ (p : ℕ). SaysFront p before after) at (said_front port before after said),
+      subst (λ (p : ℕ). SaysPrefix p before after) at (said_front port before after said),
     )
 
 -- what is so of all requests but a replay is so where the words ask for none

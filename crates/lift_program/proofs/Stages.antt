@@ -8,7 +8,7 @@ use Rattle.lift_building.specs.Plan.{Plan, IsBuilding, shape_of}
 use Rattle.lift_building.specs.declared.fault.BuildingFault.{BuildingFault}
 use Rattle.lift_building.specs.declared.fault.BuildingFault.TheVariants.{NotToml, Missing, WrongType, OutOfRange, TableShape, Detour, Memory as NoRoom}
 use Rattle.lift_disk.specs.Disk.{DiskState, IsSynced, RunsOn}
-use Rattle.lift_journal.specs.Calls.{MakesFront, format_calls}
+use Rattle.lift_journal.specs.Calls.{MakesPrefix, format_calls}
 use Rattle.lift_journal.specs.Journal.{ReadsAs}
 use Rattle.lift_serve.specs.lemmas.Made.{made_keeps}
 use Rattle.lift_journal.specs.declared.fault.JournalFault.TheVariants.{Disk, NotFormatted, Damaged, Full, Broken}
@@ -28,7 +28,7 @@ use Rattle.lift_program.specs.Ends.{IsFileFault, IsMadeWith, IsUnformatted, IsRe
 use Rattle.lift_program.specs.Faults.{of_building}
 use Rattle.std.specs.declared.net.tcp.TcpListener.{TcpListener as Listener}
 use Rattle.lift_program.specs.Serving.{IsReadyOver}
-use Rattle.lift_program.specs.Showing.{ShowsFront, ShowsPart}
+use Rattle.lift_program.specs.Showing.{ShowsPrefix, ShowsPart}
 use Rattle.lift_program.specs.Stages.{HasBuilding, HasKeeperOf, HasNoImage, HasNoKeeperOf, HasRecovered, IsBuildingFault, IsImageFault, IsLeftAs, IsNoImage, IsOpeningFault, IsFailure, IsKeeperFailure, ReadsBuilding, GoesNoFurther, most_text}
 use Rattle.lift_program.specs.declared.leftover.Failure.{Failure}
 use Rattle.lift_program.specs.declared.leftover.Failure.TheVariants.{NoBuilding, NoImage, Opened}
@@ -96,7 +96,7 @@ is_made files path building plan half image left told same has sound fresh runs 
 
 -- the journal couldn't be made
 pub is_unformatted : (files : CommandFiles) (path building : List ℕ) (plan : Plan) (half : ℕ) (image left told : files.image.Made) (fault : Fault) → told ≡ left → HasBuilding (files.is_text building) plan → files.image.is_just_made path (2 + 2 * half) image
-    → fault ≡ Journal (OfJournal Disk) → MakesFront (format_calls (shape_of plan half)) (files.image.made_state image) (files.image.made_state left) → RunsOn (files.image.made_state image) (files.image.made_state left)
+    → fault ≡ Journal (OfJournal Disk) → MakesPrefix (format_calls (shape_of plan half)) (files.image.made_state image) (files.image.made_state left) → RunsOn (files.image.made_state image) (files.image.made_state left)
     → (files.image.made_state image).failures < (files.image.made_state left).failures → IsUnformatted files path building half fault told
 is_unformatted files path building plan half image left told fault same has fresh is stops runs failed =
     subst (λ (d : files.image.Made). IsUnformatted files path building half fault d) (sym same)
@@ -208,7 +208,7 @@ output_left is_text files path plan keeper left fault has opened is (inr memory)
 
 recovered_left : {D : Type 0} (is_text : List ℕ → Type 0) (is_fresh : D → Type 0) (state : D → DiskState) (plan : Plan) (opened left : D) (before after : Option (List ℕ)) (fault : Fault) → HasBuilding is_text plan
     → is_fresh opened → (HasRecovered plan (state opened) (state left) → GoesNoFurther plan (state opened) (state left) fault)
-    → ShowsFront plan (state opened) (state left) before after → IsLeftAs is_text is_fresh state fault left
+    → ShowsPrefix plan (state opened) (state left) before after → IsLeftAs is_text is_fresh state fault left
 recovered_left is_text is_fresh state plan opened left before after fault has fresh stops shows =
     let r = shows.recovers in
     record {
@@ -225,7 +225,7 @@ recovered_left is_text is_fresh state plan opened left before after fault has fr
 shown_left : {D : Type 0} (is_text : List ℕ → Type 0) (is_fresh : D → Type 0) (state : D → DiskState) (plan : Plan) (opened left : D) (before after : Option (List ℕ)) (fault : Fault) → HasBuilding is_text plan
     → is_fresh opened → IsShowingFault fault
     → ((refusal : KeeperFault) → fault ≡ Journal refusal → RefusesReopening plan (state opened) (state left) refusal)
-    → (IsFileFault Output fault → ShowsFront plan (state opened) (state left) before after) → IsLeftAs is_text is_fresh state fault left
+    → (IsFileFault Output fault → ShowsPrefix plan (state opened) (state left) before after) → IsLeftAs is_text is_fresh state fault left
 shown_left is_text is_fresh state plan opened left before after (Building fault) has fresh is refused front = absurd is
 shown_left is_text is_fresh state plan opened left before after (Journal fault) has fresh is refused front =
     let r = refused fault refl in
@@ -243,14 +243,14 @@ shown_left is_text is_fresh state plan opened left before after Thread has fresh
 pub showing_left : {D : Type 0} (is_text : List ℕ → Type 0) (is_fresh : D → Type 0) (state : D → DiskState) (plan : Plan) (opened left told : D) (before after : Option (List ℕ)) (fault : Fault) → told ≡ left → HasBuilding is_text plan
     → is_fresh opened → IsShowingFault fault
     → ((refusal : KeeperFault) → fault ≡ Journal refusal → RefusesReopening plan (state opened) (state left) refusal)
-    → (IsFileFault Output fault → ShowsFront plan (state opened) (state left) before after) → IsLeftAs is_text is_fresh state fault told
+    → (IsFileFault Output fault → ShowsPrefix plan (state opened) (state left) before after) → IsLeftAs is_text is_fresh state fault told
 showing_left {D} is_text is_fresh state plan opened left told before after fault same has fresh is refused front =
     subst (λ (d : D). IsLeftAs is_text is_fresh state fault d) (sym same) (shown_left is_text is_fresh state plan opened left before after fault has fresh is refused front)
 
 -- what was written of a journal on an image whose showing failed
 pub showing_part : (files : CommandFiles) (path building : List ℕ) (plan : Plan) (opened left : files.image.Shown) (before after : Option (List ℕ)) (fault : Fault) → HasBuilding (files.is_text building) plan
     → files.image.is_to_be_shown path opened → IsShowingFault fault → IsReportOfFault fault before after
-    → (IsFileFault Output fault → ShowsFront plan (files.image.shown_state opened) (files.image.shown_state left) before after) → ShowsPart files path building before after
+    → (IsFileFault Output fault → ShowsPrefix plan (files.image.shown_state opened) (files.image.shown_state left) before after) → ShowsPart files path building before after
 showing_part files path building plan opened left before after (Building fault) described fresh is written front = absurd is
 showing_part files path building plan opened left before after (Journal fault) described fresh is written front = inl written
 showing_part files path building plan opened left before after (File OfBuilding) described fresh is written front = absurd is

@@ -10,17 +10,17 @@ use Rattle.lift_base.specs.Output.{OutputState}
 use Rattle.lift_building.specs.Plan.{Plan, shape_of}
 use Rattle.lift_disk.specs.Disk.{LeavesNow, RunsOn}
 use Rattle.lift_disk.specs.declared.file.FileFault.{FileFault}
-use Rattle.lift_journal.specs.Calls.{MakesFront, format_calls}
+use Rattle.lift_journal.specs.Calls.{MakesPrefix, format_calls}
 use Rattle.lift_journal.specs.declared.fault.JournalFault.TheVariants.{Disk}
 use Rattle.lift_keeper.specs.Keeper.{KeeperView}
 use Rattle.lift_keeper.specs.declared.fault.KeeperFault.TheVariants.{Journal as OfJournal}
 use Rattle.lift_policy.specs.declared.policies.Shipped.{Shipped}
 use Rattle.lift_register.specs.Register.{empty}
-use Rattle.lift_clerk.specs.Keeping.{KeepsFront}
+use Rattle.lift_clerk.specs.Keeping.{KeepsPrefix}
 use Rattle.lift_replay.specs.declared.lines.Verdict.{Verdict}
 use Rattle.lift_replay.specs.declared.lines.Verdict.TheVariants.{Good, Bad}
 use Rattle.lift_replay.specs.Reading.{IsInputRead}
-use Rattle.lift_replay.specs.Replaying.{ReportsFront, ReportsInput}
+use Rattle.lift_replay.specs.Replaying.{ReportsPrefix, ReportsInput}
 use Rattle.lift_serve.specs.Open.{ServingEndState}
 use Rattle.lift_program.specs.Faults.{fault_text, usage_text}
 use Rattle.lift_program.specs.Output.{IsWrittenOrFailed, SaysText}
@@ -173,7 +173,7 @@ pub record IsMadeWith (files : CommandFiles) (image building : List ℕ) (half :
   pub failures : (files.image.made_state left).failures ≡ 0
   pub honest : (files.image.made_state opened).is_honest → (files.image.made_state left).is_honest
   pub keeps : LeavesNow (files.image.made_state left)
-      (KeepsFront files.image.Served plan empty [] [])
+      (KeepsPrefix files.image.Served plan empty [] [])
 
 -- the journal that was asked for, at the path that was named
 abbrev pub IsMadeFor : (files : CommandFiles) → Request → files.image.Made → Type 0
@@ -208,7 +208,7 @@ pub record IsUnformatted (files : CommandFiles) (image building : List ℕ) (hal
   pub opened : files.image.Made
   pub fresh : files.image.is_just_made image (2 + 2 * half) opened
   pub is_fault : fault ≡ Journal (OfJournal Disk)
-  pub front : MakesFront (format_calls (shape_of plan half)) (files.image.made_state opened)
+  pub front : MakesPrefix (format_calls (shape_of plan half)) (files.image.made_state opened)
       (files.image.made_state left)
   pub runs : RunsOn (files.image.made_state opened) (files.image.made_state left)
   pub failed : (files.image.made_state opened).failures < (files.image.made_state left).failures
@@ -254,7 +254,7 @@ IsUncalled old = (old.calls ≡ 0) × (old.failed ≡ false) × (old.ended ≡ f
 -- What was written is the report of the input, with this verdict; or a prefix of it.
 abbrev pub ReportsAll : (input before after : Option (List ℕ)) → Result Verdict Fault → Type 0
 ReportsAll input before after (Ok verdict) = ReportsInput input before after verdict
-ReportsAll input before after (Err fault) = ReportsFront input before after
+ReportsAll input before after (Err fault) = ReportsPrefix input before after
 
 -- A script couldn't be read: a call of its reader failed, or all were used and its end was not
 -- found.
@@ -400,20 +400,20 @@ abbrev pub serving_text : ℕ → List ℕ
 serving_text port = codes "serving " ++ decimal port ++ 10 ∷ []
 
 -- what says that a port is served was written, or a prefix of it
-abbrev pub SaysFront : ℕ → (before after : Option (List ℕ)) → Type 0
-SaysFront port before after = (count : ℕ) × Appends before after (take count (serving_text port))
+abbrev pub SaysPrefix : ℕ → (before after : Option (List ℕ)) → Type 0
+SaysPrefix port before after = (count : ℕ) × Appends before after (take count (serving_text port))
 
 -- What is written for a request, however it ends: for a script a prefix of the report of the input;
 -- for a journal that is made nothing; for one that is shown a prefix of its open calls; for a
 -- serving a prefix of what says so.
 abbrev pub WritesFor : CommandFiles → (input : Option (List ℕ)) → Request
     → (before after : Option (List ℕ)) → Type 0
-WritesFor files input Replay before after = ReportsFront input before after
+WritesFor files input Replay before after = ReportsPrefix input before after
 WritesFor files input (Format image building half) before after = after ≡ before
 WritesFor files input (Show image building) before after =
     ShowsPart files image.now building.now before after
 WritesFor files input (Serve image building port sessions policy) before after =
-    SaysFront port before after
+    SaysPrefix port before after
 
 -- What these words come to: an end of what they ask for; want of memory for them, with nothing
 -- written; or, where they ask for nothing, other words. In these two nothing was asked of an image.

@@ -2,7 +2,7 @@
 use Rattle.std.specs.Prelude.{ℕ, ◌≡◌, ◌⊎◌, Bool, true, false, Option, List, OnOk, Result, Err}
 use Rattle.std.specs.Prelude.{take}
 use Rattle.std.specs.Io.KnownBytes.{Appends}
-use Rattle.lift_base.specs.Output.{OutputState, Takes, TakesFront, sink_of}
+use Rattle.lift_base.specs.Output.{OutputState, Takes, TakesPrefix, sink_of}
 use Rattle.lift_replay.specs.Writing.{TakesSomeEachCall, FailsAtLast}
 use Rattle.lift_program.specs.declared.fault.Fault.{Fault}
 use Rattle.lift_program.specs.declared.fault.Fault.TheVariants.{File, Memory}
@@ -14,7 +14,7 @@ abbrev pub IsWrittenOrFailed : {W : Type 0} → (W → Option (List ℕ)) → (o
     → Type 0
 IsWrittenOrFailed contents old new bytes =
     Takes bytes (sink_of contents old) (sink_of contents new)
-    ⊎ ((count : ℕ) × TakesFront count bytes (sink_of contents old) (sink_of contents new))
+    ⊎ ((count : ℕ) × TakesPrefix count bytes (sink_of contents old) (sink_of contents new))
 
 -- Each call of the writer took a byte at least, and then it was flushed.
 abbrev pub IsFlushed : {W : Type 0} → (gives : W → List ℕ → Option ℕ → W → Type 0)

@@ -10,7 +10,7 @@ use Rattle.lift_register.specs.Register.{RegisterState}
 use Rattle.lift_policy.specs.Choices.{IsShipped}
 use Rattle.lift_policy.specs.declared.policies.Shipped.{Shipped}
 use Rattle.lift_world.specs.declared.event.Taken.{Taken}
-use Rattle.lift_clerk.specs.Keeping.{KeepsFront}
+use Rattle.lift_clerk.specs.Keeping.{KeepsPrefix}
 use Rattle.lift_serve.specs.Keeping.{KeepsOver}
 use Rattle.lift_serve.specs.Open.{AreEndedAt, ServingEndState}
 use Rattle.lift_serve.specs.Relaying.{IsServingOutcome}
@@ -58,6 +58,6 @@ pub record IsServing (files : CommandFiles) (gives : Option Listener → Type 0)
   pub keeps : (files.image.served_state ready.has.opened).is_honest → (base : RegisterState)
       (accepted : List Entry) (given : List Taken)
       → LeavesNow (files.image.served_state ready.has.opened)
-      (KeepsFront files.image.Served ready.plan base accepted given)
+      (KeepsPrefix files.image.Served ready.plan base accepted given)
       → KeepsOver IsShipped files.image.served_state ready.plan ready.has.opened policy keeper
       served.last ending.fault served.comes base accepted given

@@ -32,7 +32,7 @@ pub record ShowsRegister (plan : Plan) (old new : DiskState)
   pub written : Appends before after (register_text register)
 
 -- A prefix of them was.
-pub record ShowsFront (plan : Plan) (old new : DiskState)
+pub record ShowsPrefix (plan : Plan) (old new : DiskState)
     (before after : Option (List ℕ)) : Type 0 where
   pub register : RegisterState
   pub recovers : RecoversRegister plan old new register
@@ -41,21 +41,21 @@ pub record ShowsFront (plan : Plan) (old new : DiskState)
 
 -- A prefix of them was, of a journal in the file that was opened at this path, and of a building
 -- that the text describes which was read from its file.
-pub record ShowsFrontOfFile (files : CommandFiles) (image building : List ℕ)
+pub record ShowsPrefixOfFile (files : CommandFiles) (image building : List ℕ)
     (before after : Option (List ℕ)) : Type 0 where
   pub plan : Plan
   pub described : HasBuilding (files.is_text building) plan
   pub opened : files.image.Shown
   pub fresh : files.image.is_to_be_shown image opened
   pub left : files.image.Shown
-  pub front : ShowsFront plan (files.image.shown_state opened) (files.image.shown_state left)
+  pub front : ShowsPrefix plan (files.image.shown_state opened) (files.image.shown_state left)
       before after
 
 -- nothing was written, or such a prefix
 abbrev pub ShowsPart : CommandFiles → (image building : List ℕ)
     → (before after : Option (List ℕ)) → Type 0
 ShowsPart files image building before after =
-    (after ≡ before) ⊎ ShowsFrontOfFile files image building before after
+    (after ≡ before) ⊎ ShowsPrefixOfFile files image building before after
 
 -- The open calls of the journal in the file that was opened at this path were written, of a building
 -- that the text describes which was read from its file. Of the image's no call failed, and none was a

@@ -3,7 +3,7 @@
 ghost use Rattle.std.specs.Prelude.{◌≡◌, Some, None, IfOk, IfErr, OnOk, OnErr};
 ghost use Rattle.std.specs.Io.KnownBytes.{Appends};
 ghost use Rattle.lift_program.specs.Ends.{IsFileFault, IsQuietUntil, IsReportOfFault, IsSocketHad};
-ghost use Rattle.lift_program.specs.Ends.{SaysFront, serving_text};
+ghost use Rattle.lift_program.specs.Ends.{SaysPrefix, serving_text};
 ghost use Rattle.lift_program.specs.Listening.{local};
 ghost use Rattle.lift_program.specs.Output.{IsFlushed, IsPassedOnOrFailed, WriterHasFailed};
 ghost use Rattle.lift_program.specs.Serving.{IsReadyOver};
@@ -60,7 +60,7 @@ fn say<W: Outflow>(port: u16, writer: &mut W) -> Result<(), Fault>
     ensures said { OnOk result
         (Appends (W.contents writer.old) (W.contents writer.new) (serving_text port)) }
     ensures front { OnErr result
-        (SaysFront port (W.contents writer.old) (W.contents writer.new)) }
+        (SaysPrefix port (W.contents writer.old) (W.contents writer.new)) }
     ensures fault { IfErr result (IsFileFault Output) }
     ensures passed_on { IsPassedOnOrFailed W.gives W.flushes writer.old writer.new result }
 {
@@ -118,7 +118,7 @@ pub(crate) fn ready_for<'b, B: TextOpener, I: FileOpener, L: Listens, W: Outflow
         (⟦<Files<B, I> as FilesView>⟧.view openers.files) image.now building.now) }
     ensures report { IfErr result (λ failure.
         IsReportOfFault (fault_in failure) (W.contents writer.old) (W.contents writer.new)) }
-    ensures front { SaysFront port (W.contents writer.old) (W.contents writer.new) }
+    ensures front { SaysPrefix port (W.contents writer.old) (W.contents writer.new) }
     // Nothing is said until the socket was had.
     ensures quiet { IfErr result (λ failure. IsQuietUntil
         (IsSocketHad (L.gives openers.socket local port)) failure (W.contents writer.old)

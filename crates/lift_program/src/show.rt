@@ -8,7 +8,7 @@ ghost use Rattle.lift_replay.specs.Report.{register_text};
 ghost use Rattle.lift_program.specs.Ends.{IsFileFault, IsReportOfFault, IsShowingFault};
 ghost use Rattle.lift_program.specs.Ends.{IsQuietUntil, HasShowingFault};
 ghost use Rattle.lift_program.specs.Output.{WriterHasFailed, IsFlushed, IsPassedOnOrFailed};
-ghost use Rattle.lift_program.specs.Showing.{IsShown, ShowsRegister, ShowsFront, ShowsPart};
+ghost use Rattle.lift_program.specs.Showing.{IsShown, ShowsRegister, ShowsPrefix, ShowsPart};
 ghost use Rattle.lift_program.specs.Stages.{IsShowingFailure, fault_in};
 ghost use Rattle.lift_program.specs.declared.fault.Fault.TheVariants.{Journal as OfJournal};
 ghost use Rattle.lift_program.specs.declared.fault.Role.TheVariants.{Output};
@@ -56,7 +56,7 @@ fn show_on<D: Disk + Drop, W: Outflow>(
     ensures flushed { OnOk result.1 (IsFlushed W.gives W.flushes writer.old writer.new) }
     // or a prefix of them, where they can't be written.
     ensures front { IfErr result.1 (λ fault. IsFileFault Output fault
-        → ShowsFront building.now (D.state disk) (D.state result.0) (W.contents writer.old)
+        → ShowsPrefix building.now (D.state disk) (D.state result.0) (W.contents writer.old)
         (W.contents writer.new)) }
     // Where the recovery is refused its cause is answered, and nothing is written.
     ensures refused { (fault : Refusal) → result.1 ≡ Err (OfJournal fault)

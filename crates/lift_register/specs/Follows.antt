@@ -8,17 +8,17 @@ use Rattle.lift_base.specs.declared.history.Row.{Row}
 use Rattle.lift_register.specs.Status.{status_of, row_with}
 
 -- an open call after an entry: a stop of its own car serves it, and no other entry changes it
-abbrev pub row_behind : Entry → Row → List Row
-row_behind (Allot kiosk number from to car party) row = row ∷ []
-row_behind (Stop car number floor dir) row =
+abbrev pub row_left_by : Entry → Row → List Row
+row_left_by (Allot kiosk number from to car party) row = row ∷ []
+row_left_by (Stop car number floor dir) row =
     if row.car == car then row_after (record { floor = floor; dir = dir }) row else row ∷ []
 
 -- open calls after entries, one after another
-abbrev pub rows_behind : List Entry → List Row → List Row
-rows_behind [] rows = rows
-rows_behind (entry ∷ later) rows = rows_behind later (flat_map (row_behind entry) rows)
+abbrev pub rows_left_by : List Entry → List Row → List Row
+rows_left_by [] rows = rows
+rows_left_by (entry ∷ later) rows = rows_left_by later (flat_map (row_left_by entry) rows)
 
 -- After any entries an open call is what its status says.
 abbrev pub RowsFollow : Type 0
 RowsFollow = (row : Row) (entries : List Entry)
-    → rows_behind entries (row ∷ []) ≡ row_with row (status_of row entries)
+    → rows_left_by entries (row ∷ []) ≡ row_with row (status_of row entries)

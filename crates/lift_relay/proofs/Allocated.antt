@@ -18,12 +18,12 @@ use Rattle.lift_policy.specs.declared.command.Command.{Command}
 use Rattle.lift_clerk.specs.Visits.{commands_of, looked_at}
 use Rattle.std.proofs.lemmas.List.{length-map}
 use Rattle.lift_parts.specs.declared.taken.NotedCommand.{NotedCommand}
-use Rattle.lift_parts.specs.Batch.{BatchState, turns_behind, turns_of, turns_after, commands_in, replies_in, noted_in}
+use Rattle.lift_parts.specs.Batch.{BatchState, next_turns, turns_of, turns_after, commands_in, replies_in, noted_in}
 use Rattle.lift_parts.specs.Line.{SendState, Tries, tried, Begins, IsNextBatch, SendsOne, WasFull, FindsNoRoom}
 use Rattle.lift_parts.specs.Scan.{ScansAhead, TakesEach, turns_in}
 use Rattle.lift_relay.specs.Scanner.{ScannerState, MakesBatch, HasScanned}
 use Rattle.lift_relay.proofs.Queues.{full_by}
-use Rattle.lift_parts.specs.Allocator.{AllocatorState, DecidesAlong, GoesOnBehind, IsAllocator, IsScanTurn, IsAllocation, tries_behind}
+use Rattle.lift_parts.specs.Allocator.{AllocatorState, DecidesAlong, GoesOnAfter, IsAllocator, IsScanTurn, IsAllocation, tries_after}
 
 -- one batch more
 pub along_more : (plan : Plan) (choice : Choice) (start mid decided : State) (batches : List BatchState) (batch : BatchState) → DecidesAlong plan choice start batches mid
@@ -58,19 +58,19 @@ makes choice a seat decided taken entries plan before after seats batch is seate
   entries = ap (λ (b : BatchState). b.entries) is ∙ same;
   next = record { of_building = ap (λ (b : BatchState). b.building) is ∙ building; at_desk = ap (λ (b : BatchState). b.desk) is; on_state = ap (λ (b : BatchState). b.before) is ∙ on; on_turns = ap (λ (b : BatchState). b.turns) is ∙ ap turns_of of_seat };
   leads = ap (λ (b : BatchState). b.after) is ∙ leads;
-  turns = sym turns ∙ ap (λ l. turns_after (turns_of l) taken) (sym of_seat) ∙ ap turns_behind (sym is);
+  turns = sym turns ∙ ap (λ l. turns_after (turns_of l) taken) (sym of_seat) ∙ ap next_turns (sym is);
 }
 
 -- with no batch in hand what is shown and the turns are those after all that was sent
-pub level : (plan : Plan) (desk : List TableId) (sent : State) (turns : List ℕ) (hand : List BatchState) (shown : State) (used : List ℕ) → hand ≡ [] → GoesOnBehind plan desk sent turns hand shown used
+pub level : (plan : Plan) (desk : List TableId) (sent : State) (turns : List ℕ) (hand : List BatchState) (shown : State) (used : List ℕ) → hand ≡ [] → GoesOnAfter plan desk sent turns hand shown used
     → (shown ≡ sent) × (used ≡ turns)
 level plan desk sent turns [] shown used none goes = goes
 level plan desk sent turns (b ∷ []) shown used none goes = absurd (cc)
 level plan desk sent turns (b ∷ c ∷ bs) shown used none goes = absurd (cc)
 
-pub behind_none : (plan : Plan) (desk : List TableId) (sent : State) (turns : List ℕ) (hand : List BatchState) (shown : State) (used : List ℕ) → hand ≡ [] → shown ≡ sent → used ≡ turns
-    → GoesOnBehind plan desk sent turns hand shown used
-behind_none plan desk sent turns hand shown used none same still = subst (λ (l : List BatchState). GoesOnBehind plan desk sent turns l shown used) (sym none) (same, still)
+pub after_none : (plan : Plan) (desk : List TableId) (sent : State) (turns : List ℕ) (hand : List BatchState) (shown : State) (used : List ℕ) → hand ≡ [] → shown ≡ sent → used ≡ turns
+    → GoesOnAfter plan desk sent turns hand shown used
+after_none plan desk sent turns hand shown used none same still = subst (λ (l : List BatchState). GoesOnAfter plan desk sent turns l shown used) (sym none) (same, still)
 
 -- the new batch is sent
 pub sent_one : {P : Type 0} (choice : Choice) (a : AllocatorState P) (seat : List ClerkPlace) (decided state : State) (plan : Plan) (batch : BatchState) (end : SendState)
@@ -87,7 +87,7 @@ sent_one choice a seat decided state plan batch end is none made of_plan settles
       all_sealed = ap (λ (s : State). s.batch) settles;
       decides = subst (λ (p : Plan × List BatchState × State). DecidesAlong p.0 choice a.start p.1 p.2) (λ i. (sym of_plan i, same i, sym settles i)) along;
       few = let used = made.uses in let was = is.few in omega (arith, ap length sent.sends, length-append a.end.sent (batch ∷ []));
-      goes_on = behind_none plan a.desk end.state end.turns a.hand state (turns_of seat) none (settles ∙ sym made.leads ∙ sym sent.state) (made.turns ∙ sym sent.turns);
+      goes_on = after_none plan a.desk end.state end.turns a.hand state (turns_of seat) none (settles ∙ sym made.leads ∙ sym sent.state) (made.turns ∙ sym sent.turns);
     }
 
 -- the line has no room for it
@@ -111,7 +111,7 @@ held_one choice a seat decided state plan batch back end is none made of_plan se
       goes_on = (
         subst (λ (p : Plan × State × List ℕ × BatchState). IsNextBatch p.0 a.desk p.1 p.2 p.3) (λ i. (sym of_plan i, shown i, used i, sym is_back i)) made.next,
         settles ∙ sym made.leads ∙ ap (λ (b : BatchState). b.after) (sym is_back),
-        made.turns ∙ ap turns_behind (sym is_back),
+        made.turns ∙ ap next_turns (sym is_back),
       );
     }
 
@@ -123,7 +123,7 @@ pub record Between {P : Type 0} (old a : AllocatorState P) : Type 0 where
   pub line : a.end.line ≡ old.end.line
   pub same : a ≡ record old { end = a.end; hand = [] }
   pub later : Begins old.end.gone a.end.gone
-  pub tries : a.end.tries ≡ tries_behind old.hand old.end.tries
+  pub tries : a.end.tries ≡ tries_after old.hand old.end.tries
 
 then_later : (first mid last : List BatchState) → Begins first mid → Begins mid last → Begins first last
 then_later first mid last a b = (a.0 ++ b.0, b.1 ∙ ap (λ l. l ++ b.0) a.1 ∙ append_assoc first a.0 b.0)
@@ -222,7 +222,7 @@ module _ {P : Type 0} (chooses : P → Choice) (s n : ScannerState P) (end : Sen
           at_desk = is.at_desk;
           all_sealed = ap (λ (x : State). x.batch) stays ∙ is.all_sealed;
           decides = subst (λ (x : State). DecidesAlong s.plan (chooses s.policy) s.start (end.sent ++ hand) x) (sym stays) is.decides;
-          goes_on = subst (λ (p : State × List ℕ). GoesOnBehind s.plan s.desk end.state end.turns hand p.0 p.1) (λ i. (sym stays i, sym same_turns i)) is.goes_on;
+          goes_on = subst (λ (p : State × List ℕ). GoesOnAfter s.plan s.desk end.state end.turns hand p.0 p.1) (λ i. (sym stays i, sym same_turns i)) is.goes_on;
           few = let used = scan.uses in let was = is.few in omega arith;
         })
 

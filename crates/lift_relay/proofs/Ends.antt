@@ -17,7 +17,7 @@ receives_at line building desk v tries = record {
   building = building;
   desk = desk;
   state = v.behind;
-  turns = v.turns_behind;
+  turns = v.next_turns;
   tries = tries;
 }
 

@@ -7,7 +7,7 @@ use Rattle.crossbeam_queue.proofs.Lists.{at_set, at_snoc}
 use Rattle.atomic_table.specs.Seated.{TableId}
 use Rattle.lift_building.specs.Plan.{Plan}
 use Rattle.lift_policy.specs.Step.{State}
-use Rattle.lift_parts.specs.Batch.{BatchState, turns_behind}
+use Rattle.lift_parts.specs.Batch.{BatchState, next_turns}
 use Rattle.lift_relay.specs.declared.line.EndView.{EndView}
 use Rattle.lift_parts.specs.Line.{Begins, IsNextBatch}
 use Rattle.lift_relay.specs.Rule.{opening, opening_view, begun_with, sending, receiving, most_batches, with_both_passes, told_both, spent_pass, LineLists, EndFits, IsLineInOrder, IsLineKept, Named, Begun, Sent, Received, SentAllBut, ReceivedBefore, HoldsUnreceived}
@@ -17,9 +17,9 @@ off : {A : Type 0} → false ≡ true → A
 off e = absurd (true≢false (sym e))
 
 goes_on_more : (building : Plan) (desk : List TableId) (first mid : State) (turns used : List ℕ) (batches : List BatchState) (batch : BatchState) → BatchesGoOn building desk first turns batches mid used
-    → IsNextBatch building desk mid used batch → BatchesGoOn building desk first turns (batches ++ batch ∷ []) batch.after (turns_behind batch)
+    → IsNextBatch building desk mid used batch → BatchesGoOn building desk first turns (batches ++ batch ∷ []) batch.after (next_turns batch)
 goes_on_more building desk first mid turns used [] batch so next = (subst (λ (p : State × List ℕ). IsNextBatch building desk p.0 p.1 batch) (λ i. (sym so.0 i, sym so.1 i)) next, (refl, refl))
-goes_on_more building desk first mid turns used (b ∷ batches) batch so next = (so.0, goes_on_more building desk b.after mid (turns_behind b) used batches batch so.1 next)
+goes_on_more building desk first mid turns used (b ∷ batches) batch so next = (so.0, goes_on_more building desk b.after mid (next_turns b) used batches batch so.1 next)
 
 fit_set : (l : LineLists) (views : List EndView) (id : ℕ) (w : EndView) → EndFits l id w
     → ((j : ℕ) (u : EndView) → j ≢ id → get_elem? views j ≡ some u → EndFits l j u) → (j : ℕ) (u : EndView) → get_elem? (set views id w) j ≡ some u → EndFits l j u
@@ -94,7 +94,7 @@ starts id v first is batch items views h at =
       ahead = batch.before;
       behind = batch.before;
       turns_ahead = batch.turns;
-      turns_behind = batch.turns;
+      next_turns = batch.turns;
     } in
     let mine : EndFits lists 0 (begun_with batch) = record { begun = refl; sends = λ _. (refl, refl, ([], refl), refl, refl, refl, refl); receives = λ _. (refl, refl, ([], refl), refl, refl, refl, refl) } in (
       begun_with batch,
@@ -112,11 +112,11 @@ sends_on : (n id : ℕ) (v : EndView) (batch : BatchState) → n ≡ 4 → v.sen
     → IsLineInOrder items views → get_elem? views id ≡ some v → (w : EndView) × IsLineInOrder (items ++ batch ∷ []) (set views id w) × Sent v batch w
 sends_on n id v batch four may room next items views few h at =
     let l = h.lists in
-    let w : EndView = record v { sent = v.sent ++ batch ∷ []; gone = l.received; ahead = batch.after; turns_ahead = turns_behind batch } in
+    let w : EndView = record v { sent = v.sent ++ batch ∷ []; gone = l.received; ahead = batch.after; turns_ahead = next_turns batch } in
     let mine = h.fits id v at in
     let a = mine.sends may in
     let sent = l.sent ++ batch ∷ [] in
-    let more : LineLists = record l { sent = sent; ahead = batch.after; turns_ahead = turns_behind batch } in
+    let more : LineLists = record l { sent = sent; ahead = batch.after; turns_ahead = next_turns batch } in
     let order = ap (λ x. x ++ batch ∷ []) h.in_order ∙ append_assoc l.received items (batch ∷ []) in
     let here : IsNextBatch l.building l.desk l.ahead l.turns_ahead batch = record { of_building = next.of_building ∙ a.3; at_desk = next.at_desk ∙ a.4; on_state = next.on_state ∙ a.5; on_turns = next.on_turns ∙ a.6 } in
     let kept : EndFits more id w = record {
@@ -129,7 +129,7 @@ sends_on n id v batch four may room next items views few h at =
         lists = more;
         in_order = order;
         few = omega (arith, length-append l.sent (batch ∷ []), ap length a.1);
-        goes_on = goes_on_more l.building l.desk l.behind l.ahead l.turns_behind l.turns_ahead items batch h.goes_on here;
+        goes_on = goes_on_more l.building l.desk l.behind l.ahead l.next_turns l.turns_ahead items batch h.goes_on here;
         fits = fit_set more views id w kept
             (λ j u apart e. let g = h.fits j u e in record {
               begun = g.begun;
@@ -162,11 +162,11 @@ receives_on : (id : ℕ) (v : EndView) → v.receives ≡ true → (batch : Batc
     → (w : EndView) × IsLineInOrder items (set views id w) × Received v batch w
 receives_on id v may batch items views h at =
     let l = h.lists in
-    let w : EndView = record v { received = v.received ++ batch ∷ []; known = l.sent; behind = batch.after; turns_behind = turns_behind batch } in
+    let w : EndView = record v { received = v.received ++ batch ∷ []; known = l.sent; behind = batch.after; next_turns = next_turns batch } in
     let mine = h.fits id v at in
     let a = mine.receives may in
     let received = l.received ++ batch ∷ [] in
-    let fewer : LineLists = record l { received = received; behind = batch.after; turns_behind = turns_behind batch } in
+    let fewer : LineLists = record l { received = received; behind = batch.after; next_turns = next_turns batch } in
     let order = h.in_order ∙ sym (append_assoc l.received (batch ∷ []) items) in
     let first = h.goes_on.0 in
     let kept : EndFits fewer id w = record {
@@ -264,11 +264,11 @@ ends id v begun may takes items views h at =
 -- the sending pass takes in the receiving one, and knows what both know, of what left the line and of what came into it as much as is true
 joins_on : (id other : ℕ) (v w : EndView) (gone known : List BatchState) → v.sends ≡ true → w.receives ≡ true → (items : List BatchState) (views : List EndView) (h : IsLineInOrder items views)
     → Begins gone h.lists.received → Begins known h.lists.sent → get_elem? views id ≡ some v → other ≢ id
-    → get_elem? (set views id (record v { receives = true; received = w.received; gone = gone; known = known; behind = w.behind; turns_behind = w.turns_behind })) other ≡ some w
-    → IsLineInOrder items (set (set views id (record v { receives = true; received = w.received; gone = gone; known = known; behind = w.behind; turns_behind = w.turns_behind })) other spent_pass)
+    → get_elem? (set views id (record v { receives = true; received = w.received; gone = gone; known = known; behind = w.behind; next_turns = w.next_turns })) other ≡ some w
+    → IsLineInOrder items (set (set views id (record v { receives = true; received = w.received; gone = gone; known = known; behind = w.behind; next_turns = w.next_turns })) other spent_pass)
 joins_on id other v w gone known may takes items views h left came at apart at_other =
     let l = h.lists in
-    let both : EndView = record v { receives = true; received = w.received; gone = gone; known = known; behind = w.behind; turns_behind = w.turns_behind } in
+    let both : EndView = record v { receives = true; received = w.received; gone = gone; known = known; behind = w.behind; next_turns = w.next_turns } in
     let vs = set views id both in
     let mine = h.fits id v at in
     let a = mine.sends may in
@@ -330,7 +330,7 @@ both_learn id v begun may takes items views h at =
     let goes = subst (λ (p : Plan × List TableId × State × List ℕ). BatchesGoOn p.0 p.1 p.2 p.3 items l.ahead l.turns_ahead) (λ i. (sym a.3 i, sym a.4 i, sym b.5 i, sym b.6 i)) o.goes_on in
     record {
       all = a.1 ∙ o.in_order ∙ ap (λ x. x ++ items) (sym b.1);
-      goes_on = subst (λ (p : State × List ℕ). BatchesGoOn v.building v.desk v.behind v.turns_behind items p.0 p.1) (λ i. (sym a.5 i, sym a.6 i)) goes;
+      goes_on = subst (λ (p : State × List ℕ). BatchesGoOn v.building v.desk v.behind v.next_turns items p.0 p.1) (λ i. (sym a.5 i, sym a.6 i)) goes;
       four = o.four;
     })
     h

@@ -15,7 +15,7 @@ use Rattle.lift_parts.specs.Turns.{AllocatorTurns, FlusherTurns, NoFlush}
 use Rattle.lift_parts.specs.Parts.{AreOfOne}
 use Rattle.lift_relay.specs.Pair.{HaveRun, IsRun, AreSameParts}
 use Rattle.lift_clerk.specs.History.{History}
-use Rattle.lift_parts.specs.History.{GoesOnTo, TurnsGoOn, group_behind}
+use Rattle.lift_parts.specs.History.{GoesOnTo, TurnsGoOn, group_after}
 use Rattle.lift_parts.specs.lemmas.Paired.{turns_joined, flushes_joined, same_allocator, same_flusher, still_of_one, faults_broken}
 
 abbrev pub fault_of : Option KeeperFault → Option RunFault
@@ -67,7 +67,7 @@ module _ {D P : Type 0} (choice : Choice) (state : D → DiskState) (a b : Alloc
 
 -- What a run adds to what has happened: nothing, if no thread could be made.
 pub goes_on : {D P : Type 0} (choice : Choice) (state : D → DiskState) (a b : AllocatorState P) (f g : FlusherState D) (fault : Option RunFault) → TurnsGoOn D state
-    → IsRun choice state a b f g fault → (base : RegisterState) (safe : List Entry) (given : List Taken) → History base (group_behind f) safe given → GoesOnTo f g base safe given
+    → IsRun choice state a b f g fault → (base : RegisterState) (safe : List Entry) (given : List Taken) → History base (group_after f) safe given → GoesOnTo f g base safe given
 goes_on {D} choice state a b f g fault law (inl refused) base safe given h =
     subst (λ (x : FlusherState D). GoesOnTo f x base safe given) (sym refused.1.1) (law f f None None NoFlush base safe given h)
 goes_on choice state a b f g fault law (inr run) base safe given h = law f g None run.first run.flusher base safe given h

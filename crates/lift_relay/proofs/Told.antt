@@ -4,7 +4,7 @@ use Rattle.atomic_table.specs.Seated.{TableId}
 use Rattle.lift_desk.specs.Seats.{ClerkPlace, IsClerkOf, view_at, clerk_with}
 use Rattle.lift_desk.specs.Steps.{with_told_asks}
 use Rattle.lift_policy.specs.Eligible.{Choice}
-use Rattle.lift_parts.specs.Allocator.{IsAllocator, GoesOnBehind}
+use Rattle.lift_parts.specs.Allocator.{IsAllocator, GoesOnAfter}
 use Rattle.lift_parts.specs.Batch.{BatchState, turns_of}
 use Rattle.lift_parts.specs.Line.{SendState}
 use Rattle.lift_parts.specs.Scan.{turns_in, turn_at}
@@ -32,6 +32,6 @@ told_allocator {P} chooses s n seat end hand is same turns uses seated =
       at_desk = is.at_desk;
       all_sealed = is.all_sealed;
       decides = is.decides;
-      goes_on = subst (GoesOnBehind s.plan s.desk end.state end.turns hand s.state) (sym turns) is.goes_on;
+      goes_on = subst (GoesOnAfter s.plan s.desk end.state end.turns hand s.state) (sym turns) is.goes_on;
       few = let was = is.few in omega (arith, uses);
     })

@@ -11,7 +11,7 @@ receiver_of s = record {
   building = s.knows.building;
   desk = s.knows.desk;
   state = s.knows.behind;
-  turns = s.knows.turns_behind;
+  turns = s.knows.next_turns;
   tries = s.tries;
 }
 

@@ -7,7 +7,7 @@ use Rattle.atomic_table.specs.Seated.{TableId}
 use Rattle.lift_building.specs.Plan.{Plan}
 use Rattle.lift_register.specs.Register.{empty}
 use Rattle.lift_policy.specs.Step.{State}
-use Rattle.lift_parts.specs.Batch.{BatchState, turns_behind}
+use Rattle.lift_parts.specs.Batch.{BatchState, next_turns}
 use Rattle.lift_relay.specs.declared.line.EndView.{EndView}
 use Rattle.lift_parts.specs.Line.{Begins, IsNextBatch, BatchesGoOn}
 
@@ -32,7 +32,7 @@ opening pushed = record {
   ahead = no_state;
   behind = no_state;
   turns_ahead = [];
-  turns_behind = [];
+  next_turns = [];
 }
 
 abbrev pub opening_view : EndView
@@ -53,7 +53,7 @@ begun_with first = record {
   ahead = first.before;
   behind = first.before;
   turns_ahead = first.turns;
-  turns_behind = first.turns;
+  next_turns = first.turns;
 }
 
 abbrev pub sending : EndView → EndView
@@ -69,7 +69,7 @@ with_both_passes v w = record v {
   received = w.received;
   known = w.known;
   behind = w.behind;
-  turns_behind = w.turns_behind;
+  next_turns = w.next_turns;
 }
 
 -- the same, and each end is told where the other stands
@@ -80,7 +80,7 @@ told_both v w = record v {
   gone = w.received;
   known = v.sent;
   behind = w.behind;
-  turns_behind = w.turns_behind;
+  next_turns = w.next_turns;
 }
 
 -- a pass that was taken in by another
@@ -102,7 +102,7 @@ pub record LineLists : Type 0 where
   pub ahead : State
   pub behind : State
   pub turns_ahead : List ℕ
-  pub turns_behind : List ℕ
+  pub next_turns : List ℕ
 
 -- what this pass knows is so, of what it has the right to: to send, or to receive
 pub record EndFits (l : LineLists) (pass : ℕ) (v : EndView) : Type 0 where
@@ -113,7 +113,7 @@ pub record EndFits (l : LineLists) (pass : ℕ) (v : EndView) : Type 0 where
   pub receives : v.receives ≡ true
       → (pass ≡ l.receiver) × (v.received ≡ l.received) × Begins v.known l.sent
       × (v.building ≡ l.building) × (v.desk ≡ l.desk) × (v.behind ≡ l.behind)
-      × (v.turns_behind ≡ l.turns_behind)
+      × (v.next_turns ≡ l.next_turns)
 
 -- What was received, and then these batches, which the line holds, is what was sent. They are four
 -- at most, and each goes on from the one before it.
@@ -121,7 +121,7 @@ pub record IsLineInOrder (items : List BatchState) (views : List EndView) : Type
   pub lists : LineLists
   pub in_order : lists.sent ≡ lists.received ++ items
   pub few : length lists.sent ≤ most_batches
-  pub goes_on : BatchesGoOn lists.building lists.desk lists.behind lists.turns_behind items
+  pub goes_on : BatchesGoOn lists.building lists.desk lists.behind lists.next_turns items
       lists.ahead
       lists.turns_ahead
   pub fits : (pass : ℕ) (v : EndView) → get_elem? views pass ≡ some v → EndFits lists pass v
@@ -149,7 +149,7 @@ pub record Sent (v : EndView) (batch : BatchState) (w : EndView) : Type 0 where
   pub building : w.building ≡ v.building
   pub desk : w.desk ≡ v.desk
   pub ahead : w.ahead ≡ batch.after
-  pub turns : w.turns_ahead ≡ turns_behind batch
+  pub turns : w.turns_ahead ≡ next_turns batch
   pub items : List BatchState
   pub few : length items < 4
   pub before : w.sent ≡ w.gone ++ (items ++ batch ∷ [])
@@ -163,9 +163,9 @@ pub record Received (v : EndView) (batch : BatchState) (w : EndView) : Type 0 wh
   pub received : w.received ≡ v.received ++ batch ∷ []
   pub building : w.building ≡ v.building
   pub desk : w.desk ≡ v.desk
-  pub next : IsNextBatch v.building v.desk v.behind v.turns_behind batch
+  pub next : IsNextBatch v.building v.desk v.behind v.next_turns batch
   pub behind : w.behind ≡ batch.after
-  pub turns : w.turns_behind ≡ turns_behind batch
+  pub turns : w.next_turns ≡ next_turns batch
   pub known : Begins w.received w.known
   pub few : length w.received ≤ most_batches
   pub later : Begins v.known w.known
@@ -188,5 +188,5 @@ pub record ReceivedBefore (v : EndView) (items : List BatchState) : Type 0 where
 -- at most four, each going on from the one before it
 pub record HoldsUnreceived (v : EndView) (items : List BatchState) : Type 0 where
   pub all : v.sent ≡ v.received ++ items
-  pub goes_on : BatchesGoOn v.building v.desk v.behind v.turns_behind items v.ahead v.turns_ahead
+  pub goes_on : BatchesGoOn v.building v.desk v.behind v.next_turns items v.ahead v.turns_ahead
   pub four : length items ≤ 4

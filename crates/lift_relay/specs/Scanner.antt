@@ -10,7 +10,7 @@ use Rattle.lift_policy.specs.Run.{Run}
 use Rattle.lift_clerk.specs.declared.counts.Counts.{Counts}
 use Rattle.lift_clerk.specs.Turn.{without_batch}
 use Rattle.lift_parts.specs.declared.taken.NotedCommand.{NotedCommand}
-use Rattle.lift_parts.specs.Batch.{BatchState, AreNoted, turns_of, turns_behind, turns_after}
+use Rattle.lift_parts.specs.Batch.{BatchState, AreNoted, turns_of, next_turns, turns_after}
 use Rattle.lift_parts.specs.Batch.{commands_in, replies_in}
 use Rattle.lift_parts.specs.Line.{IsNextBatch}
 use Rattle.lift_parts.specs.Scan.{ScansAhead, turns_in}
@@ -46,7 +46,7 @@ pub record MakesBatch {P : Type 0} (choice : Choice) (a : ScannerState P) (seat 
   pub next : IsNextBatch a.plan a.desk a.state (turns_of a.seat) batch
   -- what decisions read after it
   pub leads : batch.after ≡ without_batch decided
-  pub turns : turns_of seat ≡ turns_behind batch
+  pub turns : turns_of seat ≡ next_turns batch
   pub uses : turns_in a.seat + 1 ≤ turns_in seat
 
 -- there is one just where something was taken

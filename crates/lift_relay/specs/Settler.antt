@@ -9,7 +9,7 @@ use Rattle.lift_keeper.specs.declared.fault.KeeperFault.{KeeperFault}
 use Rattle.lift_parts.specs.declared.counts.FlushCounts.{FlushCounts}
 use Rattle.lift_clerk.specs.Answered.{AreApart, ask_of}
 use Rattle.lift_parts.specs.declared.taken.NotedCommand.{NotedCommand}
-use Rattle.lift_parts.specs.Batch.{BatchState, IsDecided, AreBelow, commands_in, turns_behind}
+use Rattle.lift_parts.specs.Batch.{BatchState, IsDecided, AreBelow, commands_in, next_turns}
 use Rattle.lift_parts.specs.Flusher.{Answered, AllAnsweredBy}
 
 pub record SettlerState (D : Type 0) : Type 0 where
@@ -37,7 +37,7 @@ pub record SettlesBatch {D : Type 0} (state : D
       → (counts.batches ≡ 1) × (counts.answers ≡ length batch.commands)
   -- where nothing has failed, what is safe is the register after the batch
   pub leads : new.writer.is_broken ≡ false → new.writer.register ≡ batch.after.register
-  pub all_answered : AllAnsweredBy new.seat (turns_behind batch)
+  pub all_answered : AllAnsweredBy new.seat (next_turns batch)
   pub seated : IsClerkOf new.desk new.seat
   pub decided : IsDecided batch
   pub at_desk : AreBelow (length batch.desk) (commands_in batch.commands)

@@ -8,7 +8,7 @@ ghost use Rattle.lift_desk.specs.Steps.{with_told_asks};
 ghost use Rattle.lift_parts.specs.Batch.{turns_of};
 ghost use Rattle.lift_parts.specs.Line.{Begins};
 ghost use Rattle.lift_parts.specs.Allocator.{IsAllocation, IsScanTurn, IsFullTurn, DecidesAlong};
-ghost use Rattle.lift_parts.specs.Allocator.{tries_behind};
+ghost use Rattle.lift_parts.specs.Allocator.{tries_after};
 ghost use Rattle.lift_parts.specs.Turns.{IsSameAllocator};
 ghost use Rattle.lift_parts.specs.Queued.{Queued};
 
@@ -184,7 +184,7 @@ impl<'d, 'b, P: Policy + Drop> Allocator<'d, 'b, P> {
         ensures line { self.new.end.line ≡ self.old.end.line }
         ensures later { Begins self.old.end.gone self.new.end.gone }
         ensures tries { result ≡ true
-            → self.new.end.tries ≡ tries_behind self.old.hand self.old.end.tries }
+            → self.new.end.tries ≡ tries_after self.old.hand self.old.end.tries }
         ensures full { result ≡ false
             → IsFullTurn self.old self.new (record { taken = 0; accepted = 0 }) }
     {

@@ -15,7 +15,7 @@ ghost use Rattle.lift_parts.specs.Turns.{IsFlush};
 ghost use Rattle.lift_base.specs.declared.history.Entry.{Entry};
 ghost use Rattle.lift_world.specs.declared.event.Taken.{Taken};
 ghost use Rattle.lift_clerk.specs.History.{History};
-ghost use Rattle.lift_parts.specs.History.{FlushStands, group_behind};
+ghost use Rattle.lift_parts.specs.History.{FlushStands, group_after};
 ghost use Rattle.lift_relay.specs.Heard.{FailureHeard};
 
 use crate::allocator::Allocator;
@@ -199,7 +199,7 @@ impl<'d, 'b, D: Disk, K> Flusher<'d, 'b, D, K> {
         // commands have their replies, or are answered Unknown after a fault. Each image that a
         // crash at any moment of the turn may leave shows all that was given before.
         ensures history { (base : RegisterState) (safe : List Entry) (given : List Taken)
-            → History base (group_behind self.old) safe given
+            → History base (group_after self.old) safe given
             → FlushStands self.old self.new base safe given
             (D.state self.old.writer.device) (D.state self.new.writer.device) }
     {

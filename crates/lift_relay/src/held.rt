@@ -14,7 +14,7 @@ ghost use Rattle.lift_clerk.specs.History.{History};
 ghost use Rattle.lift_clerk.specs.Once.{TurnsOnce, TurnAdvances};
 ghost use Rattle.lift_clerk.specs.Steps.{group_of};
 ghost use Rattle.lift_parts.specs.Flusher.{IsFlusher};
-ghost use Rattle.lift_parts.specs.History.{group_behind};
+ghost use Rattle.lift_parts.specs.History.{group_after};
 ghost use Rattle.lift_parts.specs.Parts.{AreParts, AreOfOne, IsRejoined};
 ghost use Rattle.lift_parts.specs.Queued.{Queued};
 ghost use Rattle.lift_relay.specs.Heard.{FailureHeard};
@@ -191,7 +191,7 @@ pub(crate) fn part<'d, 'b, D: Disk, P: Policy + Drop, K>(
     // The history of the clerk's group goes on as that of the flusher's.
     ensures history { IfOk result (λ parts. (base : RegisterState) (safe : List Entry)
         (given : List Taken) → History base (group_of clerk.entry) safe given
-        → History base (group_behind parts.1) safe given) }
+        → History base (group_after parts.1) safe given) }
 {
     parts_are_clerks::<D, P>();
     let desk = clerk.desk();
@@ -231,7 +231,7 @@ pub fn split_held<'d, 'b, D: Disk, P: Policy + Drop, K>(
     // The history of the clerk's group goes on as that of the flusher's.
     ensures history { IfOk result (λ parts. (base : RegisterState) (safe : List Entry)
         (given : List Taken) → History base (group_of clerk.entry) safe given
-        → History base (group_behind parts.1) safe given) }
+        → History base (group_after parts.1) safe given) }
 {
     match part(alloc, clerk.clerk) {
         Ok(parts) => Ok(parts),
@@ -256,7 +256,7 @@ pub fn rejoin_held<'d, 'b, D: Disk, P: Policy + Drop, K>(
     ensures queued { Queued allocator.entry.end flusher.entry.end }
     // The history of the flusher's group is that of the clerk's.
     ensures history { IfOk result (λ clerk. (base : RegisterState) (safe : List Entry)
-        (given : List Taken) → History base (group_behind flusher.entry) safe given
+        (given : List Taken) → History base (group_after flusher.entry) safe given
         → History base (group_of clerk) safe given) }
 {
     parts_are_clerks::<D, P>();

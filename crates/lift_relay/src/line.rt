@@ -36,7 +36,7 @@ pub struct EndView {
     pub behind: Basis,
     /// The turns of the terminals after all that was sent, and after all that was received.
     pub turns_ahead: LinkedList<u64>,
-    pub turns_behind: LinkedList<u64>,
+    pub next_turns: LinkedList<u64>,
 }
 
 /// What holds of the line between the two parts: batches come in the order in which they were sent.

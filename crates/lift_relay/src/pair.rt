@@ -14,7 +14,7 @@ ghost use Rattle.lift_relay.specs.Pair.{ComesFrom};
 ghost use Rattle.lift_relay.specs.Pair.{HaveTurned, IfDone, IfRan, IsRun, HaveRun, AreSameParts};
 ghost use Rattle.lift_relay.specs.Heard.{FailureHeard};
 ghost use Rattle.lift_clerk.specs.History.{History};
-ghost use Rattle.lift_parts.specs.History.{GoesOnTo, group_behind};
+ghost use Rattle.lift_parts.specs.History.{GoesOnTo, group_after};
 
 use crate::allocator::Allocator;
 use crate::flusher::Flusher;
@@ -367,7 +367,7 @@ where
     // Whatever has happened before, the group's history goes on by just the batches that the run
     // received.
     ensures history { (base : RegisterState) (safe : List Entry) (given : List Taken)
-        → History base (group_behind flusher.old) safe given
+        → History base (group_after flusher.old) safe given
         → GoesOnTo flusher.old flusher.new base safe given }
 {
     flushes_are_steps::<D>();

@@ -10,7 +10,7 @@ ghost use Rattle.lift_parts.specs.Flusher.{IsFlusher};
 ghost use Rattle.lift_parts.specs.Queued.{Queued};
 ghost use Rattle.lift_parts.specs.Parts.{AreParts, AreOfOne, IsRejoined};
 ghost use Rattle.lift_clerk.specs.Steps.{group_of};
-ghost use Rattle.lift_parts.specs.History.{group_behind};
+ghost use Rattle.lift_parts.specs.History.{group_after};
 
 use crate::allocator::Allocator;
 use crate::flusher::Flusher;
@@ -46,7 +46,7 @@ pub fn split<'d, 'b, D: Disk, P: Policy + Drop>(
     // The history of the clerk's group goes on as that of the flusher's.
     ensures history { IfOk result (λ parts. (base : RegisterState) (safe : List Entry)
         (given : List Taken) → History base (group_of clerk.entry) safe given
-        → History base (group_behind parts.1) safe given) }
+        → History base (group_after parts.1) safe given) }
 {
     part(alloc, clerk)
 }
@@ -66,7 +66,7 @@ pub fn tell<'d, 'b, D: Disk, P: Policy + Drop, K>(
     ensures queued { Queued allocator.new.end flusher.new.end }
     ensures of_one { AreOfOne allocator.new flusher.new }
     // Nothing happens by it.
-    ensures history { group_behind flusher.new ≡ group_behind flusher.old }
+    ensures history { group_after flusher.new ≡ group_after flusher.old }
 {
     flusher.tell(allocator);
 }
@@ -91,7 +91,7 @@ pub fn rejoin<'d, 'b, D: Disk, P: Policy + Drop>(
     ensures queued { Queued allocator.entry.end flusher.entry.end }
     // The history of the flusher's group is that of the clerk's.
     ensures history { IfOk result (λ clerk. (base : RegisterState) (safe : List Entry)
-        (given : List Taken) → History base (group_behind flusher.entry) safe given
+        (given : List Taken) → History base (group_after flusher.entry) safe given
         → History base (group_of clerk) safe given) }
 {
     match rejoin_held(allocator, flusher) {

@@ -7,7 +7,7 @@ ghost use Rattle.lift_desk.specs.Seats.{seat_with, clerk_with};
 ghost use Rattle.lift_desk.specs.Steps.{with_told_answers, with_told_asks, lists_of};
 ghost use Rattle.lift_keeper.specs.Prelude.{Commits, CommitCalls};
 ghost use Rattle.lift_clerk.specs.Visits.{Visit};
-ghost use Rattle.lift_parts.specs.Batch.{turns_behind, turns_with};
+ghost use Rattle.lift_parts.specs.Batch.{next_turns, turns_with};
 ghost use Rattle.lift_parts.specs.Flusher.{AnswersOne, Answered, AllAnsweredBy};
 ghost use Rattle.lift_relay.specs.Heard.{FailureHeard};
 ghost use Rattle.lift_relay.specs.Settler.{IsToBeAnswered, SettlesBatch};
@@ -80,7 +80,7 @@ fn answer_all(desk: &Desk, seat: &mut ClerkSeat, batch: Batch, is_safe: bool) ->
     requires at_desk { batch.desk ≡ desk.now }
     requires all_answered { AllAnsweredBy seat.old batch.turns }
     ensures answered { Answered is_safe seat.old batch.commands seat.new }
-    ensures all_answered { AllAnsweredBy seat.new (turns_behind batch) }
+    ensures all_answered { AllAnsweredBy seat.new (next_turns batch) }
     ensures count { result ≡ length batch.commands }
     ensures seated { IsClerkOf desk.now seat.new }
 {

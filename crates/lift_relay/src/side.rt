@@ -10,7 +10,7 @@ use crate::batch::Batch;
 use crate::line::{EndView, Ends, FirstBatch, InOrder, LineStart, QueueContents};
 use crossbeam_queue::protocol::{Join, Lesson, Outcome};
 use crossbeam_queue::{Pass, RuledArrayQueue};
-use lift_base::{Memory, queue_behind, two_owners};
+use lift_base::{Memory, passed_queue, two_owners};
 use std::alloc::Global;
 use std::marker::Model;
 use std::sync::{Arc, Wait};
@@ -46,7 +46,7 @@ impl Side {
     pub fn both(alloc: Global, first: Batch) -> Result<(Side, Side), Memory>
         ensures { IfOk result (λ sides. AreSides first sides.0 sides.1) }
     {
-        let (queue, mut pass) = queue_behind::<Batch, EndView, InOrder, FirstBatch, LineStart>(
+        let (queue, mut pass) = passed_queue::<Batch, EndView, InOrder, FirstBatch, LineStart>(
             alloc, 4, first,
         )?;
         let other = queue.another::<Ends>(&mut pass);

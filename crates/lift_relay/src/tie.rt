@@ -10,7 +10,7 @@ ghost use Rattle.lift_parts.specs.Batch.{BatchState};
 ghost use Rattle.lift_parts.specs.Flusher.{IsEmptyTurn};
 ghost use Rattle.lift_parts.specs.Tie.{Flushes, FlushFails, FlushesBroken};
 ghost use Rattle.lift_parts.specs.Turns.{IsFlush};
-ghost use Rattle.lift_parts.specs.History.{group_behind};
+ghost use Rattle.lift_parts.specs.History.{group_after};
 ghost use Rattle.lift_parts.specs.Past.{FlushLeadsOn};
 ghost use Rattle.lift_relay.specs.Heard.{FailureHeard};
 
@@ -41,8 +41,8 @@ pub fn turn_flusher_once<R: Wait, D: Disk, K: HeardBy<V>, V: Witness>(
         ⊎ ((batch : BatchState) × FlushesBroken flusher.old flusher.new batch) }
     // It is a step of its group's past, in each world that this may be in.
     ensures past { (w : World) (terminals : Terminals) (safe : List Entry) (given : List Taken)
-        → IsPastOf w (group_behind flusher.old) terminals safe given
-        → TakesAsks (group_behind flusher.new) terminals
+        → IsPastOf w (group_after flusher.old) terminals safe given
+        → TakesAsks (group_after flusher.new) terminals
         → FlushLeadsOn flusher.old flusher.new result w terminals safe given }
 {
     flushes_are_steps::<D>();

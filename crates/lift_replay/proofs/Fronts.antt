@@ -13,8 +13,8 @@ use Rattle.lift_replay.specs.declared.lines.End.{End}
 use Rattle.lift_replay.specs.declared.lines.End.TheVariants.{Cut as Power}
 use Rattle.lift_replay.specs.Group.{ScriptGroup, left_by, recovered}
 use Rattle.lift_replay.specs.Reading.{IsInput}
-use Rattle.lift_replay.specs.Replaying.{IsTextReport, WritesFront, ReportsFront}
-use Rattle.lift_replay.specs.Report.{AppendsFront, Reports, ReportsPart, cut_text}
+use Rattle.lift_replay.specs.Replaying.{IsTextReport, WritesPrefix, ReportsPrefix}
+use Rattle.lift_replay.specs.Report.{AppendsPrefix, Reports, ReportsPart, cut_text}
 use Rattle.lift_replay.specs.Running.{TellsLines, TellsPart, Continues, LinesEnd}
 use Rattle.lift_replay.specs.Shows.{Shows}
 use Rattle.lift_replay.specs.Told.{ScriptClerk}
@@ -29,14 +29,14 @@ err_so (Ok x) is = tt
 err_so (Err e) is = is
 
 -- nothing was written
-pub no_front : (old : Option (List ℕ)) (text : List ℕ) → AppendsFront old old text
+pub no_front : (old : Option (List ℕ)) (text : List ℕ) → AppendsPrefix old old text
 no_front old text = ([], (text, refl), Appends-nil old)
 
 -- of all bytes some were written
-pub taken_front : (old new : Option (List ℕ)) (n : ℕ) (text : List ℕ) → Appends old new (take n text) → AppendsFront old new text
+pub taken_front : (old new : Option (List ℕ)) (n : ℕ) (text : List ℕ) → Appends old new (take n text) → AppendsPrefix old new text
 taken_front old new n text appends = (take n text, (drop n text, take-append-drop n text), appends)
 
-pub written_front : (old new : Option (List ℕ)) (n : ℕ) (text bytes : List ℕ) → Appends old new (take n bytes) → bytes ≡ text → AppendsFront old new text
+pub written_front : (old new : Option (List ℕ)) (n : ℕ) (text bytes : List ℕ) → Appends old new (take n bytes) → bytes ≡ text → AppendsPrefix old new text
 written_front old new n text bytes appends is = taken_front old new n text (subst (λ t. Appends old new (take n t)) is appends)
 
 -- nothing was reported
@@ -107,7 +107,7 @@ tells_kept plan count g script old new piece kept after is part = subst (TellsPa
 
 -- what was kept back was written, or a prefix of it
 pub tells_put : (plan : Plan) (count : ℕ) (g : ScriptGroup) (script : List (List ℕ)) (old mid new : Option (List ℕ)) (piece after : List ℕ) → piece ≡ [] → TellsPart plan count g script old mid piece after
-    → AppendsFront mid new after → WritesFront (TellsLines plan count g script) old new
+    → AppendsPrefix mid new after → WritesPrefix (TellsLines plan count g script) old new
 tells_put plan count g script old mid new piece after none (all, verdict, tells, part) (put, (rest, is), appends) = (
   all,
   verdict,
@@ -135,7 +135,7 @@ pub tells_either : {E : Type 0} (plan : Plan) (count : ℕ) (g : ScriptGroup) (s
 tells_either plan count g script old new piece after (Ok verdict) tells front = tells_all plan count g script old new piece after verdict tells
 tells_either plan count g script old new piece after (Err fault) tells front = front
 
-pub text_unwritten : (text : List ℕ) (old : Option (List ℕ)) → WritesFront (IsTextReport text) old old
+pub text_unwritten : (text : List ℕ) (old : Option (List ℕ)) → WritesPrefix (IsTextReport text) old old
 text_unwritten text old = let told = text_total text in (told.0, told.1, told.2, no_front old told.0)
 
 -- the input of a reader
@@ -148,7 +148,7 @@ unfolding input_of
 input_is None = tt
 input_is (Some all) = refl
 
-pub input_unwritten : (input old : Option (List ℕ)) → ReportsFront input old old
+pub input_unwritten : (input old : Option (List ℕ)) → ReportsPrefix input old old
 input_unwritten input old = let told = report_total (input_of input) in (input_of input, input_is input, (told.0, told.1, told.2, no_front old told.0))
 
 -- a prefix of a text is one of a longer text
@@ -179,5 +179,5 @@ cut_part plan count later g script rest outcome clerk seats end old mid new piec
     )
 
 -- all of it was written
-pub whole_front : (old new : Option (List ℕ)) (text : List ℕ) → Appends old new text → AppendsFront old new text
+pub whole_front : (old new : Option (List ℕ)) (text : List ℕ) → Appends old new text → AppendsPrefix old new text
 whole_front old new text whole = (text, ([], append-nil text), whole)

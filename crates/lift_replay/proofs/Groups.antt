@@ -119,11 +119,11 @@ module _ (plan : Plan) (old new : DiskState) (P Q : Found) (unmarks : Bool) (off
   one_of true first second image found = found
   one_of false first second image found = found
 
-  behind_mark : (outcome : Outcome) (image : Image) (b : Bool) → nat_le (mark + 2) made ≡ b → mark < made → IsLeftBy outcome new image → IsFound plan (by_mark outcome b P Q M O) image
-  behind_mark Keep image true written past left = subst (IsFound plan Q) (sym left) (stops.keeps_new (let w = le_of (mark + 2) made written in omega (arith, calls, is, most, w)))
-  behind_mark Keep image false written past left = subst (IsFound plan P) (sym left) (stops.keeps_old (let w = past_of (mark + 2) made written in omega (arith, calls, is, past, w)))
-  behind_mark Lose image b written past left = subst (IsFound plan P) (sym left) (stops.loses (omega (arith, calls, is, past)))
-  behind_mark (Fill byte) image b written past left = filled (byte == 165) refl
+  after_mark : (outcome : Outcome) (image : Image) (b : Bool) → nat_le (mark + 2) made ≡ b → mark < made → IsLeftBy outcome new image → IsFound plan (by_mark outcome b P Q M O) image
+  after_mark Keep image true written past left = subst (IsFound plan Q) (sym left) (stops.keeps_new (let w = le_of (mark + 2) made written in omega (arith, calls, is, most, w)))
+  after_mark Keep image false written past left = subst (IsFound plan P) (sym left) (stops.keeps_old (let w = past_of (mark + 2) made written in omega (arith, calls, is, past, w)))
+  after_mark Lose image b written past left = subst (IsFound plan P) (sym left) (stops.loses (omega (arith, calls, is, past)))
+  after_mark (Fill byte) image b written past left = filled (byte == 165) refl
     where
       filled : (c : Bool) → (byte == 165) ≡ c → IsFound plan (if c then M else O) image
       filled true e = subst (λ n. IsFilled n new image → IsFound plan M image) (sym (eqb-true byte 165 e)) (λ is_filled. one_of unmarks P Q image (stops.fills_mark (omega (arith, calls, is, past)) image is_filled)) left
@@ -134,7 +134,7 @@ module _ (plan : Plan) (old new : DiskState) (P Q : Found) (unmarks : Bool) (off
     where
       cases : (b : Bool) → nat_le made mark ≡ b → IsFound plan (if b then P else by_mark outcome (nat_le (mark + 2) made) P Q M O) image
       cases true e = stops.early (let w = le_of made mark e in omega (arith, calls, is, w)) honest image may
-      cases false e = behind_mark outcome image (nat_le (mark + 2) made) refl (let w = past_of made mark e in omega (arith, w)) left
+      cases false e = after_mark outcome image (nat_le (mark + 2) made) refl (let w = past_of made mark e in omega (arith, w)) left
 
 -- what each cut leaves of a commit that has failed
 module _ (plan : Plan) (g : ScriptGroup) (s : FailedBatch) (old new : DiskState) (honest : new.is_honest)

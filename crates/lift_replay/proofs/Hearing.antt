@@ -114,9 +114,9 @@ next_heard olds mids news n lines line below long is before same hears =
     let more : n + 1 ≡ suc n = omega arith in
     rw more (one_more olds news n lines line below count (rw front before) (rw (sym same) hears))
 
-pub same_behind : (olds mids news : List TerminalSeat) (n : ℕ) → news ≡ set mids n (seat_at news n) → ((i : ℕ) → n ≤ i → seat_at mids i ≡ seat_at olds i)
+pub same_after : (olds mids news : List TerminalSeat) (n : ℕ) → news ≡ set mids n (seat_at news n) → ((i : ℕ) → n ≤ i → seat_at mids i ≡ seat_at olds i)
     → (i : ℕ) → n + 1 ≤ i → seat_at news i ≡ seat_at olds i
-same_behind olds mids news n is same i past =
+same_after olds mids news n is same i past =
     ap (λ seats. seat_at seats i) is ∙ get_or-set_other mids n i (seat_at news n) no_seat (λ at. omega (arith, at, past)) ∙ same i (omega (arith, past))
 
 neither : (a b : Bool) → (a || b) ≡ false → (a ≡ false) × (b ≡ false)

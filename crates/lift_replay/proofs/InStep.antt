@@ -11,7 +11,7 @@ use Rattle.lift_desk.specs.Steps.{is_new_word, with_taking, with_answer, with_he
 use Rattle.lift_desk.specs.Seats.{TerminalSeat, ClerkPlace, Waits, IsToldAnswer, HearsOf, TakesOf, view_at}
 use Rattle.lift_desk.specs.lemmas.WordLists.{last_of-push, prefix_length}
 use Rattle.lift_policy.specs.declared.command.Command.{Command}
-use Rattle.lift_clerk.specs.Visits.{Visit, FindsAt, Finds, command_at, commands_of, with_reply, replies_behind, served}
+use Rattle.lift_clerk.specs.Visits.{Visit, FindsAt, Finds, command_at, commands_of, with_reply, replies_after, served}
 use Rattle.lift_replay.specs.Group.{Asking, asking_at, waiting_from, having_heard, heard_replies_text}
 use Rattle.lift_replay.specs.Report.{heard_text}
 use Rattle.lift_replay.specs.Terminals.{AllHear, Hears, heard_line, seat_at, one_waiting, count_waiting}
@@ -71,7 +71,7 @@ all_found (a ∷ askings) (place ∷ places) (v ∷ visits) replies seat many co
     let here = each 0 (omega arith) in (
       found_is (seat 0) place v a.waiting (with_reply (with_taking place.view v.word) v.found replies).taken here.waits here.told finds.0
           (taken_reply (with_taking place.view v.word) v.found replies) (front 0 (omega arith)),
-      all_found askings places visits (replies_behind v.found replies) (λ i. seat (suc i)) (omega (arith, many)) (omega (arith, count)) finds.1
+      all_found askings places visits (replies_after v.found replies) (λ i. seat (suc i)) (omega (arith, many)) (omega (arith, count)) finds.1
           (λ i below. each (suc i) (omega (arith, below))) (λ i below. front (suc i) (omega (arith, below))),
     )
 
@@ -232,7 +232,7 @@ hear_one : (k : ℕ) (a : Asking) (askings : List Asking) (w : Option Ask) (plac
     → a.waiting ≡ w → v.found ≡ w → IsInStep a seat place.view → FindsAt place v → All IsReply replies → length replies ≡ length (command_at k w ++ waiting_from (suc k) askings)
     → old.view ≡ with_told_answers seat (with_reply (with_taking place.view v.word) w replies).answered
     → known 0 ≡ with_told_asks (with_reply (with_taking place.view v.word) w replies) seat.asked → old.terminal ≡ k → Hears old new line
-    → (All IsReply (replies_behind w replies) → length (replies_behind w replies) ≡ length (waiting_from (suc k) askings) → HearAll (suc k) askings news others (replies_behind w replies) (λ i. known (suc i)))
+    → (All IsReply (replies_after w replies) → length (replies_after w replies) ≡ length (waiting_from (suc k) askings) → HearAll (suc k) askings news others (replies_after w replies) (λ i. known (suc i)))
     → HearAll k (a ∷ askings) (new ∷ news) (line ++ others) replies known
 hear_one k a askings None place v replies seat old new news line others known w found step finds range many view known_is at hears behind =
     let here = hears_nothing a seat place v step finds (subst (λ x. WaitsFor x seat place.view) w step.waits) found old new k line view at hears in
@@ -286,13 +286,13 @@ hear_all k (a ∷ askings) [] (v ∷ visits) replies seat olds news heard known 
 hear_all k (a ∷ askings) (place ∷ places) (v ∷ visits) replies seat [] news heard known found count olds_count finds range many step view known_is at hear = absurd (omega (arith, olds_count))
 hear_all k (a ∷ askings) (place ∷ places) (v ∷ visits) replies seat (old ∷ olds) [] heard known found count olds_count finds range many step view known_is at hear = absurd hear
 hear_all k (a ∷ askings) (place ∷ places) (v ∷ visits) replies seat (old ∷ olds) (new ∷ news) heard known found count olds_count finds range many step view known_is at (line, others, one, rest, is) =
-    let same : replies_behind v.found replies ≡ replies_behind a.waiting replies = ap (λ f. replies_behind f replies) found.0 in
+    let same : replies_after v.found replies ≡ replies_after a.waiting replies = ap (λ f. replies_after f replies) found.0 in
     subst (λ h. HearAll k (a ∷ askings) (new ∷ news) h replies known) (sym is)
     (hear_one k a askings a.waiting place v replies (seat 0) old new news line others known refl found.0 (step 0 (omega arith)) finds.0 range many
     (view 0 (omega arith) ∙ ap (λ f. with_told_answers (seat 0) (with_reply (with_taking place.view v.word) f replies).answered) found.0)
     (known_is 0 (omega arith) ∙ ap (λ f. with_told_asks (with_reply (with_taking place.view v.word) f replies) (seat 0).asked) found.0)
     (at 0 (omega arith) ∙ omega arith) one
-    (λ later fewer. hear_all (suc k) askings places visits (replies_behind a.waiting replies) (λ i. seat (suc i)) olds news others (λ i. known (suc i)) found.1 (omega (arith, count)) (omega (arith, olds_count)) finds.1 later fewer
+    (λ later fewer. hear_all (suc k) askings places visits (replies_after a.waiting replies) (λ i. seat (suc i)) olds news others (λ i. known (suc i)) found.1 (omega (arith, count)) (omega (arith, olds_count)) finds.1 later fewer
     (λ i below. step (suc i) (omega (arith, below)))
     (λ i below. view (suc i) (omega (arith, below)) ∙ ap (λ r. with_told_answers (seat (suc i)) (view_at (served places visits r) i).answered) same)
     (λ i below. known_is (suc i) (omega (arith, below)) ∙ ap (λ r. with_told_asks (view_at (served places visits r) i) (seat (suc i)).asked) same)

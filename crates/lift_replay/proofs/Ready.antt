@@ -15,7 +15,7 @@ use Rattle.lift_desk.specs.Rule.{CountTurns, stamp_of}
 use Rattle.lift_desk.specs.Steps.{is_new_word, with_taking}
 use Rattle.lift_desk.specs.Seats.{TerminalSeat, ClerkPlace, Waits, TakesOf, view_at, no_place}
 use Rattle.lift_desk.specs.lemmas.WordLists.{prefix_refl}
-use Rattle.lift_clerk.specs.Visits.{Visit, FindsAt, Finds, LooksAndAnswers, with_reply, replies_behind, served}
+use Rattle.lift_clerk.specs.Visits.{Visit, FindsAt, Finds, LooksAndAnswers, with_reply, replies_after, served}
 use Rattle.lift_replay.specs.declared.line.ScriptLine.{ScriptLine}
 use Rattle.lift_replay.specs.declared.line.ScriptLine.TheVariants.{Ask as AskThis, Turn, Show, Device}
 use Rattle.lift_replay.specs.declared.lines.End.{End}
@@ -55,7 +55,7 @@ looked (a ∷ askings) places [] replies i found finds count below none = absurd
 looked (a ∷ askings) [] (v ∷ visits) replies i found finds count below none = absurd (omega (arith, count))
 looked (a ∷ askings) (place ∷ places) (v ∷ visits) replies zero found finds count below none = looked_at place v replies finds.0 (found.0 ∙ none)
 looked (a ∷ askings) (place ∷ places) (v ∷ visits) replies (suc i) found finds count below none =
-    looked askings places visits (replies_behind v.found replies) i found.1 finds.1 (omega (arith, count)) (omega (arith, below)) none
+    looked askings places visits (replies_after v.found replies) i found.1 finds.1 (omega (arith, count)) (omega (arith, below)) none
 
 still_told : (seat : TerminalSeat) (old new : ClerkView) → IsLooked old new → BothTold seat seat old old → BothTold seat seat new new
 still_told seat old new look is =
@@ -74,8 +74,8 @@ none_waits a seat place None is step rests = is
 none_waits a seat place (Some ask) is step rests = absurd (rests (waits_so a seat place ask step is))
 
 -- After a turn that took as many commands as terminals wait nothing is to be told of the others: it took the commands of those that wait, and of no other.
-pub others_told_behind : (seats : List TerminalSeat) (places turned : List ClerkPlace) → AreReady seats places → HasTaken places turned (count_waiting seats) → OthersAreTold seats turned
-others_told_behind seats places turned ready (visits, replies, serves, many) =
+pub others_told_after : (seats : List TerminalSeat) (places turned : List ClerkPlace) → AreReady seats places → HasTaken places turned (count_waiting seats) → OthersAreTold seats turned
+others_told_after seats places turned ready (visits, replies, serves, many) =
     let step = ready.in_step in
     let found = found_counted 0 ready.terminals places visits seats (serves.each_once ∙ step.place_count) step.place_count step.seat_count serves.finds step.each (omega (arith, many)) in
     λ i below rests.

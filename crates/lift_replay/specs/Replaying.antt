@@ -7,7 +7,7 @@ use Rattle.lift_replay.specs.declared.lines.Verdict.{Verdict}
 use Rattle.lift_replay.specs.declared.lines.Verdict.TheVariants.{Bad}
 use Rattle.lift_replay.specs.Group.{first_group}
 use Rattle.lift_replay.specs.Reading.{most_bytes, IsInput}
-use Rattle.lift_replay.specs.Report.{AppendsFront}
+use Rattle.lift_replay.specs.Report.{AppendsPrefix}
 use Rattle.lift_replay.specs.Running.{TellsLines}
 use Rattle.lift_replay.specs.Script.{RefusesBuilding, SaysBuilding, IsText}
 use Rattle.lift_replay.specs.Source.{IsScript, LacksDivider}
@@ -40,9 +40,9 @@ WritesReport IsSuch before after verdict = (report : List ℕ) × IsSuch report 
     × Appends before after report
 
 -- what was written is a prefix of such a report
-abbrev pub WritesFront : (List ℕ → Verdict → Type 0) → (before after : Option (List ℕ)) → Type 0
-WritesFront IsSuch before after = (report : List ℕ) × (verdict : Verdict) × IsSuch report verdict
-    × AppendsFront before after report
+abbrev pub WritesPrefix : (List ℕ → Verdict → Type 0) → (before after : Option (List ℕ)) → Type 0
+WritesPrefix IsSuch before after = (report : List ℕ) × (verdict : Verdict) × IsSuch report verdict
+    × AppendsPrefix before after report
 
 -- what was written is the report of this input
 abbrev pub ReportsInput : (input before after : Option (List ℕ)) → Verdict → Type 0
@@ -50,6 +50,6 @@ ReportsInput input before after verdict = (bytes : List ℕ) × IsInput input by
     × WritesReport (IsReport bytes) before after verdict
 
 -- or a prefix of it
-abbrev pub ReportsFront : (input before after : Option (List ℕ)) → Type 0
-ReportsFront input before after = (bytes : List ℕ) × IsInput input bytes
-    × WritesFront (IsReport bytes) before after
+abbrev pub ReportsPrefix : (input before after : Option (List ℕ)) → Type 0
+ReportsPrefix input before after = (bytes : List ℕ) × IsInput input bytes
+    × WritesPrefix (IsReport bytes) before after

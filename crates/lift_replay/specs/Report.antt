@@ -112,8 +112,8 @@ building_text fault = codes "BUILDING " ++ decimal (fault_number fault) ++ floor
     ∷ []
 
 -- a prefix of this text was written
-abbrev pub AppendsFront : (old new : Option (List ℕ)) → List ℕ → Type 0
-AppendsFront old new text = (written : List ℕ) × IsPrefix written text × Appends old new written
+abbrev pub AppendsPrefix : (old new : Option (List ℕ)) → List ℕ → Type 0
+AppendsPrefix old new text = (written : List ℕ) × IsPrefix written text × Appends old new written
 
 -- The report grew by this. A part of it was written, after what had been kept back, and the rest
 -- is kept back.

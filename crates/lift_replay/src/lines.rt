@@ -102,7 +102,7 @@ fn push_turn_of(report: &mut String, station: &mut Station) -> Result<(), NoMemo
     ensures building { station.new.building ≡ station.old.building }
 {
     let taken = push_taken(report, &mut station.clerk)?;
-    station.terminals.tell_behind(&mut station.clerk, taken);
+    station.terminals.tell_after(&mut station.clerk, taken);
     station.terminals.push_all_heard(report)
 }
 

@@ -5,11 +5,11 @@ ghost use Rattle.std.specs.Prelude.{string_bytes, true, false, OnOk, OnErr, IfOk
 ghost use Rattle.std.specs.Io.KnownBytes.{Appends};
 ghost use Rattle.lift_replay.specs.Reading.{IsInputRead, LeavesUnread, ReadsUpTo, most_bytes};
 ghost use Rattle.lift_replay.specs.Reading.{most_calls};
-ghost use Rattle.lift_replay.specs.Report.{AppendsFront, Reports, building_text};
+ghost use Rattle.lift_replay.specs.Report.{AppendsPrefix, Reports, building_text};
 ghost use Rattle.lift_replay.specs.Group.{first_group};
 ghost use Rattle.lift_replay.specs.Running.{TellsLines, TellsPart};
-ghost use Rattle.lift_replay.specs.Replaying.{IsTextReport, ReportsFront, ReportsInput};
-ghost use Rattle.lift_replay.specs.Replaying.{WritesReport, WritesFront};
+ghost use Rattle.lift_replay.specs.Replaying.{IsTextReport, ReportsPrefix, ReportsInput};
+ghost use Rattle.lift_replay.specs.Replaying.{WritesReport, WritesPrefix};
 ghost use Rattle.lift_replay.specs.Source.{lines_in};
 ghost use Rattle.lift_replay.specs.Writing.{IsCalled, WritesPieces, of_input};
 ghost use Rattle.lift_replay.specs.declared.script.ReplayFault.TheVariants.{Memory as Wanting};
@@ -80,7 +80,7 @@ fn refuse<W: Outlet>(writer: &mut W, report: &str) -> Result<Verdict, ReplayFaul
     ensures not_good { result ≢ Ok Verdict.Good }
     ensures bad { OnOk result (Appends (W.contents writer.old) (W.contents writer.new) report.now) }
     ensures front { OnErr result
-        (AppendsFront (W.contents writer.old) (W.contents writer.new) report.now) }
+        (AppendsPrefix (W.contents writer.old) (W.contents writer.new) report.now) }
 {
     put_all(writer, report.as_bytes())?;
     Ok(Verdict::Bad)
@@ -102,7 +102,7 @@ fn refuse_building<W: Outlet>(
         × Appends (W.contents writer.old) (W.contents writer.new) (building_text fault)) }
     ensures front { OnErr result ((W.contents writer.new ≡ W.contents writer.old)
         ⊎ ((fault ≢ BuildingFault.Memory tt)
-        × AppendsFront (W.contents writer.old) (W.contents writer.new) (building_text fault))) }
+        × AppendsPrefix (W.contents writer.old) (W.contents writer.new) (building_text fault))) }
 {
     if let BuildingFault::Memory(no_memory) = fault {
         return Err(ReplayFault::Memory(NoMemory::for_building(no_memory)));
@@ -162,7 +162,7 @@ fn run_lines<W: Outlet>(
         WritesReport (TellsLines building.now 0 (first_group building.now) (lines_in lines.now))
         (W.contents writer.old) (W.contents writer.new) verdict) }
     ensures front { OnErr result
-        (WritesFront (TellsLines building.now 0 (first_group building.now) (lines_in lines.now))
+        (WritesPrefix (TellsLines building.now 0 (first_group building.now) (lines_in lines.now))
         (W.contents writer.old) (W.contents writer.new)) }
 {
     let mut piece = empty_piece(alloc)?;
@@ -179,7 +179,7 @@ fn run_text<W: Outlet>(alloc: Global, text: &str, writer: &mut W) -> Result<Verd
         WritesReport (IsTextReport text.now) (W.contents writer.old) (W.contents writer.new)
         verdict) }
     ensures front { OnErr result
-        (WritesFront (IsTextReport text.now) (W.contents writer.old) (W.contents writer.new)) }
+        (WritesPrefix (IsTextReport text.now) (W.contents writer.old) (W.contents writer.new)) }
 {
     let Some((building, lines)) = split_script(alloc, text)? else {
         return refuse(writer, "NO SCRIPT\n");
@@ -209,7 +209,7 @@ pub fn run<R: Read + Drop, W: Outlet>(
         ReportsInput (R.remaining input.old.reader) (W.contents writer.old)
         (W.contents writer.new) verdict) }
     ensures front { OnErr result
-        (ReportsFront (R.remaining input.old.reader) (W.contents writer.old)
+        (ReportsPrefix (R.remaining input.old.reader) (W.contents writer.old)
         (W.contents writer.new)) }
     ensures unwritten { result ≡ Err ReplayFault.Read
         → W.contents writer.new ≡ W.contents writer.old }

@@ -22,7 +22,7 @@ fn split_at_end(text: &str) -> Option<(&str, &str)>
 }
 
 /// What stands after a turn, none where the text doesn't begin with one.
-fn behind_turn(text: &str) -> Option<&str>
+fn later_turn(text: &str) -> Option<&str>
     ensures { IfSome result (λ rest. text.now ≡ codes "turn\n" ++ rest.now) }
 {
     behind(text.as_bytes(), b"turn\n")?;
@@ -52,7 +52,7 @@ fn next_line(text: &str) -> Option<(&str, &str)>
         return None;
     }
     // The most frequent line is found without a search.
-    if let Some(behind) = behind_turn(text) {
+    if let Some(behind) = later_turn(text) {
         return Some(("turn", behind));
     }
     match split_at_end(text) {

@@ -146,7 +146,7 @@ impl<'d> Terminals<'d> {
     /// Tells the clerk what each terminal has asked so far, and each terminal what was answered
     /// there so far, after a turn that took so many commands, or failed. As many as wait are theirs,
     /// and then the others have nothing new.
-    pub fn tell_behind(&mut self, clerk: &mut Clerk<'_, '_, FuseDisk, Etd>, taken: Option<usize>)
+    pub fn tell_after(&mut self, clerk: &mut Clerk<'_, '_, FuseDisk, Etd>, taken: Option<usize>)
         requires desk { clerk.old.desk ≡ self.old.desk.now }
         requires places { length clerk.old.seat ≡ length self.old.seats.items }
         requires others_told { taken ≡ Some (count_waiting self.old.seats.items)

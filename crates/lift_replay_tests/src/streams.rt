@@ -201,7 +201,7 @@ fn halts_writing(alloc: Global, room: usize, fails: bool) -> bool {
 
 /// A writer that fails, or takes nothing, after each byte of the report.
 #[test]
-fn writers_halt_behind_each_byte(rt: HostRuntime) {
+fn writers_halt_after_each_byte(rt: HostRuntime) {
     let mut right = 0usize;
     for room in 0..CALLED.len().saturating_add(1) {
         if halts_writing(rt.alloc(), room, false) && halts_writing(rt.alloc(), room, true) {

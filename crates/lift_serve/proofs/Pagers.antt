@@ -9,19 +9,19 @@ none_in_order zero terminal is = absurd (cc)
 none_in_order (suc place) terminal is = absurd (cc)
 
 -- what is found after one pager more was there before, or is the last one
-paged_behind : (pagers : List ℕ) (last place terminal : ℕ) → slice_get (pagers ++ last ∷ []) place ≡ Some terminal
+paged_after : (pagers : List ℕ) (last place terminal : ℕ) → slice_get (pagers ++ last ∷ []) place ≡ Some terminal
     → (slice_get pagers place ≡ Some terminal) ⊎ ((place ≡ length pagers) × (last ≡ terminal))
-paged_behind [] last zero terminal is = inr (refl, cc)
-paged_behind [] last (suc place) terminal is = absurd (cc)
-paged_behind (first ∷ pagers) last zero terminal is = inl is
-paged_behind (first ∷ pagers) last (suc place) terminal is = behind (paged_behind pagers last place terminal is)
+paged_after [] last zero terminal is = inr (refl, cc)
+paged_after [] last (suc place) terminal is = absurd (cc)
+paged_after (first ∷ pagers) last zero terminal is = inl is
+paged_after (first ∷ pagers) last (suc place) terminal is = behind (paged_after pagers last place terminal is)
   where
     behind : (slice_get pagers place ≡ Some terminal) ⊎ ((place ≡ length pagers) × (last ≡ terminal)) → (slice_get pagers place ≡ Some terminal) ⊎ ((suc place ≡ suc (length pagers)) × (last ≡ terminal))
     behind (inl before) = inl before
     behind (inr at) = inr (ap suc at.0, at.1)
 
 pub one_pager_more : (pagers : List ℕ) (last : ℕ) → AreInOrder pagers → last ≡ length pagers → AreInOrder (pagers ++ last ∷ [])
-one_pager_more pagers last are next place terminal is = go (paged_behind pagers last place terminal is)
+one_pager_more pagers last are next place terminal is = go (paged_after pagers last place terminal is)
   where
     go : (slice_get pagers place ≡ Some terminal) ⊎ ((place ≡ length pagers) × (last ≡ terminal)) → terminal ≡ place
     go (inl before) = are place terminal before

@@ -91,15 +91,15 @@ so_many : (register : RegisterState) (desk : List TableId) (seats : List Termina
 so_many register desk [] = refl
 so_many register desk (seat ∷ seats) = ap suc (so_many register desk seats)
 
-one_behind : (before : List TerminalSeat) (seat : TerminalSeat) (rest : List TerminalSeat) → (before ++ seat ∷ []) ++ rest ≡ before ++ seat ∷ rest
-one_behind [] seat rest = refl
-one_behind (one ∷ before) seat rest = ap (λ (l : List TerminalSeat). one ∷ l) (one_behind before seat rest)
+one_later : (before : List TerminalSeat) (seat : TerminalSeat) (rest : List TerminalSeat) → (before ++ seat ∷ []) ++ rest ≡ before ++ seat ∷ rest
+one_later [] seat rest = refl
+one_later (one ∷ before) seat rest = ap (λ (l : List TerminalSeat). one ∷ l) (one_later before seat rest)
 
 -- a seat goes from those that are left to those that came
 pub one_taken_more : (desk : List TableId) (before : List TerminalSeat) (seat : TerminalSeat) (left rest : List TerminalSeat) → before ++ left ≡ seats_from 0 desk → left ≡ seat ∷ rest
     → (before ++ seat ∷ []) ++ rest ≡ seats_from 0 desk
 one_taken_more desk before seat left rest split first =
-    one_behind before seat rest ∙ (ap (λ (l : List TerminalSeat). before ++ l) (sym first) ∙ split)
+    one_later before seat rest ∙ (ap (λ (l : List TerminalSeat). before ++ l) (sym first) ∙ split)
 
 -- the next seat's place is after those that were received
 pub next_place : (register : RegisterState) (desk : List TableId) (before : List TerminalSeat) (seat : TerminalSeat) (left rest : List TerminalSeat) (held : HeldState) (places : List (Option HeldState))
@@ -174,8 +174,8 @@ no_more [] is = refl
 no_more (seat ∷ l) is = absurd (omega (arith, is))
 
 -- as far as nothing is left after those that came
-pub is_lobby_behind : (register : RegisterState) (desk : List TableId) (before rest : List TerminalSeat) (places : List (Option HeldState)) → before ++ rest ≡ seats_from 0 desk
+pub is_lobby_after : (register : RegisterState) (desk : List TableId) (before rest : List TerminalSeat) (places : List (Option HeldState)) → before ++ rest ≡ seats_from 0 desk
     → length rest ≡ 0 → places ≡ found_seats register desk before → IsLobbyOf desk places
-is_lobby_behind register desk before rest places split none are =
+is_lobby_after register desk before rest places split none are =
     let all : before ≡ seats_from 0 desk = sym (append-nil before) ∙ (ap (λ (l : List TerminalSeat). before ++ l) (sym (no_more rest none)) ∙ split) in
     is_lobby register desk before places are all

@@ -23,14 +23,14 @@ use Rattle.lift_relay.specs.Pair.{HaveRun}
 use Rattle.lift_relay.specs.lemmas.Heard.{heard_on, turns_stay}
 use Rattle.lift_parts.specs.Flusher.{FlusherState, IsFlusher}
 use Rattle.lift_parts.specs.Keeping.{HaveKept, TurnsKeep}
-use Rattle.lift_parts.specs.History.{JoinedGoOn, group_behind}
+use Rattle.lift_parts.specs.History.{JoinedGoOn, group_after}
 use Rattle.lift_parts.specs.Parts.{AreParts, AreOfOne}
 use Rattle.lift_parts.specs.Turns.{AllocatorTurns, NoMore, FlusherTurns, NoFlush, OneFlush, first_of}
 use Rattle.lift_parts.specs.lemmas.Paired.{same_allocator, turns_joined, flushes_joined}
 use Rattle.lift_serve.specs.declared.serving.ServeFault.{ServeFault}
 use Rattle.lift_serve.specs.declared.serving.ServeFault.TheVariants.{Thread}
 use Rattle.std.specs.declared.net.tcp.TcpListener.{TcpListener as Listener}
-use Rattle.lift_serve.specs.Open.{AreEndedAt, EndedState, IsEndAt, ended_in, told_behind}
+use Rattle.lift_serve.specs.Open.{AreEndedAt, EndedState, IsEndAt, ended_in, told_after}
 use Rattle.lift_serve.specs.Relaying.{ComeOf, HaveRunOrNot, IsLastTurn, KeptInParts, RanInParts, has_failed}
 
 abbrev is_spawn : Option RunFault → Type 0
@@ -80,7 +80,7 @@ module _ {D P : Type 0} (choice : Choice) (state : D → DiskState) (before : Cl
 
 -- What was answered before is kept by the turns that both parts had, if they had any.
 module _ {D P : Type 0} (chooses : P → Choice) (state : D → DiskState) (law : TurnsKeep D state) (joins : JoinedGoOn D P) (before : ClerkState D P) (a b : AllocatorState P) (f g : FlusherState D)
-    (base : RegisterState) (safe : List Entry) (given : List Taken) (history : History base (group_behind f) safe given) where
+    (base : RegisterState) (safe : List Entry) (given : List Taken) (history : History base (group_after f) safe given) where
   kept_run : (fault : Option RunFault) → HaveRun (chooses a.policy) state a b f g fault → HaveKept state base f g safe given
   kept_run fault run = law f g None run.first base safe given history run.flusher
 
@@ -116,7 +116,7 @@ of_one {D} before a f parts = record {
 -- the choice is that of the clerk's policy, which stays
 pub relayed_on : {D P : Type 0} (chooses : P → Choice) (state : D → DiskState) → TurnsKeep D state → JoinedGoOn D P → (before after : ClerkState D P) (a b : AllocatorState P) (f g : FlusherState D)
     (fault : Option RunFault) → AreParts before a f
-    → ((base : RegisterState) (safe : List Entry) (given : List Taken) → History base (group_of before) safe given → History base (group_behind f) safe given) → HaveRunOrNot (chooses a.policy) state a b f g fault → IsLastTurn chooses state b g after → RanInParts chooses state before after fault
+    → ((base : RegisterState) (safe : List Entry) (given : List Taken) → History base (group_of before) safe given → History base (group_after f) safe given) → HaveRunOrNot (chooses a.policy) state a b f g fault → IsLastTurn chooses state b g after → RanInParts chooses state before after fault
 relayed_on {D} {P} chooses state law joins before after a b f g fault parts split run last = record {
   allocator = a;
   flusher = f;
@@ -158,10 +158,10 @@ module _ {D P : Type 0} (chooses : P → Choice) (choice : Choice) (state : D �
       ap (λ (w : WriterView D). w.is_broken) (last.turn.commits.is.rests joined) ∙ joined
 
   -- of a run and of the last turn after it
-  pub heard_behind : {V : Type 0} (hears : V → V → Type 0) (before after : ClerkState D P) (fault : Option RunFault) (u v w : V) → AreParts before a f → HaveRunOrNot choice state a b f g fault
+  pub heard_after : {V : Type 0} (hears : V → V → Type 0) (before after : ClerkState D P) (fault : Option RunFault) (u v w : V) → AreParts before a f → HaveRunOrNot choice state a b f g fault
       → IsLastTurn chooses state b g after → FailureHeard hears f.writer.is_broken g.writer.is_broken u v → FailureHeard hears g.writer.is_broken after.keeper.writer.is_broken v w
       → FailureHeard hears before.keeper.writer.is_broken after.keeper.writer.is_broken u w
-  heard_behind hears before after fault u v w parts run last first then =
+  heard_after hears before after fault u v w parts run last first then =
       subst (λ (x : WriterView D). FailureHeard hears x.is_broken after.keeper.writer.is_broken u w) parts.writer
       (heard_on hears f.writer.is_broken g.writer.is_broken after.keeper.writer.is_broken u v w (run_stays fault run) (last_stays after last) first then)
 
@@ -172,20 +172,20 @@ come_first chooses state clerk a f unused parts first =
     ∣ record { unused = unused; allocator = a; flusher = f; parts = parts; first = first; turned = NoMore; fault = None; flushed = NoFlush } ∣₁
 
 -- whichever fault there was before
-record FlushedBehind {D : Type 0} (state : D → DiskState) (f g : FlusherState D) (before : Option KeeperFault) : Type 0 where
+record FlushedAfter {D : Type 0} (state : D → DiskState) (f g : FlusherState D) (before : Option KeeperFault) : Type 0 where
   last : Option KeeperFault
   turns : FlusherTurns state f before g last
 
-flushed_behind : {D : Type 0} (state : D → DiskState) (f g : FlusherState D) (first last before : Option KeeperFault) → FlusherTurns state f first g last → FlushedBehind state f g before
-flushed_behind state f g first last before NoFlush = record { last = before; turns = NoFlush }
-flushed_behind state f h first last before (OneFlush {g = g} {first = mid} {answer = answer} more flush is) =
-    let k = flushed_behind state f g first mid before more in
+flushed_after : {D : Type 0} (state : D → DiskState) (f g : FlusherState D) (first last before : Option KeeperFault) → FlusherTurns state f first g last → FlushedAfter state f g before
+flushed_after state f g first last before NoFlush = record { last = before; turns = NoFlush }
+flushed_after state f h first last before (OneFlush {g = g} {first = mid} {answer = answer} more flush is) =
+    let k = flushed_after state f g first mid before more in
     record { last = first_of k.last answer; turns = OneFlush k.turns flush refl }
 
 come_run : {D P : Type 0} (chooses : P → Choice) (state : D → DiskState) (clerk : ClerkState D P) (a b : AllocatorState P) (f g : FlusherState D) (fault : Option RunFault) → ComeOf chooses state clerk a f
     → HaveRun (chooses a.policy) state a b f g fault → ComeOf chooses state clerk b g
 come_run {D} {P} chooses state clerk a b f g fault come run =
-    let k = flushed_behind state f g None run.first come.fault run.flusher in
+    let k = flushed_after state f g None run.first come.fault run.flusher in
     let same : a.policy ≡ come.allocator.policy = (same_allocator (chooses come.allocator.policy) come.allocator a come.turned).policy in
     record {
       unused = come.unused;
@@ -211,16 +211,16 @@ pub come_on : {D P : Type 0} (chooses : P → Choice) (state : D → DiskState) 
 come_on chooses state clerk a b f g fault come refused ran = ∥∥₁_map come (come_by chooses state clerk a b f g fault refused ran)
 
 -- what is reported after the last end, and where all were given up
-pub told_at_last : (over : Result EndedState (Unit {0})) (first : Option ServeFault) → is_ok over ≡ true → told_behind over first ≡ first
+pub told_at_last : (over : Result EndedState (Unit {0})) (first : Option ServeFault) → is_ok over ≡ true → told_after over first ≡ first
 told_at_last (Ok ended) first is = refl
 told_at_last (Err given_up) first is = absurd (cc)
 
-pub told_given_up : (over : Result EndedState (Unit {0})) (first : Option ServeFault) → is_ok over ≡ false → told_behind over first ≡ Some Thread
+pub told_given_up : (over : Result EndedState (Unit {0})) (first : Option ServeFault) → is_ok over ≡ false → told_after over first ≡ Some Thread
 told_given_up (Ok ended) first is = absurd (cc)
 told_given_up (Err given_up) first is = refl
 
 -- that no thread could be made for the serving itself is told, whatever else there was
-pub tells_spawn : (over : Result EndedState (Unit {0})) (first is_told : Option ServeFault) → is_told ≡ told_behind over first → IsErr over → is_told ≡ Some Thread
+pub tells_spawn : (over : Result EndedState (Unit {0})) (first is_told : Option ServeFault) → is_told ≡ told_after over first → IsErr over → is_told ≡ Some Thread
 tells_spawn (Ok ended) first is_told says given_up = absurd (cc)
 tells_spawn (Err given_up) first is_told says over = says
 
@@ -235,7 +235,7 @@ is_told_of None = ⊥
 is_told_of (Some fault) = Unit {0}
 
 -- and where nothing is told as the fault
-pub all_ended : (over : Result EndedState (Unit {0})) (first fault : Option ServeFault) (ended : Option EndedState) → fault ≡ told_behind over first → ended ≡ ended_in over
+pub all_ended : (over : Result EndedState (Unit {0})) (first fault : Option ServeFault) (ended : Option EndedState) → fault ≡ told_after over first → ended ≡ ended_in over
     → fault ≡ None → IsSome ended
 all_ended (Err given_up) first fault ended says is none = absurd (subst is_told_of (sym says ∙ none) tt)
 all_ended (Ok over) first fault ended says is none = subst (λ (e : Option EndedState). IsSome e) (sym is) refl

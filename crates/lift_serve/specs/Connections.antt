@@ -1,7 +1,7 @@
 -- What comes of a connection.
 use Rattle.std.specs.Prelude.{ℕ, ◌≡◌, ◌≤◌, ◌+◌, ◌⊎◌, Option, true, false, List, [], ◌∷◌, ◌++◌, codes, length}
 use Rattle.std.specs.Str.Lines.{strip_carriage_return}
-use Rattle.lift_base.specs.Output.{Sink, Takes, TakesFront}
+use Rattle.lift_base.specs.Output.{Sink, Takes, TakesPrefix}
 use Rattle.lift_kiosk.specs.Lines.{FailsOnce, FindsEnd, GivesLine, GivesPart, Source}
 use Rattle.lift_kiosk.specs.declared.line.NoLine.{NoLine as LineMissing}
 use Rattle.lift_kiosk.specs.declared.line.NoLine.TheVariants.{AtEnd, NoCalls, Fault}
@@ -14,7 +14,7 @@ use Rattle.lift_serve.specs.declared.attending.Outcome.TheVariants.{Visited}
 -- all of these bytes were written, or a prefix of them, before which the writer failed
 abbrev pub IsSaid : List ℕ → (before after : Sink) → Type 0
 IsSaid bytes before after = Takes bytes before after
-    ⊎ ((count : ℕ) × TakesFront count bytes before after)
+    ⊎ ((count : ℕ) × TakesPrefix count bytes before after)
 
 -- a reader that was not called, with what it has left where it says that
 abbrev pub new_source : Option (List ℕ) → Source

@@ -11,7 +11,7 @@ use Rattle.lift_journal.specs.Journal.{ReadsAs}
 use Rattle.lift_keeper.specs.Images.{IsImageOf}
 use Rattle.lift_keeper.specs.Keeper.{KeeperView}
 use Rattle.lift_world.specs.declared.event.Taken.{Taken}
-use Rattle.lift_clerk.specs.Keeping.{ImageKeeps, KeepsFront}
+use Rattle.lift_clerk.specs.Keeping.{ImageKeeps, KeepsPrefix}
 use Rattle.lift_serve.specs.declared.serving.ServeFault.{ServeFault}
 use Rattle.lift_serve.specs.Relaying.{IsServingOutcome, IsServedKeeper, IsUnserved, KeptInParts}
 
@@ -47,7 +47,7 @@ pub record KeepsOver {D P : Type 0} (chooses : P → Choice) (state : D
     (base : RegisterState) (accepted : List Entry) (given : List Taken) : Type 0 where
   -- so does each that a crash at any moment of the recovery may leave;
   pub recovery : LeavesOnly (state opened) (state keeper.writer.device)
-      (KeepsFront D plan base accepted given)
+      (KeepsPrefix D plan base accepted given)
   -- the keeper that has opened has the register of such a prefix;
   pub safe : List Entry
   pub is_front : IsPrefix safe accepted
@@ -60,7 +60,7 @@ pub record KeepsOver {D P : Type 0} (chooses : P → Choice) (state : D
   -- from the end on each image keeps all that was answered, and a prefix of what is safe then and
   -- what is in doubt;
   pub now : LeavesNow (state last.writer.device)
-      (KeepsFront D plan base (now_safe ++ last.writer.doubt) now_given)
+      (KeepsPrefix D plan base (now_safe ++ last.writer.doubt) now_given)
   -- and at no moment from the opening to the end is an answer lost that was given before.
   pub always : LeavesOnly (state opened) (state last.writer.device) (KeepsAll D plan base given)
 
@@ -68,11 +68,11 @@ pub record KeepsOver {D P : Type 0} (chooses : P → Choice) (state : D
 -- the answers of nobody over that register.
 abbrev pub ImagesKeep : Type 0 → Type 0
 ImagesKeep D = (plan : Plan) (register : RegisterState) (image : Image) → IsBuilding plan
-    → IsImageOf plan register image → KeepsFront D plan register [] [] image
+    → IsImageOf plan register image → KeepsPrefix D plan register [] [] image
 
 -- So does each that a crash now may leave of a device on which a journal of the building was made.
 abbrev pub MadeKeeps : (D M : Type 0) → (M → DiskState) → Type 0
 MadeKeeps D M state = (plan : Plan) (half : ℕ) (made : M) → IsBuilding plan
     → ((state made).is_honest → ReadsAs (shape_of plan half) [] [] (state made).image)
     → ((state made).is_honest → IsSynced (state made))
-    → LeavesNow (state made) (KeepsFront D plan empty [] [])
+    → LeavesNow (state made) (KeepsPrefix D plan empty [] [])

@@ -62,6 +62,6 @@ first_told (Some shortage) behind = Some shortage
 
 -- what is reported of a serving whose accepting was over so: that no thread could be had for the
 -- serving itself, and else the first shortage
-abbrev pub told_behind : Result EndedState (Unit {0}) → (first : Option ServeFault) → Option ServeFault
-told_behind (Ok ended) first = first
-told_behind (Err given_up) first = Some Thread
+abbrev pub told_after : Result EndedState (Unit {0}) → (first : Option ServeFault) → Option ServeFault
+told_after (Ok ended) first = first
+told_after (Err given_up) first = Some Thread

@@ -4,7 +4,7 @@
 ghost use Rattle.std.specs.Prelude.{◌≡◌, ◌≤◌, ℕ, ◌+◌, ◌%◌, ◌^◌, ◌∷◌, ◌++◌, [], None, Some};
 ghost use Rattle.std.specs.Prelude.{IfOk, IfErr, IfSome, IfNone, IsErr, IsSome, IsTrue, OnErr, ◌↔◌};
 ghost use Rattle.std.specs.Prelude.{not, ◌==◌, ◌≢◌, filter, true, false};
-ghost use Rattle.lift_serve.specs.Open.{AreOver, IsEndAt, ended_in, first_told, one_more, told_behind};
+ghost use Rattle.lift_serve.specs.Open.{AreOver, IsEndAt, ended_in, first_told, one_more, told_after};
 
 use crate::attending::Attendance;
 use crate::over::Over;
@@ -380,7 +380,7 @@ impl Connections {
     /// How the serving ended whose accepting was over so. Told is that all were given up, and else the
     /// first shortage.
     pub(crate) fn into_end(self, over: Over) -> ServingEnd
-        ensures fault { result.fault ≡ told_behind over self.shortage }
+        ensures fault { result.fault ≡ told_after over self.shortage }
         ensures begun { result.fault ≢ Some ServeFault.Network }
         ensures ended { result.ended ≡ ended_in over }
     {

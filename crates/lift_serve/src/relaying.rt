@@ -7,7 +7,7 @@ ghost use Rattle.lift_register.specs.Register.{RegisterState};
 ghost use Rattle.lift_world.specs.declared.event.Taken.{Taken};
 ghost use Rattle.lift_clerk.specs.History.{History};
 ghost use Rattle.lift_clerk.specs.Steps.{group_of};
-ghost use Rattle.lift_parts.specs.History.{group_behind};
+ghost use Rattle.lift_parts.specs.History.{group_after};
 ghost use Rattle.lift_parts.specs.Parts.{AreOfOne, AreParts};
 ghost use Rattle.lift_relay.specs.Heard.{FailureHeard};
 ghost use Rattle.lift_serve.specs.Relaying.{ComeOf, HaveRunOrNot, IsLastTurn};
@@ -64,7 +64,7 @@ impl<'d, 'b, D: Disk + Drop, P: Policy + Drop, K: Drop, V: Witness + Drop> Parts
         // The history of the clerk's group goes on as that of the flusher's.
         ensures history { IfOk result (λ parts. (base : RegisterState) (entries : List Entry)
             (given : List Taken) → History base (group_of clerk.entry) entries given
-            → History base (group_behind parts.flusher) entries given) }
+            → History base (group_after parts.flusher) entries given) }
         ensures witness { IfOk result (λ parts. parts.witness ≡ witness) }
         ensures refused { IfErr result (λ back. (back.0 ≡ clerk.entry) × (back.2 ≡ witness)) }
         ensures lack { IfErr result (λ back. back.1 ≡ ServeFault.Memory) }

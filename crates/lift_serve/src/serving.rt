@@ -8,7 +8,7 @@ ghost use Rattle.lift_register.specs.Register.{RegisterState};
 ghost use Rattle.lift_world.specs.declared.event.Taken.{Taken};
 ghost use Rattle.lift_clerk.specs.History.{History};
 ghost use Rattle.lift_clerk.specs.Steps.{group_of};
-ghost use Rattle.lift_parts.specs.History.{group_behind};
+ghost use Rattle.lift_parts.specs.History.{group_after};
 ghost use Rattle.lift_parts.specs.Parts.{AreParts};
 ghost use Rattle.lift_serve.specs.Lobby.{AreInOrder, found_seats};
 ghost use Rattle.lift_relay.specs.Heard.{FailureHeard};
@@ -210,7 +210,7 @@ where
     requires parts { AreParts parts.clerk.value parts.allocator parts.flusher }
     requires history { (base : RegisterState) (entries : List Entry) (given : List Taken)
         → History base (group_of parts.clerk.value) entries given
-        → History base (group_behind parts.flusher) entries given }
+        → History base (group_after parts.flusher) entries given }
     ensures ran { (fault : Option Fault)
         × RanInParts P.chooses D.state parts.entry.clerk.value result.0 fault
         × (fault ≡ Some (Fault.Spawn tt) → IsErr result.1) }

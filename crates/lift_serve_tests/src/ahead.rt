@@ -163,7 +163,7 @@ impl<'a> Disk for Holding<'a> {
 }
 
 /// Serves until this many connections have ended, beside a script: how many calls are open after it.
-fn open_behind<
+fn open_after<
     R: Threads + Wait + Clock + Abort + Net<Listener = TcpListener, Stream = TcpStream> + Sync,
 >(rt: &R, alloc: Global, sessions: u32, script: &str) -> u32 {
     let words = Words::new();
@@ -185,10 +185,10 @@ fn open_behind<
 
 #[test]
 fn a_call_is_decided_while_a_sync_is_held(rt: HostRuntime) {
-    assert!(rt; open_behind(&rt, rt.alloc(), 4, BOTH_CALL) == 2);
+    assert!(rt; open_after(&rt, rt.alloc(), 4, BOTH_CALL) == 2);
 }
 
 #[test]
-fn a_letter_comes_behind_the_last_end(rt: HostRuntime) {
-    assert!(rt; open_behind(&rt, rt.alloc(), 3, ONE_CALLS) == 1);
+fn a_letter_comes_after_the_last_end(rt: HostRuntime) {
+    assert!(rt; open_after(&rt, rt.alloc(), 3, ONE_CALLS) == 1);
 }

@@ -127,7 +127,7 @@ const LINES: [Row; 4] = [
                 ..CAR
             },
             Visit {
-                is_behind_turn: true,
+                is_later_turn: true,
                 begins: (3, None),
                 output: b"READY 4\n",
                 ends: (4, None),

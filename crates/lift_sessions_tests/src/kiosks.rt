@@ -128,7 +128,7 @@ const LINES: [Row; 10] = [
                 ..KIOSK
             },
             Visit {
-                is_behind_turn: true,
+                is_later_turn: true,
                 output: b"READY 1 A\n",
                 ends: (1, Some(0)),
                 ..KIOSK

@@ -16,7 +16,7 @@ pub(crate) struct Visit {
     /// Whether a car speaks, else a kiosk.
     pub is_of_car: bool,
     /// Whether the clerk turns before.
-    pub is_behind_turn: bool,
+    pub is_later_turn: bool,
     pub begins: Last,
     pub input: &'static [u8],
     pub output: &'static [u8],
@@ -82,7 +82,7 @@ pub(crate) const IMPATIENT: Limits = Limits {
 /// A kiosk without a call.
 pub(crate) const KIOSK: Visit = Visit {
     is_of_car: false,
-    is_behind_turn: false,
+    is_later_turn: false,
     begins: (0, None),
     input: b"",
     output: b"",
@@ -153,7 +153,7 @@ fn comes_so(alloc: Global, port: &mut Served, case: &Case, visit: &Visit) -> boo
         room: case.streams.room,
         fails: case.streams.fails,
     });
-    if visit.is_behind_turn {
+    if visit.is_later_turn {
         port.turn();
     }
     let (end, ends) = if visit.is_of_car {

@@ -71,9 +71,9 @@ low_rank Up leg low = omega (arith, low)
 low_rank Down leg low = omega arith
 
 -- a floor behind one ahead, as travelled, is ahead too
-ahead_behind : (dir : Dir) (leg floor other : ℕ) → leg < 64 → floor_rank dir floor ≤ floor_rank dir leg → is_ahead dir floor other ≡ true → is_ahead dir leg other ≡ true
-ahead_behind Up leg floor other low le ahead = le-leb other leg (omega (arith, le, leb-true other floor ahead))
-ahead_behind Down leg floor other low le ahead = le-leb leg other (omega (arith, le, low, leb-true floor other ahead))
+ahead_after : (dir : Dir) (leg floor other : ℕ) → leg < 64 → floor_rank dir floor ≤ floor_rank dir leg → is_ahead dir floor other ≡ true → is_ahead dir leg other ≡ true
+ahead_after Up leg floor other low le ahead = le-leb other leg (omega (arith, le, leb-true other floor ahead))
+ahead_after Down leg floor other low le ahead = le-leb leg other (omega (arith, le, low, leb-true floor other ahead))
 
 -- no leg of the first pass is behind a floor that its first halt isn't behind
 pub first_ahead : (dir : Dir) (low : ℕ) (halts : List Halt) (leg floor : ℕ) → Rises (rank_of dir) low halts → IsIn (halt_at First leg) halts → leg < 64
@@ -88,7 +88,7 @@ first_ahead dir low (h ∷ hs) leg floor rises member below first = of h.pass re
     ]
 
     of : (pass : Pass) → h.pass ≡ pass → is_ahead dir leg floor ≡ true
-    of First is = (let least-is = rw is at least in ahead_behind dir leg h.floor floor below (omega (arith, least-is)) (first h refl is))
+    of First is = (let least-is = rw is at least in ahead_after dir leg h.floor floor below (omega (arith, least-is)) (first h refl is))
     of Second is = (let least-is = rw is at least in absurd (omega (arith, least-is, low_rank dir leg below)))
     of Third is = (let least-is = rw is at least in absurd (omega (arith, least-is, low_rank dir leg below)))
 
@@ -97,10 +97,10 @@ same_dir-self Up = refl
 same_dir-self Down = refl
 
 -- a floor behind another one is behind each that is ahead of that
-still_behind : (dir : Dir) (leg floor next : ℕ) → is_ahead dir next floor ≡ true → is_ahead dir leg floor ≡ false → is_ahead dir leg next ≡ false
-still_behind dir leg floor next on behind = elim (cases_Bool (is_ahead dir leg next)) [
+still_after : (dir : Dir) (leg floor next : ℕ) → is_ahead dir next floor ≡ true → is_ahead dir leg floor ≡ false → is_ahead dir leg next ≡ false
+still_after dir leg floor next on behind = elim (cases_Bool (is_ahead dir leg next)) [
   | inl ahead ↦ absurd (differ (sym (reaches dir leg floor next on ahead) ∙ behind))
-  | inr behind_next ↦ behind_next
+  | inr after_next ↦ after_next
 ]
   where
     differ : true ≢ false
@@ -133,7 +133,7 @@ keeps rows position next halts dir-is on listed floors first = record {
       λ is_same is_on.
       let pass-is : pass_of position row ≡ First = rw (is_same, is_on) refl in
       first_ahead dir 0 halts leg next.floor (rw listed (stops-rise rows position)) (rw pass-is at own) (own_low row (floors k blank within)) first in
-      rw dir-is (kept_at dir same ahead (is_ahead dir leg next.floor) goes_on (still_behind dir leg position.floor next.floor on));
+      rw dir-is (kept_at dir same ahead (is_ahead dir leg next.floor) goes_on (still_after dir leg position.floor next.floor on));
 }
 
 -- ---- what depends on passes alone

@@ -207,15 +207,15 @@ module _ (w : World) where
   abbrev last : SealedBatch
   last = record { commands = w.taken; upto = length w.accepted }
 
-  pull_behind : (queue : List SealedBatch) → queue ≢ [] → pulled (sealing w) (queue ++ last ∷ []) ≡ option_map sealing (pulled w queue)
-  pull_behind [] some = absurd (some refl)
-  pull_behind (batch ∷ rest) some = ap (λ (x : World). Some x) (lift_pull sealing (is_broken w.power) (nat_lt w.safe batch.upto) _ _ _)
+  pull_later : (queue : List SealedBatch) → queue ≢ [] → pulled (sealing w) (queue ++ last ∷ []) ≡ option_map sealing (pulled w queue)
+  pull_later [] some = absurd (some refl)
+  pull_later (batch ∷ rest) some = ap (λ (x : World). Some x) (lift_pull sealing (is_broken w.power) (nat_lt w.safe batch.upto) _ _ _)
 
   passes_seal : (event : Event) → IsTrue (is_flushers event) → (event ≡ Pull → w.queue ≢ []) → next (sealing w) event ≡ option_map sealing (next w event)
   passes_seal (Ask terminal number body) is some = absurd (false≢true is)
   passes_seal (Take terminal letter) is some = absurd (false≢true is)
   passes_seal Seal is some = absurd (false≢true is)
-  passes_seal Pull is some = lift_cond sealing (may_pull w) (pulled (sealing w) (w.queue ++ last ∷ [])) (pulled w w.queue) (pull_behind w.queue (some refl))
+  passes_seal Pull is some = lift_cond sealing (may_pull w) (pulled (sealing w) (w.queue ++ last ∷ [])) (pulled w w.queue) (pull_later w.queue (some refl))
   passes_seal Fold is some = lift_then sealing (λ n. is_running w.power && eqb n 0) (λ n. w) (written w.phase)
   passes_seal BodyWrite is some = lift_then sealing (may_write w) (λ n. in_phase w (Writing (n + 1))) (written w.phase)
   passes_seal FirstSync is some = lift_then sealing (may_sync w) (λ n. in_phase w Synced) (written w.phase)

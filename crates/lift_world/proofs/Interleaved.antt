@@ -222,22 +222,22 @@ module _ (other : Event) (on : IsTrue (goes_on other)) (isnt : is_flushers other
       (m.0, m.1, t.still e m.0 is m.1 ∙ ap (λ (x : World). Some x) m.2)
 
   -- and before a list of them
-  goes_behind : (events : List Event) (w taken after : World) → Ordered w → AllFlushers events → count_by is_pull events ≤ length w.queue
+  goes_after : (events : List Event) (w taken after : World) → Ordered w → AllFlushers events → count_by is_pull events ≤ length w.queue
       → next w other ≡ Some taken → goes events taken ≡ Some after → (before : World) × (goes events w ≡ Some before) × (next before other ≡ Some after)
-  goes_behind [] w taken after order are few h g = (w, refl, h ∙ g)
-  goes_behind (e ∷ events) w taken after order are few h g =
+  goes_after [] w taken after order are few h g = (w, refl, h ∙ g)
+  goes_after (e ∷ events) w taken after order are few h g =
       let x = then_from (goes events) (next taken e) after g in
       let m = swapped e w taken x.0 order are.0 (queued_first w e events few) h x.1 in
       let counts = count_cons is_pull e (is_pull e) refl events in
       let left = queue_after w e m.0 are.0 m.1 in
-      let rest = goes_behind events m.0 x.0 after (ordered_next w e m.0 order m.1) are.1 (omega arith) m.2 x.2 in
+      let rest = goes_after events m.0 x.0 after (ordered_next w e m.0 order m.1) are.1 (omega arith) m.2 x.2 in
       (rest.0, one e events w m.0 m.1 ∙ rest.1, rest.2)
 
-  moved_behind : (his theirs : List Event) (w taken after : World) → Ordered w → AllFlushers his → count_by is_pull his ≤ length w.queue
+  moved_after : (his theirs : List Event) (w taken after : World) → Ordered w → AllFlushers his → count_by is_pull his ≤ length w.queue
       → next w other ≡ Some taken → goes (his ++ theirs) taken ≡ Some after → goes (his ++ other ∷ theirs) w ≡ Some after
-  moved_behind his theirs w taken after order are few h g =
+  moved_after his theirs w taken after order are few h g =
       let m = then_from (goes theirs) (goes his taken) after (sym (goes-append his theirs taken) ∙ g) in
-      let d = goes_behind his w taken m.0 order are few h m.1 in
+      let d = goes_after his w taken m.0 order are few h m.1 in
       joined his (other ∷ theirs) w d.0 d.1 ∙ one other theirs d.0 m.0 d.2 ∙ m.2
 
   -- what the flusher can do alone it can do after it
@@ -268,7 +268,7 @@ comes_first e events w after false isnt order on few h rest =
     let counts = count_cons is_pull e (is_pull e) refl events in
     let fewer = count_filter is_pull is_flushers events in
     let longer = (through e w t.0 order on isnt t.1).no_shorter in
-    moved_behind e on isnt (flushers_part events) (others_part events) w t.0 after order (flushers_only events) (omega arith) t.1
+    moved_after e on isnt (flushers_part events) (others_part events) w t.0 after order (flushers_only events) (omega arith) t.1
     (rest t.0 (ordered_next w e t.0 order t.1) (omega arith) t.2)
 
 all_come_first : (events : List Event) (w after : World) → Ordered w → AllGoOn events → count_by is_pull events ≤ length w.queue → goes events w ≡ Some after

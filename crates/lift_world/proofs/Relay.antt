@@ -62,11 +62,11 @@ apart_without : (front : List Taken) (c : Taken) (cs : List Taken) → AreApart 
 apart_without [] c cs h = h.1
 apart_without (x ∷ front) c cs h = ((before_all x.terminal front c cs h.0).1, apart_without front c cs h.1)
 
-found_behind : (front : List Taken) (c : Taken) (cs : List Taken) → AreApart (front ++ c ∷ cs) → find (is_taken_of c.terminal) (front ++ c ∷ cs) ≡ Some c
-found_behind [] c cs h = ap (λ (b : Bool). cond b (Some c) (find (is_taken_of c.terminal) cs)) (eq-eqb c.terminal c.terminal refl)
-found_behind (x ∷ front) c cs h =
+found_later : (front : List Taken) (c : Taken) (cs : List Taken) → AreApart (front ++ c ∷ cs) → find (is_taken_of c.terminal) (front ++ c ∷ cs) ≡ Some c
+found_later [] c cs h = ap (λ (b : Bool). cond b (Some c) (find (is_taken_of c.terminal) cs)) (eq-eqb c.terminal c.terminal refl)
+found_later (x ∷ front) c cs h =
     let other = (before_all x.terminal front c cs h.0).0 in
-    ap (λ (b : Bool). cond b (Some x) (find (is_taken_of c.terminal) (front ++ c ∷ cs))) (ne_eqb x.terminal c.terminal (λ e. other (sym e))) ∙ found_behind front c cs h.1
+    ap (λ (b : Bool). cond b (Some x) (find (is_taken_of c.terminal) (front ++ c ∷ cs))) (ne_eqb x.terminal c.terminal (λ e. other (sym e))) ∙ found_later front c cs h.1
 
 others-behind : (front : List Taken) (c : Taken) (cs : List Taken) → AreApart (front ++ c ∷ cs) → others c.terminal (front ++ c ∷ cs) ≡ front ++ cs
 others-behind [] c cs h = others-first c cs h.0
@@ -77,12 +77,12 @@ others-behind (x ∷ front) c cs h =
 
 module _ (w : World) (on : is_off w.power ≡ false) where
   -- one answer
-  answered_behind : (front : List Taken) (c : Taken) (cs : List Taken) (answered : List Answer) (given : List Taken) → AreApart (front ++ c ∷ cs)
+  answered_after : (front : List Taken) (c : Taken) (cs : List Taken) (answered : List Answer) (given : List Taken) → AreApart (front ++ c ∷ cs)
       → next (answering_on w (front ++ c ∷ cs) answered given) (Answering c.terminal) ≡ Some (answering_on w (front ++ cs) (answered ++ answer_of c ∷ []) (given ++ c ∷ []))
-  answered_behind front c cs answered given apart =
+  answered_after front c cs answered given apart =
       let v = answering_on w (front ++ c ∷ cs) answered given in
       ap (λ (b : Bool). cond (not b) (option_map (answering v c.terminal) (find (is_taken_of c.terminal) (front ++ c ∷ cs))) None) on
-      ∙ ap (option_map (answering v c.terminal)) (found_behind front c cs apart)
+      ∙ ap (option_map (answering v c.terminal)) (found_later front c cs apart)
       ∙ ap (λ (xs : List Taken). Some (record v { due = xs; answered = answered ++ answer_of c ∷ []; given = given ++ c ∷ [] })) (others-behind front c cs apart)
 
   abbrev Gives : (ℕ → Bool) → List Taken → List Taken → List Answer → List Taken → List Taken → List Taken → Type 0
@@ -98,7 +98,7 @@ module _ (w : World) (on : is_off w.power ≡ false) where
       let now = answered_of gave cs in
       let left = left_unanswered gave cs in
       one (Answering c.terminal) (terminals_of now) (answering_on w (front ++ c ∷ cs) answered given) (answering_on w (front ++ cs) (answered ++ answer_of c ∷ []) (given ++ c ∷ []))
-      (answered_behind front c cs answered given apart)
+      (answered_after front c cs answered given apart)
       ∙ first (apart_without front c cs apart)
       ∙ ap (λ (xs : List Answer). Some (answering_on w (front ++ left) xs ((given ++ c ∷ []) ++ now))) (append_assoc answered (answer_of c ∷ []) (map answer_of now))
       ∙ ap (λ (xs : List Taken). Some (answering_on w (front ++ left) (answered ++ map answer_of (c ∷ now)) xs)) (append_assoc given (c ∷ []) now)
@@ -135,9 +135,9 @@ unknown_all terminal [] [] h = tt
 unknown_all terminal [] (c ∷ cs) h = (h.0, unknown_all terminal [] cs h.1)
 unknown_all terminal (x ∷ front) cs h = (h.0, unknown_all terminal front cs h.1)
 
-unknown_behind : (front cs : List Taken) → AreApart (front ++ cs) → AreApart (front ++ map unknown_to cs)
-unknown_behind [] cs h = unknown_apart cs h
-unknown_behind (x ∷ front) cs h = (unknown_all x.terminal front cs h.0, unknown_behind front cs h.1)
+unknown_after : (front cs : List Taken) → AreApart (front ++ cs) → AreApart (front ++ map unknown_to cs)
+unknown_after [] cs h = unknown_apart cs h
+unknown_after (x ∷ front) cs h = (unknown_all x.terminal front cs h.0, unknown_after front cs h.1)
 
 -- Unknown to those that the look gave
 unknown_gives : (gave : ℕ → Bool) (w : World) (cs front : List Taken) (answered : List Answer) (given : List Taken) → is_off w.power ≡ false → AreApart (front ++ cs)
@@ -148,7 +148,7 @@ unknown_gives gave w cs front answered given on apart =
     let now = unknown_answered gave cs in
     let left = map unknown_to (left_unanswered gave cs) in
     ap (λ (es : List Event). goes es x) (answers_map (answered_of gave cs) ∙ sym (unknown_terminals (answered_of gave cs)) ∙ ap terminals_of (sym now))
-    ∙ gives w on gave (map unknown_to cs) front answered given (unknown_behind front cs apart)
+    ∙ gives w on gave (map unknown_to cs) front answered given (unknown_after front cs apart)
     ∙ ap (λ (xs : List Taken). Some (answering_on w (front ++ xs) (answered ++ map answer_of (answered_of gave (map unknown_to cs))) (given ++ answered_of gave (map unknown_to cs)))) (unknown_left gave cs)
     ∙ ap (λ (xs : List Taken). Some (answering_on w (front ++ left) (answered ++ map answer_of xs) (given ++ xs))) now
 

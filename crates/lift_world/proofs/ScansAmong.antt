@@ -129,16 +129,16 @@ untouched_looks [] w last s = never_touched w last s
 untouched_looks (look ∷ looks) w last s = still_untouched w s.0 last (untouched_goes look.before w s.0 s.1 s.2) (untouched_looks looks s.0 last s.5)
 
 -- after a take the looks at other terminals stand
-looks_behind : (command : Command) (d : Decision) (looks : List Look) (w last : World) → Ordered w → AllByRecursion (λ (c : Command). c.terminal ≢ command.terminal) (looked_commands looks)
+looks_after : (command : Command) (d : Decision) (looks : List Look) (w last : World) → Ordered w → AllByRecursion (λ (c : Command). c.terminal ≢ command.terminal) (looked_commands looks)
     → LooksStand w looks last → LooksStand (deciding w command d) looks (deciding last command d)
-looks_behind command d [] w last order apart s = ap (λ (x : World). deciding x command d) s
-looks_behind command d (look ∷ looks) w last order apart s = (
+looks_after command d [] w last order apart s = ap (λ (x : World). deciding x command d) s
+looks_after command d (look ∷ looks) w last order apart s = (
   deciding s.0 command d,
   s.1,
   decided_goes d.next (taken_as command d.reply ∷ []) look.before w s.0 order s.1 s.2,
   found_still s.0 command d look.command s.3 apart.0,
   s.4,
-  looks_behind command d looks s.0 last (ordered_goes look.before w s.0 order s.2) apart.1 s.5,
+  looks_after command d looks s.0 last (ordered_goes look.before w s.0 order s.2) apart.1 s.5,
 )
 
 scan_goes : (looks : List Look) (w last : World) (replies : List Reply) (state : State) → Ordered w → LooksStand w looks last → Run w.building any_eligible (state_of w) (looked_commands looks) replies state
@@ -163,7 +163,7 @@ scan_goes (look ∷ looks) w last (reply ∷ replies) state order s r =
     let run : Run there.building any_eligible (state_of later) (looked_commands looks) replies state =
     subst (λ (p : Plan). Run p any_eligible (state_of later) (looked_commands looks) replies state) (sym u.same_building)
     (subst (λ (st : State). Run w.building any_eligible st (looked_commands looks) replies state) (sym (state_after there c reply r.0 here.accepted on)) r.2) in
-    let rest = scan_goes looks later (deciding last c d) replies state (ordered_next there (Take c.terminal taken.0) later here taken.1) (looks_behind c d looks there last here s.4 s.5) run in (
+    let rest = scan_goes looks later (deciding last c d) replies state (ordered_next there (Take c.terminal taken.0) later here taken.1) (looks_after c d looks there last here s.4 s.5) run in (
       taken.0 ∷ rest.0,
       joined look.before (Take c.terminal taken.0 ∷ look_events looks rest.0) w there s.2
           ∙ one (Take c.terminal taken.0) (look_events looks rest.0) there later taken.1 ∙ rest.1

@@ -3,7 +3,7 @@
 ghost use Rattle.std.specs.Prelude.{◌≡◌, ◌<◌, ◌≤◌, ℕ, List, Option, length, take, false, OnOk};
 ghost use Rattle.std.specs.Prelude.{IfErr, IfSome, IfNone, ⊤};
 ghost use Rattle.std.specs.Io.KnownBytes.{Appends, Keeps};
-ghost use Rattle.lift_base.specs.Output.{Takes, TakesFront, CallsForAll, CallsUpToFault, sink_of};
+ghost use Rattle.lift_base.specs.Output.{Takes, TakesPrefix, CallsForAll, CallsUpToFault, sink_of};
 ghost use Rattle.lift_base.specs.Output.{WroteAll, WroteUpToFault};
 
 use crate::count::ProofCount;
@@ -140,7 +140,7 @@ impl<W: Outlet + Drop> Watched<W> {
         ensures ok { OnOk result
             (Takes bytes.now (sink_of W.contents self.old) (sink_of W.contents self.new)) }
         ensures front { IfErr result (λ fault.
-            TakesFront fault.written bytes.now (sink_of W.contents self.old)
+            TakesPrefix fault.written bytes.now (sink_of W.contents self.old)
             (sink_of W.contents self.new)) }
         ensures each { OnOk result (WroteAll W.gives bytes.now
             self.old.calls self.new.calls self.old.writer self.new.writer) }

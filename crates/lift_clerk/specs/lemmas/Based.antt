@@ -91,8 +91,8 @@ module _ (plan : Plan) (base : RegisterState) (entries : List Entry) (said : Sai
       (subst (λ (l : Last). IsPossibleLast plan (terminal_of k.entry) l.content) k.kept_is
       (held_said k.entry k.held))
 
-  behind_said : SaidLast plan (register_of base entries)
-  behind_said terminal last is = elim (cases_lt terminal 63) [
+  after_said : SaidLast plan (register_of base entries)
+  after_said terminal last is = elim (cases_lt terminal 63) [
     | inl below ↦ said_by terminal last (kept_entry base entries terminal last below is)
     | inr above ↦ (let none : None ≡ Some last =
         sym (get_or_past (map (last_after base entries) Registers.terminals) terminal None
@@ -112,5 +112,5 @@ image_of_building plan register image sound k =
     subst (IsOfBuilding plan) (sym k.is.is) (record {
       row_count = length-on_cars (rows_after base (entries_of k.entries));
       last_count = length-on_terminals (last_after base (entries_of k.entries));
-      lasts = behind_said plan base (entries_of k.entries) said k.is.entries_fit;
+      lasts = after_said plan base (entries_of k.entries) said k.is.entries_fit;
     })

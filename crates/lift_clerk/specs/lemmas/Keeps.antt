@@ -9,12 +9,12 @@ use Rattle.lift_keeper.specs.Images.{IsInDoubt}
 use Rattle.lift_world.specs.declared.event.Taken.{Taken}
 use Rattle.lift_clerk.specs.Steps.{GroupState}
 use Rattle.lift_clerk.specs.History.{History}
-use Rattle.lift_clerk.specs.Keeping.{CrashesKeep, KeepsEither, KeepsFront, KeepsNow, LeavesSafe}
+use Rattle.lift_clerk.specs.Keeping.{CrashesKeep, KeepsEither, KeepsPrefix, KeepsNow, LeavesSafe}
 
 -- of what is safe followed by what is on its way
 pub either_front : {D : Type 0} (plan : Plan) (base : RegisterState) (safe batch : List Entry) (given : List Taken)
     (left : Image) → KeepsEither D plan base safe batch given left
-    → KeepsFront D plan base (safe ++ batch) given left
+    → KeepsPrefix D plan base (safe ++ batch) given left
 either_front plan base safe batch given left (inl keeps) = (safe, (batch, refl), keeps)
 either_front plan base safe batch given left (inr keeps) =
     (safe ++ batch, ([], append-nil (safe ++ batch)), keeps)

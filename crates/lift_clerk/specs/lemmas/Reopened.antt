@@ -31,7 +31,7 @@ use Rattle.lift_clerk.specs.Machine.{IsReached, WaitsNowhere, ClerkReopens, Stay
 use Rattle.lift_clerk.specs.Machine.{kept_after}
 use Rattle.lift_clerk.specs.Steps.{ClerkRests}
 use Rattle.lift_clerk.specs.Laws.{Laws}
-use Rattle.lift_keeper.specs.lemmas.Keepers.{nothing_behind}
+use Rattle.lift_keeper.specs.lemmas.Keepers.{nothing_after}
 use Rattle.lift_clerk.specs.lemmas.Asked.{reaches, not_both}
 use Rattle.lift_clerk.specs.lemmas.Turned.{register_with, safe_all, state_is}
 
@@ -124,7 +124,7 @@ module _ {D P : Type 0} (laws : Laws) (w : World) (before after : ClerkState D P
   safe_again s d (inl e) = e ∙ s
   safe_again s d (inr e) =
       e ∙ ap (register_of before.keeper.writer.register) d ∙ ap (λ (x : RegisterState).
-      register_of x []) s ∙ nothing_behind w.base (safe_list w)
+      register_of x []) s ∙ nothing_after w.base (safe_list w)
 
   while_whole : before.keeper.writer.is_broken ≡ false → Keeps r.one_of
   while_whole e =

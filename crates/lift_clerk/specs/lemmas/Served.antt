@@ -128,7 +128,7 @@ Later places visits first = (replies : List Reply) (k t : ℕ) → t ≡ first +
     → Grows (view_at places k) (view_at (served places visits replies) k)
     (asked_of t (commands_of first visits)) (given_to t (commands_of first visits) replies)
 
-view_behind : (place : ClerkPlace) (places : List ClerkPlace) (word : ℕ) (found : Option Ask)
+view_served : (place : ClerkPlace) (places : List ClerkPlace) (word : ℕ) (found : Option Ask)
     (visits : List Visit) (replies : List Reply) (first k t : ℕ) → t ≡ first + k
     → FindsAt place (record { word = word; found = found }) → Later places visits (suc first)
     → length replies ≡ length (command_at first found ++ commands_of (suc first) visits)
@@ -136,16 +136,16 @@ view_behind : (place : ClerkPlace) (places : List ClerkPlace) (word : ℕ) (foun
     (view_at (served (place ∷ places) (record { word = word; found = found } ∷ visits) replies) k)
     (asked_of t (command_at first found ++ commands_of (suc first) visits))
     (given_to t (command_at first found ++ commands_of (suc first) visits) replies)
-view_behind place places word None visits replies first zero t e at later count =
+view_served place places word None visits replies first zero t e at later count =
     let rest = commands_of (suc first) visits in
     let apart : AreOthers t rest = behind t (suc first) visits (omega arith) in
     grows_as place.view (with_taking place.view word) [] (asked_of t rest) []
     (given_to t rest replies) (no_asks t rest apart) (no_answers t rest replies apart)
     (nothing place word t first 0 at.reads)
-view_behind place places word None visits replies first (suc k) t e at later count =
+view_served place places word None visits replies first (suc k) t e at later count =
     later replies k t (omega arith) count
-view_behind place places word (Some ask) visits [] first k t e at later count = absurd (omega arith)
-view_behind place places word (Some ask) visits (reply ∷ replies) first zero t e at later count =
+view_served place places word (Some ask) visits [] first k t e at later count = absurd (omega arith)
+view_served place places word (Some ask) visits (reply ∷ replies) first zero t e at later count =
     let rest = commands_of (suc first) visits in
     let c : Command = record { terminal = first; number = ask.number; body = ask.body } in
     let apart : AreOthers t rest = behind t (suc first) visits (omega arith) in
@@ -156,7 +156,7 @@ view_behind place places word (Some ask) visits (reply ∷ replies) first zero t
     (record { terminal = first; number = ask.number; reply = reply } ∷ [])
     (given_to t (c ∷ rest) (reply ∷ replies)) is.0 is.1
     (one_more place word t first 0 ask reply at.reads.0 (at.even refl) at.reads.1)
-view_behind place places word (Some ask) visits (reply ∷ replies) first (suc k) t e at later count =
+view_served place places word (Some ask) visits (reply ∷ replies) first (suc k) t e at later count =
     let rest = commands_of (suc first) visits in
     let c : Command = record { terminal = first; number = ask.number; body = ask.body } in
     let is = first_isnt t c rest reply replies (λ q. absurd (omega arith)) in
@@ -175,7 +175,7 @@ view_after places [] first finds replies k t e count =
     }
 view_after [] (visit ∷ visits) first finds replies k t e count = absurd finds
 view_after (place ∷ places) (visit ∷ visits) first finds replies k t e count =
-    view_behind place places visit.word visit.found visits replies first k t e finds.0
+    view_served place places visit.word visit.found visits replies first k t e finds.0
     (view_after places visits (suc first) finds.1) count
 
 -- no terminal is looked at twice

@@ -13,7 +13,7 @@ use Rattle.lift_desk.specs.Seats.{Owes, OwesNothing}
 use Rattle.lift_desk.specs.lemmas.WordLists.{last_of-push}
 use Rattle.lift_policy.specs.declared.command.Command.{Command}
 use Rattle.lift_clerk.specs.Visits.{Visit, FindsAt, Finds, command_at, commands_of, with_reply}
-use Rattle.lift_clerk.specs.Visits.{looked_at, replies_behind, served}
+use Rattle.lift_clerk.specs.Visits.{looked_at, replies_after, served}
 use Rattle.lift_clerk.specs.Scanning.{terminals_of}
 
 pub commands-more : (first n : ℕ) (visits : List Visit) (v : Visit) → n ≡ first + length visits
@@ -48,7 +48,7 @@ pub length-served : (places : List ClerkPlace) (visits : List Visit) (replies : 
 length-served places [] replies = refl
 length-served [] (u ∷ visits) replies = refl
 length-served (p ∷ places) (u ∷ visits) replies =
-    ap suc (length-served places visits (replies_behind u.found replies))
+    ap suc (length-served places visits (replies_after u.found replies))
 
 pub taken-new : (view : ClerkView) (word : ℕ) → is_new_word view word ≡ true
     → (with_taking view word).taken ≡ view.taken ++ word ∷ []
@@ -96,8 +96,8 @@ answered-first first p places word ask visits reply terminal finds at =
 -- the next one is after this place
 answered-behind : (first : ℕ) (p : ClerkPlace) (places : List ClerkPlace) (u : Visit)
     (visits : List Visit) (replies rest : List Reply) (reply : Reply) (terminal : ℕ)
-    → replies_behind u.found replies ≡ rest
-    → replies_behind u.found (replies ++ reply ∷ []) ≡ rest ++ reply ∷ []
+    → replies_after u.found replies ≡ rest
+    → replies_after u.found (replies ++ reply ∷ []) ≡ rest ++ reply ∷ []
     → with_reply (with_taking p.view u.word) u.found (replies ++ reply ∷ [])
     ≡ with_reply (with_taking p.view u.word) u.found replies
     → Answerable (suc first) places visits rest reply terminal
@@ -116,7 +116,7 @@ answered-behind first p places u visits replies rest reply terminal behind then 
       ∙ ap (λ l. placed_at p.table (with_reply (with_taking p.view u.word) u.found replies)
       ∷ served places visits l) (sym then)
       ∙ ap (λ w. placed_at p.table w
-      ∷ served places visits (replies_behind u.found (replies ++ reply ∷ []))) (sym same);
+      ∷ served places visits (replies_after u.found (replies ++ reply ∷ []))) (sym same);
 }
 
 -- by what the first look found
@@ -170,7 +170,7 @@ owes-case first p word (Some ask) (r ∷ replies) later finds h rests owes =
 
 length-behind : (first : ℕ) (found : Option Ask) (replies : List Reply) (later : List Command)
     → length replies ≡ length (command_at first found ++ later)
-    → length (replies_behind found replies) ≡ length later
+    → length (replies_after found replies) ≡ length later
 length-behind first None replies later h = h
 length-behind first (Some ask) [] later h = absurd (omega arith)
 length-behind first (Some ask) (r ∷ replies) later h = omega arith
@@ -185,6 +185,6 @@ nothing_owed first (p ∷ places) (u ∷ visits) replies finds h rests zero d be
     owes-case first p u.word u.found replies (commands_of (suc first) visits) finds.0 h
     (rests zero d (omega arith))
 nothing_owed first (p ∷ places) (u ∷ visits) replies finds h rests (suc k) d below =
-    nothing_owed (suc first) places visits (replies_behind u.found replies) finds.1
+    nothing_owed (suc first) places visits (replies_after u.found replies) finds.1
     (length-behind first u.found replies (commands_of (suc first) visits) h)
     (λ j e lower. rests (suc j) e (omega arith)) k d (omega arith)

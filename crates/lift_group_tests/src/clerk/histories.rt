@@ -79,7 +79,7 @@ fn answer_over(
 /// The letter that was given is given again after each cut, and after a second one. No car is
 /// placed there, so that no new call could have one.
 #[test]
-fn letters_stand_behind_cuts(rt: HostRuntime) {
+fn letters_stand_after_cuts(rt: HostRuntime) {
     let building = group(&rt, rt.alloc());
     for outcome in [
         Outcome::Keep,

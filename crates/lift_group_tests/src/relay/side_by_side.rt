@@ -240,7 +240,7 @@ fn run_beside_calls<R: Threads + Wait + Abort + Sync>(
 /// The device fails the first batch's first call, while the gate is open. The later batches are
 /// answered too, and the run tells the first fault.
 #[test]
-fn a_run_goes_on_behind_a_fault(rt: HostRuntime) {
+fn a_run_goes_on_after_a_fault(rt: HostRuntime) {
     let building = group(&rt, rt.alloc());
     let DeskParts { desk, seats, clerk } = open(&rt, rt.alloc());
     let mut terminals = Terminals::of(&desk, seats);

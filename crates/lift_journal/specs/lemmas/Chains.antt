@@ -8,7 +8,7 @@ use Rattle.std.proofs.lemmas.Option.{unwrap_or-slice_get}
 use Rattle.lift_disk.specs.Disk.{Image, ChangesWithin}
 use Rattle.lift_journal.specs.Layout.{Batch, is_marked, IsOpen, IsClosed, size_of, IsBody, IsChain}
 use Rattle.lift_journal.specs.Layout.{used, sector_at, start_of, IsStamped, IsSound, Holds}
-use Rattle.lift_journal.specs.Layout.{IsBehind, IsPrepared}
+use Rattle.lift_journal.specs.Layout.{IsAfter, IsPrepared}
 use Rattle.lift_base.specs.declared.history.Shape.{Shape}
 
 -- a chain that ends here
@@ -218,10 +218,10 @@ gate_closed shape batches image gate holds at =
     head_closed (shape.half - used batches) gate image there
 
 -- What stands after the closed gate doesn't count.
-pub holds_behind : (shape : Shape) (batches : List Batch) (old new : Image) (gate : ℕ)
+pub holds_after : (shape : Shape) (batches : List Batch) (old new : Image) (gate : ℕ)
     → Holds shape batches old → gate ≡ start_of shape.half old + used batches
-    → ChangesWithin (IsBehind gate) old new → Holds shape batches new
-holds_behind shape batches old new gate holds at within =
+    → ChangesWithin (IsAfter gate) old new → Holds shape batches new
+holds_after shape batches old new gate holds at within =
     let closed : IsClosed (sector_at new gate) =
     ap (λ o. is_marked (unwrap_or o [])) (within.others gate (λ lt. omega arith)) ∙ gate_closed
     shape batches old gate holds at in

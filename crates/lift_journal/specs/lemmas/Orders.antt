@@ -10,46 +10,46 @@ use Rattle.lift_base.specs.declared.history.Record.TheVariants.{Entry, Row, Last
 use Rattle.lift_record.specs.declared.version.Version.{Version}
 use Rattle.lift_record.specs.declared.version.Version.TheVariants.{One, Two}
 use Rattle.lift_record.specs.Version.{version_number}
-use Rattle.lift_journal.specs.Order.{IsEntry, IsOfBase, MayFollow, IsInOrderBehind}
-use Rattle.lift_journal.specs.Order.{AreRecordsInOrder, last_behind, MayEnd}
+use Rattle.lift_journal.specs.Order.{IsEntry, IsOfBase, MayFollow, IsInOrderAfter}
+use Rattle.lift_journal.specs.Order.{AreRecordsInOrder, last_command_after, MayEnd}
 use Rattle.lift_journal.specs.Layout.{Batch, records_of, NeverFall, IsSound}
-use Rattle.lift_journal.specs.Walk.{IsSoundFront, version_behind}
+use Rattle.lift_journal.specs.Walk.{MayBeginChain, version_after}
 
 pub order_front : (last : Option Record) (first second : List Record)
-    → IsInOrderBehind last (first ++ second) → IsInOrderBehind last first
+    → IsInOrderAfter last (first ++ second) → IsInOrderAfter last first
 order_front last [] second order = tt
 order_front last (next ∷ first) second order =
     (order.0, order_front (Some next) first second order.1)
 
 pub order_back : (last : Option Record) (first second : List Record)
-    → IsInOrderBehind last (first ++ second) → IsInOrderBehind (last_behind last first) second
+    → IsInOrderAfter last (first ++ second) → IsInOrderAfter (last_command_after last first) second
 order_back last [] second order = order
 order_back last (next ∷ first) second order = order_back (Some next) first second order.1
 
-pub order_join : (last : Option Record) (first second : List Record) → IsInOrderBehind last first
-    → IsInOrderBehind (last_behind last first) second → IsInOrderBehind last (first ++ second)
+pub order_join : (last : Option Record) (first second : List Record) → IsInOrderAfter last first
+    → IsInOrderAfter (last_command_after last first) second → IsInOrderAfter last (first ++ second)
 order_join last [] second order behind = behind
 order_join last (next ∷ first) second order behind =
     (order.0, order_join (Some next) first second order.1 behind)
 
 pub last_join : (last : Option Record) (first second : List Record)
-    → last_behind last (first ++ second) ≡ last_behind (last_behind last first) second
+    → last_command_after last (first ++ second) ≡ last_command_after (last_command_after last first) second
 last_join last [] second = refl
 last_join last (next ∷ first) second = last_join (Some next) first second
 
 -- the record at one place
 pub order_at : (last : Option Record) (records : List Record) (k : ℕ) (blank : Record)
-    → k < length records → IsInOrderBehind last records
-    → MayFollow (last_behind last (take k records)) (get_or records k blank)
+    → k < length records → IsInOrderAfter last records
+    → MayFollow (last_command_after last (take k records)) (get_or records k blank)
 order_at last [] k blank lt order = absurd (omega arith)
 order_at last (next ∷ records) zero blank lt order = order.0
 order_at last (next ∷ records) (suc k) blank lt order =
     order_at (Some next) records k blank (omega arith) order.1
 
 pub order_more : (last : Option Record) (records : List Record) (k : ℕ) (blank : Record)
-    → k < length records → IsInOrderBehind last (take k records)
-    → MayFollow (last_behind last (take k records)) (get_or records k blank)
-    → IsInOrderBehind last (take (suc k) records)
+    → k < length records → IsInOrderAfter last (take k records)
+    → MayFollow (last_command_after last (take k records)) (get_or records k blank)
+    → IsInOrderAfter last (take (suc k) records)
 order_more last [] k blank lt order may = absurd (omega arith)
 order_more last (next ∷ records) zero blank lt order may = (may, tt)
 order_more last (next ∷ records) (suc k) blank lt order may =
@@ -57,7 +57,7 @@ order_more last (next ∷ records) (suc k) blank lt order may =
 
 pub last_more : (last : Option Record) (records : List Record) (k : ℕ) (blank : Record)
     → k < length records
-    → last_behind last (take (suc k) records) ≡ Some (get_or records k blank)
+    → last_command_after last (take (suc k) records) ≡ Some (get_or records k blank)
 last_more last [] k blank lt = absurd (omega arith)
 last_more last (next ∷ records) zero blank lt = refl
 last_more last (next ∷ records) (suc k) blank lt =
@@ -71,13 +71,13 @@ records_push (first ∷ batches) batch =
     (append_assoc first.records (records_of batches) batch.records)
 
 pub version_push : (version : Version) (batches : List Batch) (batch : Batch)
-    → version_behind version (batches ++ batch ∷ []) ≡ batch.version
+    → version_after version (batches ++ batch ∷ []) ≡ batch.version
 version_push version [] batch = refl
 version_push version (first ∷ batches) batch = version_push first.version batches batch
 
 pub fall_push : (version : Version) (batches : List Batch) (batch : Batch)
     → NeverFall version batches
-    → version_number (version_behind version batches) ≤ version_number batch.version
+    → version_number (version_after version batches) ≤ version_number batch.version
     → NeverFall version (batches ++ batch ∷ [])
 fall_push version [] batch never rises = (rises, tt)
 fall_push version (first ∷ batches) batch never rises =
@@ -91,43 +91,43 @@ fall_front version (first ∷ batches) more never =
 
 pub fall_last : (version : Version) (batches : List Batch) (batch : Batch)
     → NeverFall version (batches ++ batch ∷ [])
-    → version_number (version_behind version batches) ≤ version_number batch.version
+    → version_number (version_after version batches) ≤ version_number batch.version
 fall_last version [] batch never = never.0
 fall_last version (first ∷ batches) batch never = fall_last first.version batches batch never.1
 
 -- the second version is the highest
 pub fall_to_second : (version : Version) (batches : List Batch)
-    → version_number (version_behind version batches) ≤ 2
+    → version_number (version_after version batches) ≤ 2
 fall_to_second One [] = omega arith
 fall_to_second Two [] = omega arith
 fall_to_second version (batch ∷ batches) = fall_to_second batch.version batches
 
 -- where one more batch may stand
-pub front_push : (batches : List Batch) (batch : Batch) → IsSoundFront batches
-    → version_number (version_behind One batches) ≤ version_number batch.version
-    → IsInOrderBehind (last_behind None (records_of batches)) batch.records
-    → IsSoundFront (batches ++ batch ∷ [])
+pub front_push : (batches : List Batch) (batch : Batch) → MayBeginChain batches
+    → version_number (version_after One batches) ≤ version_number batch.version
+    → IsInOrderAfter (last_command_after None (records_of batches)) batch.records
+    → MayBeginChain (batches ++ batch ∷ [])
 front_push batches batch sound rises order = record {
   versions = fall_push One batches batch sound.versions rises;
   ordered = subst AreRecordsInOrder (sym (records_push batches batch))
       (order_join None (records_of batches) batch.records sound.ordered order);
 }
 
-pub front_rises : (batches : List Batch) (batch : Batch) → IsSoundFront (batches ++ batch ∷ [])
-    → version_number (version_behind One batches) ≤ version_number batch.version
+pub front_rises : (batches : List Batch) (batch : Batch) → MayBeginChain (batches ++ batch ∷ [])
+    → version_number (version_after One batches) ≤ version_number batch.version
 front_rises batches batch sound = fall_last One batches batch sound.versions
 
-pub front_order : (batches : List Batch) (batch : Batch) → IsSoundFront (batches ++ batch ∷ [])
-    → IsInOrderBehind (last_behind None (records_of batches)) batch.records
+pub front_order : (batches : List Batch) (batch : Batch) → MayBeginChain (batches ++ batch ∷ [])
+    → IsInOrderAfter (last_command_after None (records_of batches)) batch.records
 front_order batches batch sound =
     order_back None (records_of batches) batch.records
     (subst AreRecordsInOrder (records_push batches batch) sound.ordered)
 
 pub last_push : (batches : List Batch) (batch : Batch)
-    → last_behind None (records_of (batches ++ batch ∷ []))
-    ≡ last_behind (last_behind None (records_of batches)) batch.records
+    → last_command_after None (records_of (batches ++ batch ∷ []))
+    ≡ last_command_after (last_command_after None (records_of batches)) batch.records
 last_push batches batch =
-    ap (last_behind None) (records_push batches batch) ∙ last_join None
+    ap (last_command_after None) (records_push batches batch) ∙ last_join None
     (records_of batches) batch.records
 
 -- An entry may follow wherever a chain may end, and a chain may end after it.
@@ -146,7 +146,7 @@ entry_ends (Last terminal last) entry = absurd entry
 entry_ends (Done count) entry = absurd entry
 
 entries_follow : (last : Option Record) (entries : List Record) → MayEnd last
-    → AllByRecursion IsEntry entries → IsInOrderBehind last entries
+    → AllByRecursion IsEntry entries → IsInOrderAfter last entries
 entries_follow last [] may each = tt
 entries_follow last (next ∷ entries) may each = (
   entry_follows last next may each.0,
@@ -155,7 +155,7 @@ entries_follow last (next ∷ entries) may each = (
 )
 
 entries_end : (last : Option Record) (entries : List Record) → MayEnd last
-    → AllByRecursion IsEntry entries → MayEnd (last_behind last entries)
+    → AllByRecursion IsEntry entries → MayEnd (last_command_after last entries)
 entries_end last [] may each = may
 entries_end last (next ∷ entries) may each =
     entries_end (Some next) entries (entry_ends next each.0) each.1
@@ -166,7 +166,7 @@ pub sound_push : (batches : List Batch) (entries : List Record) → IsSound batc
 sound_push batches entries sound kinds =
     let batch : Batch = record { version = Two; records = entries } in
     let each = recursion_from_All IsEntry entries kinds in
-    let last = last_behind None (records_of batches) in
+    let last = last_command_after None (records_of batches) in
     record {
       versions = fall_push One batches batch sound.versions (fall_to_second One batches);
       ordered = subst AreRecordsInOrder (sym (records_push batches batch))
@@ -186,7 +186,7 @@ pub record Parts (records : List Record) : Type 0 where
 
 -- nothing but entries may stand after an entry or after the count of done calls
 only_entries : (last : Record) (records : List Record) → MayEnd (Some last)
-    → IsInOrderBehind (Some last) records → AllByRecursion IsEntry records
+    → IsInOrderAfter (Some last) records → AllByRecursion IsEntry records
 only_entries last [] may order = tt
 only_entries last (next ∷ records) may order =
     let entry = follows last next may order.0 in
@@ -199,7 +199,7 @@ only_entries last (next ∷ records) may order =
     follows (Done count) next may order = order
 
 -- records in order are a checkpoint or none, and entries
-pub order_parts : (last : Option Record) (records : List Record) → IsInOrderBehind last records
+pub order_parts : (last : Option Record) (records : List Record) → IsInOrderAfter last records
     → Parts records
 order_parts last [] order =
     record { base = []; entries = []; joined = refl; is_base = tt; are_entries = tt }

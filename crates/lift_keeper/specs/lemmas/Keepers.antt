@@ -23,9 +23,9 @@ keeper_without_batch plan state other safe is_broken of_building none same shows
 }
 
 -- a register with entries is one of no more
-pub nothing_behind : (register : RegisterState) (batch : List Entry)
+pub nothing_after : (register : RegisterState) (batch : List Entry)
     → register_of (register_of register batch) [] ≡ register_of register batch
-nothing_behind register batch =
+nothing_after register batch =
     register_of-append register batch [] ∙ ap (register_of register) (append-nil batch)
 
 pub nothing_more : (register same : RegisterState) → same ≡ register → IsWellFormed same

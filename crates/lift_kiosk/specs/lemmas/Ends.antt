@@ -160,7 +160,7 @@ unwritten_lines wants keeps limits calls end before after lines failed =
     ]
 
 -- what lines after a greeting tell of the whole session
-pub behind_greeting : (wants : List ℕ → Wanted → Type 0) (keeps : LastLetter → ℕ → Reply
+pub after_greeting : (wants : List ℕ → Wanted → Type 0) (keeps : LastLetter → ℕ → Reply
     → LastLetter) (limits : Limits) (end : End) (opening : Opening)
     (before greeted after : Standing)
     → SessionOpens keeps limits opening before greeted
@@ -169,7 +169,7 @@ pub behind_greeting : (wants : List ℕ → Wanted → Type 0) (keeps : LastLett
     → EndsLines wants keeps limits (before.source.calls + limits.reads) end greeted after
     → after.source.calls ≤ before.source.calls + limits.reads
     → Converses wants keeps limits end before after
-behind_greeting wants keeps limits end opening before greeted after opens greets ready lines
+after_greeting wants keeps limits end opening before greeted after opens greets ready lines
     within =
     let calls : ℕ = before.source.calls + limits.reads in
     record {

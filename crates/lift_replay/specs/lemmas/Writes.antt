@@ -75,20 +75,20 @@ none_taken gives bytes before after (Ok done) none within (calls, (made, wrote, 
 none_taken gives bytes before after (Err fault) none within told = absurd (omega (arith, within, ap length none))
 
 -- the last piece was written after what came before
-pub called_behind : {W T : Type 0} (gives : W → List ℕ → Option ℕ → W → Type 0) (before between after : W) (end : Result T ReplayFault) (piece : List ℕ) → (end ≡ Err Read → ⊥) → IsCalled gives before between end
+pub called_after : {W T : Type 0} (gives : W → List ℕ → Option ℕ → W → Type 0) (before between after : W) (end : Result T ReplayFault) (piece : List ℕ) → (end ≡ Err Read → ⊥) → IsCalled gives before between end
     → (end ≡ Err Write → piece ≡ []) → (piece ≡ [] → after ≡ between) → TakesSomeEachCall gives between after → IsCalled gives before after end
-called_behind gives before between after (Ok value) piece other first empty idle takes = takes_more gives before between after first takes
-called_behind gives before between after (Err (Memory m)) piece other first empty idle takes = takes_more gives before between after first takes
-called_behind gives before between after (Err Read) piece other first empty idle takes = absurd (other refl)
-called_behind gives before between after (Err Write) piece other first empty idle takes = subst (FailsAtLast gives before) (sym (idle (empty refl))) first
+called_after gives before between after (Ok value) piece other first empty idle takes = takes_more gives before between after first takes
+called_after gives before between after (Err (Memory m)) piece other first empty idle takes = takes_more gives before between after first takes
+called_after gives before between after (Err Read) piece other first empty idle takes = absurd (other refl)
+called_after gives before between after (Err Write) piece other first empty idle takes = subst (FailsAtLast gives before) (sym (idle (empty refl))) first
 
 -- or the writer failed there
-pub fails_behind : {W T : Type 0} (gives : W → List ℕ → Option ℕ → W → Type 0) (before between after : W) (end : Result T ReplayFault) (piece : List ℕ) → (end ≡ Err Read → ⊥) → IsCalled gives before between end
+pub fails_later : {W T : Type 0} (gives : W → List ℕ → Option ℕ → W → Type 0) (before between after : W) (end : Result T ReplayFault) (piece : List ℕ) → (end ≡ Err Read → ⊥) → IsCalled gives before between end
     → (end ≡ Err Write → piece ≡ []) → (piece ≡ [] → after ≡ between) → FailsAtLast gives between after → FailsAtLast gives before after
-fails_behind gives before between after (Ok value) piece other first empty idle fails = fails_more gives before between after first fails
-fails_behind gives before between after (Err (Memory m)) piece other first empty idle fails = fails_more gives before between after first fails
-fails_behind gives before between after (Err Read) piece other first empty idle fails = absurd (other refl)
-fails_behind gives before between after (Err Write) piece other first empty idle fails = subst (FailsAtLast gives before) (sym (idle (empty refl))) first
+fails_later gives before between after (Ok value) piece other first empty idle fails = fails_more gives before between after first fails
+fails_later gives before between after (Err (Memory m)) piece other first empty idle fails = fails_more gives before between after first fails
+fails_later gives before between after (Err Read) piece other first empty idle fails = absurd (other refl)
+fails_later gives before between after (Err Write) piece other first empty idle fails = subst (FailsAtLast gives before) (sym (idle (empty refl))) first
 
 -- by what a function came to that adds to a piece: no call failed
 pub pieces_ok : {W T : Type 0} (gives : W → List ℕ → Option ℕ → W → Type 0) (before after : W) (piece : List ℕ) (value : T) → TakesSomeEachCall gives before after → WritesPieces gives before after piece (Ok value)
@@ -111,8 +111,8 @@ pub pieces_failed : {W T : Type 0} (gives : W → List ℕ → Option ℕ → W 
 pieces_failed gives before after piece result is fails empty = pieces_err gives before after piece result Write is (λ read. cc) fails (λ write. empty)
 
 -- one of such a function, after other calls
-pub pieces_behind : {W T U : Type 0} (gives : W → List ℕ → Option ℕ → W → Type 0) (before between after : W) (piece : List ℕ) (result : Result T ReplayFault) (fault : ReplayFault) → IsErrAnd result (λ told. told ≡ fault) → TakesSomeEachCall gives before between
+pub pieces_after : {W T U : Type 0} (gives : W → List ℕ → Option ℕ → W → Type 0) (before between after : W) (piece : List ℕ) (result : Result T ReplayFault) (fault : ReplayFault) → IsErrAnd result (λ told. told ≡ fault) → TakesSomeEachCall gives before between
     → WritesPieces {T = U} gives between after piece (Err fault) → WritesPieces gives before after piece result
-pieces_behind gives before between after piece result fault is first writes =
+pieces_after gives before between after piece result fault is first writes =
     let other : fault ≡ Read → ⊥ = λ read. writes.output (ap Err read) in
     pieces_err gives before after piece result fault is other (till_more gives before between after fault other first writes.calls) (λ write. writes.emptied (ap Err write))

@@ -13,7 +13,7 @@ use Rattle.lift_keeper.specs.Images.{IsImageOf}
 use Rattle.lift_world.specs.Headline.{IsOfBuilding, IsHeld, StillNames}
 use Rattle.lift_world.specs.lemmas.Entries.{over_nothing}
 use Rattle.lift_clerk.specs.History.{Began}
-use Rattle.lift_clerk.specs.Keeping.{KeepsFront}
+use Rattle.lift_clerk.specs.Keeping.{KeepsPrefix}
 use Rattle.lift_clerk.specs.lemmas.Based.{image_of_building}
 use Rattle.lift_serve.specs.Keeping.{ImagesKeep, MadeKeeps}
 
@@ -56,7 +56,7 @@ made_empty plan half image reads = record {
 
 pub made_keeps : {D M : Type 0} (state : M → DiskState) → MadeKeeps D M state
 made_keeps {D} state plan half made sound reads synced honest left may =
-    subst (λ (i : Image). KeepsFront D plan empty [] [] i)
+    subst (λ (i : Image). KeepsPrefix D plan empty [] [] i)
     (sym (all_same (state made).is_loose (state made).image left (synced honest).none_loose may))
     (images_keep plan empty (state made).image sound
     (made_empty plan half (state made).image (reads honest)))

@@ -22,7 +22,7 @@ use Rattle.lift_clerk.specs.Clerk.{ClerkState}
 use Rattle.lift_clerk.specs.Machine.{IsNewClerk}
 use Rattle.lift_clerk.specs.Steps.{group_of}
 use Rattle.lift_clerk.specs.History.{History}
-use Rattle.lift_clerk.specs.Keeping.{ImageKeeps, KeepsEither, KeepsFront}
+use Rattle.lift_clerk.specs.Keeping.{ImageKeeps, KeepsEither, KeepsPrefix}
 use Rattle.lift_clerk.specs.lemmas.Keeps.{either_front}
 use Rattle.lift_parts.specs.Flusher.{FlusherState}
 use Rattle.lift_parts.specs.Keeping.{KeepingTurns, NoneYet, OneKept}
@@ -79,15 +79,15 @@ module _ {D P : Type 0} (chooses : P → Choice) (state : D → DiskState) (plan
     keeper.writer.is_in_second_half keeper.writer.used)
     (starts : keeper.state ≡ starting keeper.writer.register) (whole : keeper.writer.is_broken ≡ false)
     (no_doubt : keeper.writer.doubt ≡ []) (own : keeper.writer.plan ≡ plan) (honest : (state opened).is_honest)
-    (base : RegisterState) (accepted : List Entry) (given : List Taken) (keeps : LeavesNow (state opened) (KeepsFront D plan base accepted given)) where
+    (base : RegisterState) (accepted : List Entry) (given : List Taken) (keeps : LeavesNow (state opened) (KeepsPrefix D plan base accepted given)) where
   abbrev new : DiskState
   new = state keeper.writer.device
 
-  recovery : LeavesOnly (state opened) new (KeepsFront D plan base accepted given)
+  recovery : LeavesOnly (state opened) new (KeepsPrefix D plan base accepted given)
   recovery = leaves_weaker (state opened) new (MayLeave (state opened))
-      (KeepsFront D plan base accepted given) (λ was left may. keeps was left may) reopens.moments
+      (KeepsPrefix D plan base accepted given) (λ was left may. keeps was left may) reopens.moments
 
-  found : KeepsFront D plan base accepted given new.image
+  found : KeepsPrefix D plan base accepted given new.image
   found = keeps honest new.image (reopens.seen honest)
 
   abbrev safe : List Entry
@@ -101,7 +101,7 @@ module _ {D P : Type 0} (chooses : P → Choice) (state : D → DiskState) (plan
       (changes_nothing new.is_loose new.image)
 
   -- it is what every crash leaves from then on
-  now : LeavesNow new (KeepsFront D plan base (safe ++ keeper.writer.doubt) given)
+  now : LeavesNow new (KeepsPrefix D plan base (safe ++ keeper.writer.doubt) given)
   now same left may = (
     safe,
     (keeper.writer.doubt, refl),
@@ -127,7 +127,7 @@ module _ {D P : Type 0} (chooses : P → Choice) (state : D → DiskState) (plan
   })
 
   recovery_keeps : LeavesOnly (state opened) new (KeepsAll D plan base given)
-  recovery_keeps = leaves_weaker (state opened) new (KeepsFront D plan base accepted given)
+  recovery_keeps = leaves_weaker (state opened) new (KeepsPrefix D plan base accepted given)
       (KeepsAll D plan base given) (λ was left kept. (kept.0, given, ([], append-nil given), kept.2))
       recovery
 
@@ -177,7 +177,7 @@ module _ {D P : Type 0} (chooses : P → Choice) (state : D → DiskState) (plan
 
     abbrev Ends : KeeperView D → Type 0
     Ends v = LeavesNow (state v.writer.device)
-        (KeepsFront D plan base ((kept.turns.now_safe ++ kept.more) ++ v.writer.doubt)
+        (KeepsPrefix D plan base ((kept.turns.now_safe ++ kept.more) ++ v.writer.doubt)
         (kept.turns.now_given ++ kept.told))
 
     behind : Ends r.after.keeper
@@ -215,7 +215,7 @@ module _ {D P : Type 0} (chooses : P → Choice) (state : D → DiskState) (plan
     now_given = given;
     serving = Unserved unserved;
     now = subst (λ (v : KeeperView D). LeavesNow (state v.writer.device)
-        (KeepsFront D plan base (safe ++ v.writer.doubt) given)) (sym unserved.keeper_is) now;
+        (KeepsPrefix D plan base (safe ++ v.writer.doubt) given)) (sym unserved.keeper_is) now;
     always = subst (λ (v : KeeperView D). LeavesOnly (state opened) (state v.writer.device)
         (KeepsAll D plan base given)) (sym unserved.keeper_is) recovery_keeps;
   }

@@ -9,10 +9,10 @@ ghost use Rattle.lift_world.specs.declared.event.Taken.{Taken};
 ghost use Rattle.lift_clerk.specs.History.{History};
 ghost use Rattle.lift_clerk.specs.Steps.{group_of};
 ghost use Rattle.lift_parts.specs.Flusher.{IsFlusher};
-ghost use Rattle.lift_parts.specs.History.{group_behind};
+ghost use Rattle.lift_parts.specs.History.{group_after};
 ghost use Rattle.lift_parts.specs.Parts.{AreParts};
 ghost use Rattle.lift_serve.specs.declared.serving.ServeFault.{ServeFault};
-ghost use Rattle.lift_serve.specs.Open.{ended_in, first_told, told_behind};
+ghost use Rattle.lift_serve.specs.Open.{ended_in, first_told, told_after};
 
 use crate::connections::{CountedEnd, DueEnd};
 use crate::over::Over;
@@ -133,7 +133,7 @@ impl Shortages {
     /// first shortage.
     #[tactic(auto, using(crate::proofs::Relayings::told_at_last, crate::proofs::Relayings::told_given_up))]
     pub(crate) fn behind(self, over: Over) -> ServingEnd
-        ensures fault { result.fault ≡ told_behind over self }
+        ensures fault { result.fault ≡ told_after over self }
         ensures begun { result.fault ≢ Some ServeFault.Network }
         ensures ended { result.ended ≡ ended_in over }
     {
@@ -277,7 +277,7 @@ pub(crate) fn part<'d, 'b, D: Disk, P: Policy + Drop, K: Drop>(
     // The history of the clerk's group goes on as that of the flusher's.
     ensures history { IfOk result (λ parts. (base : RegisterState) (entries : List Entry)
         (given : List Taken) → History base (group_of clerk.entry) entries given
-        → History base (group_behind parts.1) entries given) }
+        → History base (group_after parts.1) entries given) }
     ensures refused { IfErr result (λ back. back.0 ≡ clerk.entry) }
     ensures lack { IfErr result (λ back. back.1 ≡ ServeFault.Memory) }
 {

@@ -63,7 +63,7 @@ pub(crate) fn medium<R: AllocGlobal + Abort>(rt: &R) -> Register {
 }
 
 /// The place after these records, where they are the register's from this place on.
-fn place_behind(register: &Register, place: usize, records: &[Record]) -> Option<usize> {
+fn place_after(register: &Register, place: usize, records: &[Record]) -> Option<usize> {
     let mut next = place;
     for record in records {
         if next >= register.base_len() || register.base_record(next) != *record {
@@ -85,7 +85,7 @@ pub(crate) fn is_checkpoint<D: Disk>(journal: &mut Journal<D>, register: &Regist
             Ok(None) => return place == register.base_len(),
             Err(_) => return false,
         };
-        let Some(behind) = place_behind(register, place, found.as_slice()) else {
+        let Some(behind) = place_after(register, place, found.as_slice()) else {
             return false;
         };
         if found.len() != 63 && behind != register.base_len() {

@@ -10,12 +10,12 @@ returns-in-Err-clause-drive g c =
       c.errand.new.arrived,
       inr (record {
         opening = c.bring_in-opening.result;
-        begun = standing c.last_behind_opening-last.result false (g.P.Port.view c.bring_in-opening.new.port) c.args.car.now;
+        begun = standing c.last_after_opening-last.result false (g.P.Port.view c.bring_in-opening.new.port) c.args.car.now;
         replies = so_far.0;
         stood = standing c.loop.last c.loop.arrived (g.P.Port.view c.loop.port) c.loop.car;
         opens = c.bring_in-opening.ensures.opened;
         ready = c.in_default.not-StillWaits;
-        first = c.last_behind_opening-last.ensures;
+        first = c.last_after_opening-last.ensures;
         placing = refl;
         parked = refl;
         runs = so_far.2;
@@ -50,12 +50,12 @@ returns-clause-drive g c =
       c.loop.arrived,
       inr (record {
         opening = c.bring_in-opening.result;
-        begun = standing c.last_behind_opening-last.result false (g.P.Port.view c.bring_in-opening.new.port) c.args.car.now;
+        begun = standing c.last_after_opening-last.result false (g.P.Port.view c.bring_in-opening.new.port) c.args.car.now;
         replies = so_far.0;
         stood = standing c.loop.last c.loop.arrived (g.P.Port.view c.loop.port) c.loop.car;
         opens = c.bring_in-opening.ensures.opened;
         ready = c.in_default.not-StillWaits;
-        first = c.last_behind_opening-last.ensures;
+        first = c.last_after_opening-last.ensures;
         placing = refl;
         parked = refl;
         runs = so_far.2;

@@ -12,7 +12,7 @@ use Rattle.lift_journal.specs.Checkpoint.{in_batches, batch_count, sectors_for}
 use Rattle.lift_journal.proofs.Bases.{base_in_order}
 use Rattle.lift_journal.proofs.Checkpoints.{Drafted, drafted_touched, drafted_more, lawful_part, next_size, next_body, next_exact, next_room, draft_makes_front, used_most, used_within}
 use Rattle.lift_journal.specs.lemmas.Folding.{used_checkpoint}
-use Rattle.lift_journal.specs.Calls.{batch_body, draft_calls, MakesFront}
+use Rattle.lift_journal.specs.Calls.{batch_body, draft_calls, MakesPrefix}
 use Rattle.lift_journal.proofs.Following.{err_follows}
 use Rattle.lift_journal.specs.lemmas.Telling.{fails_then, err_ends}
 use Rattle.lift_journal.proofs.checkpoint.write_batches.Goals as goal
@@ -126,7 +126,7 @@ returns-in_err-write_open_batch-clause-performs g c =
         most_writes = omega (arith, made.most_writes, so_far.writes, within, long);
       };
       follows = err_follows _ c.from_residual.result old new (draft_calls c.args.start 1 (in_batches (batch_count (length records)) records)) c.from_residual.ensures.1
-          (subst (λ m. MakesFront (draft_calls c.args.start 1 (in_batches m records)) old new) all
+          (subst (λ m. MakesPrefix (draft_calls c.args.start 1 (in_batches m records)) old new) all
           (draft_makes_front old now new c.args.start c.loop-index.gate k c.batches_for-index-end.result records (take n c.sectors_of-body.result.now) so_far.at
           (next_exact k n records items c.sectors_of-body.result.now c.base_batch-batch.ensures is exact) c.loop-index-test.true so_far.trace c.in_err-write_open_batch.ensures.follows.front));
     }

@@ -12,12 +12,12 @@ use Rattle.lift_journal.specs.Journal.{HasNextPlace, StandsAt}
 use Rattle.lift_journal.specs.Steps.{HasFailed, HasItsCause, ReadsOnly, ReadsWell}
 use Rattle.lift_journal.specs.Opening.{RefusedFor, FixesImage}
 use Rattle.lift_journal.specs.lemmas.Looking.{reads_then, well_then, examines_then, err_any, cause_then, if_err_weaker, if_err_both, open_ok, open_err}
-use Rattle.lift_journal.proofs.Refusing.{refused_stamp, refused_chain, settled_behind}
+use Rattle.lift_journal.proofs.Refusing.{refused_stamp, refused_chain, settled_after}
 use Rattle.std.proofs.Common.{[], ◌∷◌, inl, inr, ◌⊎◌, arith}
 use Rattle.lift_disk.specs.Trace.Access.{Read, Sync}
-use Rattle.lift_journal.specs.Behind.{RefusedBehind}
+use Rattle.lift_journal.specs.Behind.{RefusedAfter}
 use Rattle.lift_journal.proofs.Following.{all_then, if_ok_weaker}
-use Rattle.lift_journal.proofs.Ending.{image_stays, stamp_behind, half_behind}
+use Rattle.lift_journal.proofs.Ending.{image_stays, stamp_after, half_after}
 use Rattle.lift_journal.proofs.Visiting.{taken_none}
 use Rattle.lift_journal.proofs.Showing.{stamp_shown, half_shown}
 use Rattle.std.proofs.lemmas.List.{append-nil}
@@ -118,7 +118,7 @@ returns-in-Err-clause-behind g c =
     let mid = g.D.Disk.state c.sync_device.new.disk in
     let new = g.D.Disk.state c.read_shape.new.disk in
     let synced = open_ok c.sync_device.result (mid.trace ≡ old.trace ++ Sync ∷ []) (sym c.is_err.ensures.value ∙ c.if-is_err.false) c.sync_device.ensures.recorded.ok in
-    stamp_behind c.in-Err.fault old mid new synced c.sync_device.ensures.looks.only.runs.size c.in-Err.ensures.behind
+    stamp_after c.in-Err.fault old mid new synced c.sync_device.ensures.looks.only.runs.size c.in-Err.ensures.behind
 
 pub returns-clause-behind : goal.returns-clause-behind
 returns-clause-behind g c =
@@ -131,8 +131,8 @@ returns-clause-behind g c =
     let synced = open_ok c.sync_device.result (mid.trace ≡ old.trace ++ Sync ∷ []) (sym c.is_err.ensures.value ∙ c.if-is_err.false) c.sync_device.ensures.recorded.ok in
     let safe : old.is_honest → IsSynced mid = open_ok c.sync_device.result (old.is_honest → IsSynced mid) (sym c.is_err.ensures.value ∙ c.if-is_err.false) c.sync_device.ensures.synced in
     let traced : read.trace ≡ old.trace ++ Sync ∷ Read 1 ∷ [] = all_then old mid read (Sync ∷ []) (Read 1 ∷ []) synced c.in-Ok.ensures.read in
-    if_err_weaker c.place_of.result _ (λ fault. RefusedBehind fault old new)
-    (λ fault _ behind. half_behind fault old read new traced (second.runs.size ∙ first.runs.size) c.place_of.ensures.examines.only
+    if_err_weaker c.place_of.result _ (λ fault. RefusedAfter fault old new)
+    (λ fault _ behind. half_after fault old read new traced (second.runs.size ∙ first.runs.size) c.place_of.ensures.examines.only
     (λ honest. (let honest_mid = first.runs.honest.1 honest in (second.runs.honest.1 honest_mid, (c.in-Ok.ensures.examines.ok.kept honest_mid (safe honest)).synced))) behind) c.place_of.ensures.behind
 
 pub returns-then-is_err-clause-behind : goal.returns-then-is_err-clause-behind
@@ -211,7 +211,7 @@ returns-in-Err-clause-fixed g c =
     let first = c.sync_device.ensures.looks.only in
     let second = c.read_shape.ensures.examines.only in
     let safe : old.is_honest → IsSynced mid = open_ok c.sync_device.result (old.is_honest → IsSynced mid) (sym c.is_err.ensures.value ∙ c.if-is_err.false) c.sync_device.ensures.synced in
-    inr (settled_behind old mid new first second safe (reads_then old mid new first second))
+    inr (settled_after old mid new first second safe (reads_then old mid new first second))
 
 pub returns-clause-fixed : goal.returns-clause-fixed
 returns-clause-fixed g c =
@@ -223,4 +223,4 @@ returns-clause-fixed g c =
     let second = reads_then mid read new c.read_shape.ensures.examines.only c.place_of.ensures.examines.only in
     let safe : old.is_honest → IsSynced mid = open_ok c.sync_device.result (old.is_honest → IsSynced mid) (sym c.is_err.ensures.value ∙ c.if-is_err.false) c.sync_device.ensures.synced in
     err_any c.place_of.result ((new.trace ≡ old.trace) ⊎ (old.is_honest → FixesImage old new))
-    (inr (settled_behind old mid new first second safe (reads_then old mid new first second)))
+    (inr (settled_after old mid new first second safe (reads_then old mid new first second)))

@@ -15,8 +15,8 @@ loop-init g c =
       stays = c.bring_in-opening.ensures.stays;
       answered = record {
         opening = c.bring_in-opening.result;
-        greeted = standing c.last_behind_opening.result (g.P.Port.view c.bring_in-opening.new.port) (source_of g.R.Read.remaining c.args.reader.now) sink';
-        opens = record { port = c.bring_in-opening.ensures.opened; last = c.last_behind_opening.ensures; source = refl };
+        greeted = standing c.last_after_opening.result (g.P.Port.view c.bring_in-opening.new.port) (source_of g.R.Read.remaining c.args.reader.now) sink';
+        opens = record { port = c.bring_in-opening.ensures.opened; last = c.last_after_opening.ensures; source = refl };
         greets = subst (λ (bytes : List ℕ). Takes bytes sink sink') (c.deref.ensures.0 ∙ c.opening_of.ensures) c.in-Ok.ensures.ok;
         ready = c.in_default.not-StillWaits;
         exchanges = [];

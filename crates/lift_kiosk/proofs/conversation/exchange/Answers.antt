@@ -10,7 +10,7 @@ returns-in-Some-clause-end g c =
         read = line.2;
         means = c.outcome_of-outcome.ensures.means line.0 line.1;
         port = c.outcome_of-outcome.ensures.did;
-        last = c.last_behind.ensures;
+        last = c.last_command_after.ensures;
       };
       wrote = search rules;
     })

@@ -1,7 +1,7 @@
 use Rattle.std.proofs.Common.{[], refl, rules, subst}
 use Rattle.lift_disk.specs.Files.{sector_file_state_of}
 use Rattle.lift_journal.specs.Journal.{ReadsAs}
-use Rattle.lift_journal.specs.Calls.{MakesFront, format_calls}
+use Rattle.lift_journal.specs.Calls.{MakesPrefix, format_calls}
 use Rattle.lift_journal.specs.declared.fault.JournalFault.TheVariants.{Disk}
 use Rattle.lift_keeper.specs.declared.fault.KeeperFault.TheVariants.{Journal as OfJournal}
 use Rattle.lift_program.specs.declared.fault.Fault.TheVariants.{Journal}
@@ -21,6 +21,6 @@ returns-in-Err-format-clause-failure g c =
     let image = c.in-Ok-image_at.disk in
     let left = c.format.new.disk in
     let here = c.in-Err-format.ensures in
-    let stops = subst (λ s. MakesFront (format_calls s) (sector_file_state_of g.I.Told.ToldFile.holds image) (sector_file_state_of g.I.Told.ToldFile.holds left)) c.shape-shape.ensures.value here.performs.follows.front in
+    let stops = subst (λ s. MakesPrefix (format_calls s) (sector_file_state_of g.I.Told.ToldFile.holds image) (sector_file_state_of g.I.Told.ToldFile.holds left)) c.shape-shape.ensures.value here.performs.follows.front in
     is_unformatted _ c.args.image.now c.args.building.now c.in-Ok.building c.args.half image left c.new-in-Err-format.result (Journal (OfJournal Disk)) c.new-in-Err-format.ensures c.in-Ok.ensures.found
     c.in-Ok-image_at.ensures.made refl stops here.performs.runs here.performs.cause.err

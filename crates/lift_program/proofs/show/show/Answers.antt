@@ -5,7 +5,7 @@ use Rattle.lift_program.specs.Unwritten.{unwritten_file_of, unwritten_state_of}
 use Rattle.lift_program.specs.Ends.{IsFileFault, IsReportOfFault, IsShowingFault}
 use Rattle.lift_disk.specs.Files.{sector_file_state_of}
 use Rattle.lift_program.specs.Images.{IsOnlyRead}
-use Rattle.lift_program.specs.Showing.{ShowsFront, ShowsRegister}
+use Rattle.lift_program.specs.Showing.{ShowsPrefix, ShowsRegister}
 use Rattle.lift_program.specs.declared.fault.Role.TheVariants.{Output}
 use Rattle.lift_program.proofs.Flushing.{building_no_output, image_no_output}
 use Rattle.lift_program.proofs.Stages.{showing_left, showing_part}
@@ -35,7 +35,7 @@ returns-in-Err-outcome-clause-failure g c =
     showing_left _ _ _ c.in-Ok.building c.in-Ok-image_to_show.disk c.show_on-disk.result.0 _ before after c.in-Err-outcome.fault c.new-in-Err-outcome.ensures c.in-Ok.ensures.found
     c.in-Ok-image_to_show.ensures.opened (subst (λ r. IfErr r IsShowingFault) c.in-Err-outcome.is c.show_on-disk.ensures.fault)
     (λ refusal same. c.show_on-disk.ensures.refused refusal (c.in-Err-outcome.is ∙ ap Err same))
-    (subst (λ r. IfErr r (λ fault. IsFileFault Output fault → ShowsFront c.in-Ok.building (buffered_state_of (unwritten_state_of g.I.Told.ToldFile.holds) c.in-Ok-image_to_show.disk) (buffered_state_of (unwritten_state_of g.I.Told.ToldFile.holds) c.show_on-disk.result.0) before after))
+    (subst (λ r. IfErr r (λ fault. IsFileFault Output fault → ShowsPrefix c.in-Ok.building (buffered_state_of (unwritten_state_of g.I.Told.ToldFile.holds) c.in-Ok-image_to_show.disk) (buffered_state_of (unwritten_state_of g.I.Told.ToldFile.holds) c.show_on-disk.result.0) before after))
     c.in-Err-outcome.is c.show_on-disk.ensures.front)
 
 pub returns-in-Ok-outcome-clause-only : goal.returns-in-Ok-outcome-clause-only
@@ -52,7 +52,7 @@ returns-in-Err-outcome-clause-only g c =
     showing_part _ c.args.image.now c.args.building.now c.in-Ok.building c.in-Ok-image_to_show.disk c.show_on-disk.result.0 before after c.in-Err-outcome.fault
     c.in-Ok.ensures.found c.in-Ok-image_to_show.ensures.opened (subst (λ r. IfErr r IsShowingFault) c.in-Err-outcome.is c.show_on-disk.ensures.fault)
     (subst (λ r. IfErr r (λ fault. IsReportOfFault fault before after)) c.in-Err-outcome.is c.show_on-disk.ensures.unwritten)
-    (subst (λ r. IfErr r (λ fault. IsFileFault Output fault → ShowsFront c.in-Ok.building (buffered_state_of (unwritten_state_of g.I.Told.ToldFile.holds) c.in-Ok-image_to_show.disk) (buffered_state_of (unwritten_state_of g.I.Told.ToldFile.holds) c.show_on-disk.result.0) before after))
+    (subst (λ r. IfErr r (λ fault. IsFileFault Output fault → ShowsPrefix c.in-Ok.building (buffered_state_of (unwritten_state_of g.I.Told.ToldFile.holds) c.in-Ok-image_to_show.disk) (buffered_state_of (unwritten_state_of g.I.Told.ToldFile.holds) c.show_on-disk.result.0) before after))
     c.in-Err-outcome.is c.show_on-disk.ensures.front)
 
 pub returns-in-Err-clause-failed : goal.returns-in-Err-clause-failed

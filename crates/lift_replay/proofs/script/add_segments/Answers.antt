@@ -7,7 +7,7 @@ use Rattle.lift_replay.specs.Source.{lines_in}
 use Rattle.lift_replay.specs.declared.segment.SegmentEnd.{SegmentEnd}
 use Rattle.lift_replay.proofs.Runs.{reports_none, segment_more, segment_last}
 use Rattle.lift_replay.proofs.Fronts.{tells_none, tells_more}
-use Rattle.lift_replay.specs.lemmas.Writes.{takes_more, pieces_ok, pieces_behind}
+use Rattle.lift_replay.specs.lemmas.Writes.{takes_more, pieces_ok, pieces_after}
 use Rattle.lift_replay.proofs.script.add_segments.Goals as goal
 
 pub loop-init : goal.loop-init
@@ -64,4 +64,4 @@ pub returns-in-Ok-Run-clause-writes : goal.returns-in-Ok-Run-clause-writes
 returns-in-Ok-Run-clause-writes g c = pieces_ok g.W.Outlet.gives _ _ _ _ (takes_more g.W.Outlet.gives _ _ _ c.loop.invariant.called c.in-Ok-Run.ensures.writes.calls)
 
 pub returns-in-Err-add_segment-clause-writes : goal.returns-in-Err-add_segment-clause-writes
-returns-in-Err-add_segment-clause-writes g c = pieces_behind g.W.Outlet.gives _ _ _ _ _ _ refl c.loop.invariant.called c.in-Err-add_segment.ensures.writes
+returns-in-Err-add_segment-clause-writes g c = pieces_after g.W.Outlet.gives _ _ _ _ _ _ refl c.loop.invariant.called c.in-Err-add_segment.ensures.writes

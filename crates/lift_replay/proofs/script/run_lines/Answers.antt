@@ -5,7 +5,7 @@ use Rattle.lift_replay.proofs.Fronts.{err_so, no_front, on_err, tells_either, te
 use Rattle.lift_replay.proofs.Runs.{report_put}
 use Rattle.lift_replay.proofs.Told.{if_ok}
 use Rattle.lift_replay.proofs.Total.{lines_total}
-use Rattle.lift_replay.specs.lemmas.Writes.{called_behind, called_err, fails_behind}
+use Rattle.lift_replay.specs.lemmas.Writes.{called_after, called_err, fails_later}
 use Rattle.lift_replay.proofs.script.run_lines.Goals as goal
 
 pub returns-clause-tells : goal.returns-clause-tells
@@ -19,7 +19,7 @@ returns-clause-front g c =
 
 pub returns-clause-calls : goal.returns-clause-calls
 returns-clause-calls g c =
-    called_behind g.W.Outlet.gives _ _ _ c.add_segments-end.result _ c.add_segments-end.ensures.writes.output c.add_segments-end.ensures.writes.calls c.add_segments-end.ensures.writes.emptied c.put_piece.ensures.idle c.in_ok-put_piece.ensures.each_call
+    called_after g.W.Outlet.gives _ _ _ c.add_segments-end.result _ c.add_segments-end.ensures.writes.output c.add_segments-end.ensures.writes.calls c.add_segments-end.ensures.writes.emptied c.put_piece.ensures.idle c.in_ok-put_piece.ensures.each_call
 
 pub returns-in_err-piece-clause-front : goal.returns-in_err-piece-clause-front
 returns-in_err-piece-clause-front g c = err_so c.from_residual.result (
@@ -37,4 +37,4 @@ returns-in_err-piece-clause-calls g c = called_err g.W.Outlet.gives _ _ c.from_r
 
 pub returns-in_err-put_piece-clause-calls : goal.returns-in_err-put_piece-clause-calls
 returns-in_err-put_piece-clause-calls g c = called_err g.W.Outlet.gives _ _ c.from_residual-in_err-put_piece.result _ c.from_residual-in_err-put_piece.ensures.1
-    (fails_behind g.W.Outlet.gives _ _ _ c.add_segments-end.result _ c.add_segments-end.ensures.writes.output c.add_segments-end.ensures.writes.calls c.add_segments-end.ensures.writes.emptied c.put_piece.ensures.idle c.in_err-put_piece.ensures.failed)
+    (fails_later g.W.Outlet.gives _ _ _ c.add_segments-end.result _ c.add_segments-end.ensures.writes.output c.add_segments-end.ensures.writes.calls c.add_segments-end.ensures.writes.emptied c.put_piece.ensures.idle c.in_err-put_piece.ensures.failed)

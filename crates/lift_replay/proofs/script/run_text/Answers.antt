@@ -6,7 +6,7 @@ use Rattle.std.specs.Io.KnownBytes.{Appends}
 use Rattle.lift_building.specs.Gives.{IsFirstFault}
 use Rattle.lift_building.specs.declared.fault.BuildingFault.TheVariants.{Memory}
 use Rattle.lift_replay.specs.Report.{building_text}
-use Rattle.lift_replay.specs.Replaying.{IsTextReport, WritesFront}
+use Rattle.lift_replay.specs.Replaying.{IsTextReport, WritesPrefix}
 use Rattle.lift_replay.specs.declared.lines.Verdict.TheVariants.{Bad}
 use Rattle.lift_replay.proofs.Fronts.{err_so, on_err, text_unwritten}
 use Rattle.lift_replay.proofs.Told.{if_ok, if_bad, on_ok}
@@ -50,7 +50,7 @@ returns-clause-front g c =
     let script : IsScript c.args.text.now (string_bytes c.in-Some.building) (lines_in c.in-Some.lines.now) = search rules in
     let first : c.in-Err.fault ≢ Memory tt → IsFirstFault (string_bytes c.in-Some.building) c.in-Err.fault = λ other. search rules in
     on_err c.refuse_building.result (λ refused. elim refused [
-      | inl same ↦ subst (WritesFront (IsTextReport c.args.text.now) (g.W.Write.contents c.args.writer.now)) (sym same) (text_unwritten c.args.text.now _)
+      | inl same ↦ subst (WritesPrefix (IsTextReport c.args.text.now) (g.W.Write.contents c.args.writer.now)) (sym same) (text_unwritten c.args.text.now _)
       | inr front ↦ (
         building_text c.in-Err.fault,
         Bad,

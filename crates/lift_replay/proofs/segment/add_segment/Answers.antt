@@ -12,7 +12,7 @@ use Rattle.lift_replay.specs.Source.{lines_in}
 use Rattle.lift_replay.proofs.Recovered.{new_ready, new_shows}
 use Rattle.lift_replay.proofs.Runs.{run_told, cut_goes_on}
 use Rattle.lift_replay.proofs.Fronts.{err_so, cut_part, tells_none}
-use Rattle.lift_replay.specs.lemmas.Writes.{takes_more, pieces_ok, pieces_memory, pieces_behind}
+use Rattle.lift_replay.specs.lemmas.Writes.{takes_more, pieces_ok, pieces_memory, pieces_after}
 use Rattle.lift_replay.proofs.segment.add_segment.Goals as goal
 
 pub returns-in-Run-clause-tells : goal.returns-in-Run-clause-tells
@@ -99,10 +99,10 @@ pub returns-in_err-desk-clause-writes : goal.returns-in_err-desk-clause-writes
 returns-in_err-desk-clause-writes g c = pieces_memory g.W.Outlet.gives _ _ _ c.from_residual.result c.from_residual.ensures.1 (0, refl)
 
 pub returns-in_err-verdict-clause-writes : goal.returns-in_err-verdict-clause-writes
-returns-in_err-verdict-clause-writes g c = pieces_behind g.W.Outlet.gives _ _ _ _ c.from_residual-in_err-verdict.result _ c.from_residual-in_err-verdict.ensures.1 (0, refl) c.in_err-verdict.ensures.writes
+returns-in_err-verdict-clause-writes g c = pieces_after g.W.Outlet.gives _ _ _ _ c.from_residual-in_err-verdict.result _ c.from_residual-in_err-verdict.ensures.1 (0, refl) c.in_err-verdict.ensures.writes
 
 pub returns-in_err-add_cut-in-Cut-clause-writes : goal.returns-in_err-add_cut-in-Cut-clause-writes
-returns-in_err-add_cut-in-Cut-clause-writes g c = pieces_behind g.W.Outlet.gives _ _ _ _ c.from_residual-in_err-add_cut-in-Cut.result _ c.from_residual-in_err-add_cut-in-Cut.ensures.1
+returns-in_err-add_cut-in-Cut-clause-writes g c = pieces_after g.W.Outlet.gives _ _ _ _ c.from_residual-in_err-add_cut-in-Cut.result _ c.from_residual-in_err-add_cut-in-Cut.ensures.1
     c.in_ok-verdict.ensures.writes.calls c.in_err-add_cut-in-Cut.ensures.writes
 
 pub add_lines-requires-clause-ready : goal.add_lines-requires-clause-ready

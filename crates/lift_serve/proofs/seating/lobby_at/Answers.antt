@@ -1,6 +1,6 @@
 use Rattle.std.proofs.Common.{rules, ap, ◌∙◌}
 use Rattle.lift_serve.specs.Lobby.{LobbyState}
-use Rattle.lift_serve.proofs.Places.{all_as_found, is_lobby_behind, next_place}
+use Rattle.lift_serve.proofs.Places.{all_as_found, is_lobby_after, next_place}
 use Rattle.lift_serve.proofs.seating.lobby_at.Goals as goal
 
 pub add-requires : goal.add-requires
@@ -11,7 +11,7 @@ add-requires c = record {
 
 pub new-requires : goal.new-requires
 new-requires c =
-    is_lobby_behind c.args.register.now c.args.desk.now c.loop-seat.yielded _ c.loop-seat.places.items c.loop-seat.invariant.split
+    is_lobby_after c.args.register.now c.args.desk.now c.loop-seat.yielded _ c.loop-seat.places.items c.loop-seat.invariant.split
     (search rules) c.loop-seat.invariant.all
 
 pub returns-clause-found : goal.returns-clause-found

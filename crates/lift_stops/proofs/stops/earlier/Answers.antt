@@ -17,9 +17,9 @@ before_it dir halt other (y ∷ ys) le first =
       | inr lower ↦ rw (lt-ltb (rank_of dir y) (rank_of dir halt) (omega (arith, ranks, lower))) first
     ]
 
-behind_it : (dir : Dir) (halt other : Halt) (halts : List Halt) → rank_of dir halt < rank_of dir other → Some other ≡ slice_get halts 0 → Some halt ≡ slice_get (put (rank_of dir) halt halts) 0
-behind_it dir halt other [] lt first = absurd cc
-behind_it dir halt other (y ∷ ys) lt first =
+after_it : (dir : Dir) (halt other : Halt) (halts : List Halt) → rank_of dir halt < rank_of dir other → Some other ≡ slice_get halts 0 → Some halt ≡ slice_get (put (rank_of dir) halt halts) 0
+after_it dir halt other [] lt first = absurd cc
+after_it dir halt other (y ∷ ys) lt first =
     let same : other ≡ y = cc first in
     let ranks = ap (rank_of dir) same in
     rw (le-ltb (rank_of dir y) (rank_of dir halt) (omega (arith, ranks, lt)), ne_eqb (rank_of dir y) (rank_of dir halt) (λ equal. omega (arith, ranks, lt, equal))) refl
@@ -37,4 +37,4 @@ returns-then-rank_of-rank-clause-first c halts first =
 
 pub returns-else-rank_of-rank-clause-first : goal.returns-else-rank_of-rank-clause-first
 returns-else-rank_of-rank-clause-first c halts first =
-    behind_it c.args.dir c.args.halt c.in-Some.other halts (omega (arith, c.rank_of.ensures.value, c.rank_of-rank.ensures.value)) (sym c.in-Some.is ∙ first)
+    after_it c.args.dir c.args.halt c.in-Some.other halts (omega (arith, c.rank_of.ensures.value, c.rank_of-rank.ensures.value)) (sym c.in-Some.is ∙ first)

@@ -4,10 +4,10 @@ use Rattle.std.proofs.lemmas.List.{drop_more}
 use Rattle.std.proofs.lemmas.List.Elements.{recursion_from_All}
 use Rattle.lift_base.specs.declared.travel.Halt.{Halt}
 use Rattle.lift_building.specs.Plan.{Plan}
-use Rattle.lift_cost.specs.Ways.{floor_behind, leaves_behind, persons_along}
+use Rattle.lift_cost.specs.Ways.{floor_after, leaves_after, persons_along}
 use Rattle.lift_cost.specs.Delays.{persons_in, IsOnWays}
 use Rattle.lift_cost.specs.declared.ways.Ways.{Ways}
-use Rattle.lift_cost.proofs.Delayed.{both_make, within_behind}
+use Rattle.lift_cost.proofs.Delayed.{both_make, within_after}
 use Rattle.lift_cost.proofs.ways.Ways.make_all.Goals as goal
 
 pub returns-clause-on : goal.returns-clause-on
@@ -29,10 +29,10 @@ returns-clause-on c start made made_with on =
     subst (λ (halts : List Halt). IsOnWays plan persons start (made ++ halts) (made_with ++ halts) after) (sym whole)
     (both_make plan persons start made made_with c.args.self first behind _ _ delay _ on c.delay_at-delay.ensures.value
     (c.times_along.ensures.value ∙ ap (λ (halts : List Halt). delay * persons_along persons halts) whole)
-    (c.go_along-floor.ensures.floor ∙ ap (λ (halts : List Halt). floor_behind c.args.self.floor_with halts) whole)
-    (c.go_along-floor.ensures.leaves ∙ ap (λ (halts : List Halt). leaves_behind plan c.args.self.floor_with c.args.self.leaves_with halts) whole))
+    (c.go_along-floor.ensures.floor ∙ ap (λ (halts : List Halt). floor_after c.args.self.floor_with halts) whole)
+    (c.go_along-floor.ensures.leaves ∙ ap (λ (halts : List Halt). leaves_after plan c.args.self.floor_with c.args.self.leaves_with halts) whole))
 
 pub returns-clause-here : goal.returns-clause-here
 returns-clause-here c here =
-    let within = within_behind c.args.building.now.floors c.args.self.floor_with c.args.halts.now here (recursion_from_All (λ (halt : Halt). halt.floor < c.args.building.now.floors) c.args.halts.now c.requires.within) in
+    let within = within_after c.args.building.now.floors c.args.self.floor_with c.args.halts.now here (recursion_from_All (λ (halt : Halt). halt.floor < c.args.building.now.floors) c.args.halts.now c.requires.within) in
     omega (arith, c.go_along-floor.ensures.floor, within)

@@ -3,7 +3,7 @@ use Rattle.std.proofs.lemmas.List.Elements.{recursion_from_All, All-from_recursi
 use Rattle.lift_base.specs.declared.travel.Halt.{Halt}
 use Rattle.lift_building.specs.Plan.{Plan, flight_ms}
 use Rattle.lift_cost.proofs.Earlier.{AllBelow}
-use Rattle.lift_cost.proofs.Delayed.{below_behind, still_short}
+use Rattle.lift_cost.proofs.Delayed.{below_after, still_short}
 use Rattle.lift_cost.proofs.ways.Ways.stop_at.Goals as goal
 
 pub arrives-arrives-requires : goal.arrives-arrives-requires
@@ -34,7 +34,7 @@ returns-clause-within c =
     let split = c.split_at-split.ensures in
     let behind : List Halt = c.split_at-split.result.behind.now in
     let all : AllBelow floors c.args.halts.now = recursion_from_All (λ (halt : Halt). halt.floor < floors) c.args.halts.now c.requires.within in
-    All-from_recursion (λ (halt : Halt). halt.floor < floors) behind (below_behind floors _ behind (subst (λ (hs : List Halt). AllBelow floors hs) split.whole all))
+    All-from_recursion (λ (halt : Halt). halt.floor < floors) behind (below_after floors _ behind (subst (λ (hs : List Halt). AllBelow floors hs) split.whole all))
 
 pub returns-clause-short : goal.returns-clause-short
 returns-clause-short c n short = still_short _ (n + 1 + 1) (n + 2) (omega arith) (c.make_if_there-ways.ensures.short (n + 1) (c.make_all-ways.ensures.short n short))

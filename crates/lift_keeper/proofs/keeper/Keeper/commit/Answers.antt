@@ -2,7 +2,7 @@ use Rattle.std.proofs.Common.{◌≡◌, ◌∙◌, [], sym, ap, subst}
 use Rattle.lift_register.specs.Register.{RegisterState, register_of}
 use Rattle.lift_decider.specs.Decider.{DeciderState}
 use Rattle.lift_keeper.proofs.Recovering.{not_true}
-use Rattle.lift_keeper.specs.lemmas.Keepers.{keeper_without_batch, nothing_behind}
+use Rattle.lift_keeper.specs.lemmas.Keepers.{keeper_without_batch, nothing_after}
 use Rattle.lift_keeper.proofs.keeper.Keeper.commit.Goals as goal
 
 pub invariant_of-self-2 : goal.invariant_of-self-2
@@ -18,5 +18,5 @@ invariant_of-self-2 g c =
     keeper_without_batch after.plan sealed.state sealed.plan after.register after.is_broken
     (ap (λ (d : DeciderState). d.plan) kept ∙ c.self.invariant.of_building ∙ sym c.commit.ensures.commits.same.0)
     (ap (λ (d : DeciderState). d.state.batch) kept)
-    (subst (λ (r : RegisterState). register_of r [] ≡ r) (sym is) (nothing_behind writer.register decider.state.batch))
+    (subst (λ (r : RegisterState). register_of r [] ≡ r) (sym is) (nothing_after writer.register decider.state.batch))
     (λ _. ap (λ (d : DeciderState). d.state.register) kept ∙ c.self.invariant.shows whole ∙ sym is)

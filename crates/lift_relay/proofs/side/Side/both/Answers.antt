@@ -4,14 +4,14 @@ use Rattle.lift_relay.specs.Rule.{opening_view}
 use Rattle.lift_relay.proofs.Moves.{begins, names, starts, ends}
 use Rattle.lift_relay.proofs.side.Side.both.Goals as goal
 
-pub queue_behind-requires-clause-rule : goal.queue_behind-requires-clause-rule
-queue_behind-requires-clause-rule c = begins
+pub passed_queue-requires-clause-rule : goal.passed_queue-requires-clause-rule
+passed_queue-requires-clause-rule c = begins
 
-pub queue_behind-requires-clause-pushes : goal.queue_behind-requires-clause-pushes
-queue_behind-requires-clause-pushes c = names _ _ opening_view _ refl
+pub passed_queue-requires-clause-pushes : goal.passed_queue-requires-clause-pushes
+passed_queue-requires-clause-pushes c = names _ _ opening_view _ refl
 
-pub queue_behind-requires-clause-pops : goal.queue_behind-requires-clause-pops
-queue_behind-requires-clause-pops c w named = starts _ _ _ named
+pub passed_queue-requires-clause-pops : goal.passed_queue-requires-clause-pops
+passed_queue-requires-clause-pops c w named = starts _ _ _ named
 
 pub another-other-requires-clause-rule : goal.another-other-requires-clause-rule
 another-other-requires-clause-rule c =

@@ -1,6 +1,6 @@
 use Rattle.std.proofs.Common.{[], ◌++◌, length, ap, sym, refl, ◌∙◌, arith}
 use Rattle.std.proofs.lemmas.List.{append-nil, append_assoc, length-set}
-use Rattle.lift_replay.proofs.Hearing.{all_rest, next_heard, others_rest, quiet_so_far, same_behind}
+use Rattle.lift_replay.proofs.Hearing.{all_rest, next_heard, others_rest, quiet_so_far, same_after}
 use Rattle.lift_replay.proofs.terminals.Terminals.push_all_heard.Goals as goal
 
 pub loop-index-init : goal.loop-index-init
@@ -48,6 +48,6 @@ loop-index-preserved c =
         next_heard olds mids news n inv.heard.0 told.hears.0 (omega (arith, c.loop-index-test.true, c.args.self.now.spanned.bound)) inv.count told.others inv.heard.1 (inv.rest n (omega arith)) told.hears.1,
         told.hears.2 ∙ ap (λ l. l ++ told.hears.0) inv.heard.2 ∙ append_assoc _ inv.heard.0 told.hears.0,
       );
-      rest = same_behind olds mids news n told.others inv.rest;
+      rest = same_after olds mids news n told.others inv.rest;
       quiet = quiet_so_far mids news n c.loop-index.waits c.in_ok-waits.field-0 told.others told.waits.1 inv.quiet;
     }

@@ -7,7 +7,7 @@ use Rattle.lift_disk.specs.Trace.{Access}
 use Rattle.lift_disk.specs.Trace.Access.{Write, Sync}
 use Rattle.lift_journal.specs.Calls.{Performs, writes_from}
 use Rattle.lift_journal.proofs.Performing.{performs_call, performs_then, err_performs}
-use Rattle.lift_journal.proofs.device.store_behind.Goals as goal
+use Rattle.lift_journal.proofs.device.store_after.Goals as goal
 
 pub returns-in_err-write_sectors-clause-touched : goal.returns-in_err-write_sectors-clause-touched
 returns-in_err-write_sectors-clause-touched g c loose =

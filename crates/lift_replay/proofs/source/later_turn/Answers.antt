@@ -1,7 +1,7 @@
 use Rattle.std.proofs.Common.{◌≡◌, ◌++◌, length, get_or, ap, arith}
 use Rattle.std.specs.Prelude.{codes}
 use Rattle.std.proofs.lemmas.Str.{lead_after_ascii}
-use Rattle.lift_replay.proofs.source.behind_turn.Goals as goal
+use Rattle.lift_replay.proofs.source.later_turn.Goals as goal
 
 pub range_from-requires : goal.range_from-requires
 range_from-requires c =
