@@ -10,7 +10,7 @@ use Rattle.lift_base.specs.declared.command.Reply.TheVariants.{Car, Stopped, Pla
 use Rattle.lift_base.specs.declared.command.Reply.TheVariants.{Unknown}
 use Rattle.lift_desk.specs.declared.words.Ask.{Ask}
 use Rattle.lift_car.specs.declared.lines.Move.{Move}
-use Rattle.lift_kiosk.specs.Lines.{IsShort}
+use Rattle.lift_kiosk.specs.Lines.{IsShortLine}
 use Rattle.lift_kiosk.specs.Session.{later}
 use Rattle.lift_kiosk.specs.declared.terms.LastLetter.{LastLetter}
 use Rattle.lift_kiosk.specs.declared.dialect.Wanted.{Wanted}
@@ -40,7 +40,7 @@ pub record ReadsMove (words : List (List ℕ)) (found : Option Move) : Type 0 wh
 
 -- a line of a session that spells a move
 pub record SpellsMove (line : List ℕ) (move : Move) : Type 0 where
-  pub short : IsShort line
+  pub short : IsShortLine line
   pub words : List (List ℕ)
   pub spaced : AreWords line words
   pub moves : IsMove words move
@@ -68,7 +68,7 @@ keeps_stop last number (Refused reason) = last
 keeps_stop last number Unknown = last
 
 -- what a car's line asks for is spelled in a short line
-pub moves_are_short : (line : List ℕ) (wanted : Wanted) → WantsMove line wanted → IsShort line
+pub moves_are_short : (line : List ℕ) (wanted : Wanted) → WantsMove line wanted → IsShortLine line
 moves_are_short line (Asks ask) wants = wants.1.short
 moves_are_short line NoFloor wants = wants.1.short
 

@@ -6,7 +6,7 @@ use Rattle.lift_base.specs.declared.command.Body.TheVariants.{Call}
 use Rattle.lift_base.specs.declared.command.Reply.{Reply}
 use Rattle.lift_base.specs.declared.command.Reply.TheVariants.{Car, Stopped, Placed, Refused}
 use Rattle.lift_base.specs.declared.command.Reply.TheVariants.{Unknown}
-use Rattle.lift_kiosk.specs.Lines.{IsShort}
+use Rattle.lift_kiosk.specs.Lines.{IsShortLine}
 use Rattle.lift_kiosk.specs.Session.{later}
 use Rattle.lift_kiosk.specs.declared.terms.LastLetter.{LastLetter}
 use Rattle.lift_kiosk.specs.declared.dialect.Wanted.{Wanted}
@@ -23,7 +23,7 @@ pub record AreCallWords (words : List (List ℕ)) (number floor party : ℕ) : T
 
 -- a line of a session that spells a call
 pub record SpellsCall (line : List ℕ) (number floor party : ℕ) : Type 0 where
-  pub short : IsShort line
+  pub short : IsShortLine line
   pub words : List (List ℕ)
   pub spaced : AreWords line (codes "CALL" ∷ words)
   pub call : AreCallWords words number floor party
@@ -44,6 +44,6 @@ keeps_letter last number (Refused reason) = last
 keeps_letter last number Unknown = last
 
 -- what a kiosk's line asks for is spelled in a short line
-pub calls_are_short : (line : List ℕ) (wanted : Wanted) → WantsCall line wanted → IsShort line
+pub calls_are_short : (line : List ℕ) (wanted : Wanted) → WantsCall line wanted → IsShortLine line
 calls_are_short line (Asks ask) spells = spells.2.short
 calls_are_short line NoFloor spells = spells.3.short

@@ -57,8 +57,8 @@ abbrev pub AreAscii : List (List ℕ) → Type 0
 AreAscii words = AllByRecursion IsAscii words
 
 -- what a session's line may have, its end apart
-abbrev pub IsShort : List ℕ → Type 0
-IsShort line = length line ≤ 64
+abbrev pub IsShortLine : List ℕ → Type 0
+IsShortLine line = length line ≤ 64
 
 -- what is kept of a line: its first 65 bytes, and whether there are more
 pub record Keeps65 (line kept : List ℕ) (longer : Bool) : Type 0 where

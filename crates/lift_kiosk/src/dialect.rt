@@ -2,7 +2,7 @@
 
 ghost use Rattle.std.specs.Prelude.{◌≡◌, ℕ, List, IfSome, IfNone};
 ghost use Rattle.lift_base.specs.declared.command.Reply.{Reply as ReplyValue};
-ghost use Rattle.lift_kiosk.specs.Lines.{IsShort};
+ghost use Rattle.lift_kiosk.specs.Lines.{IsShortLine};
 ghost use Rattle.lift_kiosk.specs.declared.terms.LastLetter.{LastLetter as LastValue};
 ghost use Rattle.lift_kiosk.specs.declared.dialect.Wanted.{Wanted as WantedValue};
 
@@ -35,5 +35,5 @@ pub trait Dialect {
     fn keep(last: &LastLetter, number: Number, reply: &Reply) -> LastLetter
         ensures { result ≡ keeps last.now number reply.now };
 
-    ghost short: { (line : List ℕ) (wanted : WantedValue) → wants line wanted → IsShort line };
+    ghost short: { (line : List ℕ) (wanted : WantedValue) → wants line wanted → IsShortLine line };
 }

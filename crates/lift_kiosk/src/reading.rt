@@ -3,7 +3,7 @@
 ghost use Rattle.std.specs.Prelude.{◌≡◌, ℕ, List, IfSome, IfNone, ◌<◌, length, map};
 ghost use Rattle.std.specs.Str.Lines.{strip_carriage_return};
 ghost use Rattle.lift_base.specs.Text.{AreWords};
-ghost use Rattle.lift_kiosk.specs.Lines.{AreAscii, IsShort, Keeps65};
+ghost use Rattle.lift_kiosk.specs.Lines.{AreAscii, IsShortLine, Keeps65};
 ghost use Rattle.lift_kiosk.specs.declared.dialect.Wanted.{Wanted as WantedValue};
 
 use crate::dialect::{Dialect, Wanted};
@@ -25,9 +25,9 @@ pub fn without_return(bytes: &[u8]) -> &[u8]
 /// The words of a line of at most 64 bytes, none where it has more than six.
 pub fn words_in(line: &[u8]) -> Option<ArrayVec<&str, MOST_WORDS>>
     ensures some { IfSome result (λ words. AreWords line.now (map (λ word. word.now) words.items)
-        × IsShort line.now) }
+        × IsShortLine line.now) }
     ensures none { IfNone result ((words : List (List ℕ)) → AreWords line.now words → AreAscii words
-        → IsShort line.now → 6 < length words) }
+        → IsShortLine line.now → 6 < length words) }
 {
     if line.len() > MOST_BYTES {
         return None;

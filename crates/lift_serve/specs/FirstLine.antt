@@ -2,7 +2,7 @@
 use Rattle.std.specs.Prelude.{ℕ, ◌≡◌, ◌<◌, ◌≤◌, ◌+◌, ◌⊎◌, List, [], ◌∷◌, codes}
 use Rattle.std.specs.Fmt.{decimal}
 use Rattle.lift_base.specs.Text.{AreWords, letter_text}
-use Rattle.lift_kiosk.specs.Lines.{IsShort}
+use Rattle.lift_kiosk.specs.Lines.{IsShortLine}
 
 -- the terminal of a kiosk: its number and 16
 abbrev pub IsKioskWord : (kiosks : ℕ) → List ℕ → (terminal : ℕ) → Type 0
@@ -21,7 +21,7 @@ AreTerminalWords cars kiosks words terminal =
 
 -- a session's line that names a terminal of a building with so many cars and kiosks
 pub record SpeaksFor (cars kiosks : ℕ) (line : List ℕ) (terminal : ℕ) : Type 0 where
-  pub short : IsShort line
+  pub short : IsShortLine line
   pub words : List (List ℕ)
   pub spaced : AreWords line words
   pub names : AreTerminalWords cars kiosks words terminal
