@@ -43,8 +43,8 @@ looked_at [] (visit ∷ visits) = []
 looked_at (place ∷ places) (visit ∷ visits) =
     placed_at place.table (with_taking place.view visit.word) ∷ looked_at places visits
 
--- One scan as far as n places: the first n were looked at once each, in their order, and nothing else
--- was; and this holds of what these looks found.
+-- One scan as far as n places: the first n were looked at once each, and nothing else was; the looks
+-- are listed by place; and this holds of what they found.
 pub record Scans (IsLook : ClerkPlace → Visit → Type 0) (Found : List Visit → Type 0)
     (places seat : List ClerkPlace) (n : ℕ) : Type 0 where
   pub visits : List Visit

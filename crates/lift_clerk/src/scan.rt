@@ -49,7 +49,7 @@ pub trait DeskScan<T> {
 }
 
 /// Looks once at each terminal, and decides what is asked there, in rising order, each on the state
-/// that the earlier ones left.
+/// that the earlier ones left. What that made of the scanner, its own relation says.
 pub fn scan_desk<T: Default + Drop, S: DeskScan<T>>(
     desk: &Desk,
     scanner: &mut S,

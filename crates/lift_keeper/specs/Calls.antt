@@ -1,5 +1,5 @@
--- Which calls of the device a commit or an opening makes, how many, and what a failed one leaves: no
--- sector is named. Nothing of this is needed to know which register is safe.
+-- How many calls of the device a commit makes, which an opening makes, and what a failed one leaves.
+-- Nothing of this is needed to know which register is safe.
 use Rattle.std.specs.Prelude.{◌≡◌, ◌++◌, ℕ, Bool, List, Result, Err, IfErr, OnOk}
 use Rattle.lift_base.specs.declared.history.Shape.{Shape}
 use Rattle.lift_building.specs.Plan.{Plan}
@@ -44,8 +44,8 @@ FailsBy (Journal fault) old new = JournalFailsBy fault old new
 FailsBy OtherBuilding old new = NoneFails old new
 FailsBy (BadEntry place) old new = NoneFails old new
 
--- A commit of this many entries: it makes no call for none, else those of an append, and of a
--- checkpoint where there is no room.
+-- A commit of this many entries: it makes no call for none, else as many as an append, and as many
+-- more as a checkpoint where there is no room.
 pub record CommitCalls {D T : Type 0} (state : D → DiskState) (old : WriterView D) (count : ℕ)
     (new : WriterView D) (result : Result T KeeperFault) : Type 0 where
   pub runs : RunsOn (state old.device) (state new.device)

@@ -72,8 +72,8 @@ abbrev pub tries_after : List BatchState → Tries → Tries
 tries_after [] tries = tries
 tries_after (batch ∷ batches) tries = tried tries false
 
--- The batch in hand was sent, if there was one. Then each terminal was looked at once, in rising
--- order, and what was asked there was decided, each command with a note of the word that its look
+-- The batch in hand was sent, if there was one. Then each terminal was looked at once, and what was
+-- asked there was decided, by rising terminal, each command with a note of the word that its look
 -- took. Where something was taken it is one batch more, sent or in hand.
 pub record IsScanTurn {P : Type 0} (choice : Choice) (old new : AllocatorState P)
     (counts : Counts) : Type 0 where

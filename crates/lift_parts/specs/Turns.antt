@@ -24,7 +24,7 @@ pub record IsTelling {D P : Type 0} (a b : AllocatorState P) (f g : FlusherState
   pub allocator : b ≡ record a { end = record a.end { gone = f.end.received } }
   pub flusher : g ≡ record f { end = record f.end { known = a.end.sent } }
 
--- any number of an allocator's turns, and then of sendings of what was in hand
+-- any number of an allocator's turns and of sendings of what was in hand, in any order
 pub data AllocatorTurns {P : Type 0} (choice : Choice) : AllocatorState P → AllocatorState P
     → Type 0 where
   NoMore : {a : AllocatorState P} → AllocatorTurns choice a a

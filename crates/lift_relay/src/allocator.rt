@@ -207,7 +207,7 @@ impl<'d, 'b, P: Policy + Drop> Allocator<'d, 'b, P> {
     /// no room for stays in hand.
     pub fn turn<R: Wait>(&mut self, rt: &R) -> Counts
         ensures turns { IsAllocation (P.chooses self.old.policy) self.old self.new result }
-        // Where fewer than four batches of those that it knows to be in the line wait, it looks.
+        // Where, as far as it was told, fewer than four batches wait in the line, it looks.
         ensures looks { length self.old.end.sent < length self.old.end.gone + 4
             → IsScanTurn (P.chooses self.old.policy) self.old self.new result }
         // Where there is room for the batch in hand and one more, none is left in hand.

@@ -1,5 +1,5 @@
-//! The clerk's work in two parts, which may run on two threads: one takes asks and decides them, up
-//! to four batches ahead; the other makes the batches safe and answers.
+//! The clerk's work in two parts, which may run on two threads: one takes asks and decides them,
+//! ahead by the four batches of a line and one in hand; the other makes the batches safe and answers.
 #![tactic(auto)]
 
 mod allocator;

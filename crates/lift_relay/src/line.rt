@@ -179,8 +179,8 @@ impl Model for ReceiveEnd {
 }
 
 /// A line of four batches, which goes on from the state and the turns, for the building and the
-/// desk, that this batch names. The batch itself isn't sent. An error comes only where a growth was
-/// refused.
+/// desk, that this batch names. The batch itself isn't sent. An error comes where a growth was
+/// refused; that none comes otherwise isn't proved (`passed_queue`).
 pub fn new_line(alloc: Global, first: Batch) -> Result<(SendEnd, ReceiveEnd), Memory>
     ensures { IfOk result (λ ends. IsLine first ends.0 ends.1) }
 {

@@ -62,7 +62,7 @@ CarriesOutLine plan old new seats after line end text =
     (wanted : ScriptLine) × Spells line wanted × IsKnown plan wanted
     × Tells plan old new seats after wanted text × (end ≡ end_of wanted) × (¬ IsSkipped line)
 
--- the line is malformed, and ends the run
+-- the line is malformed, or names what the building lacks, and ends the run
 abbrev pub RefusesLine : Plan → (old new : ScriptClerk) → (seats after : List TerminalSeat) → List ℕ
     → ℕ
     → Option End → List ℕ → Type 0
