@@ -37,7 +37,7 @@ fn ask_at(arrived: bool, last: &Number, position: &Position) -> Option<Ask>
 }
 
 /// The number of the last stop, after an answer.
-fn last_command_after(last: &Number, number: &Number, reply: &Reply) -> Number
+fn last_stop_after(last: &Number, number: &Number, reply: &Reply) -> Number
     ensures { result ≡ last_after last.now number.now reply.now }
 {
     match reply {
@@ -57,7 +57,7 @@ fn last_after_opening(last: &Number, opening: &Opening) -> Number
     ensures { result ≡ last_opened last.now opening.now }
 {
     match opening {
-        Opening::BroughtIn(number, reply) => last_command_after(last, number, reply),
+        Opening::BroughtIn(number, reply) => last_stop_after(last, number, reply),
         _ => *last,
     }
 }
@@ -120,7 +120,7 @@ fn errand<C: Car, P: Port>(
         Outcome::Malformed | Outcome::OffFloors => unreachable!(),
     };
     let stop = stop_of(&reply)?;
-    *last = last_command_after(last, &ask.number, &reply);
+    *last = last_stop_after(last, &ask.number, &reply);
     *arrived = stop.is_some();
     move_on(car, port, &stop);
     Ok(())

@@ -2,49 +2,18 @@
 use Rattle.std.proofs.Common.{◌≡◌, ◌≢◌, true≢false, ℕ, zero, suc, ◌+◌, ◌*◌, ◌%◌, ◌^◌, ◌<◌, ◌≤◌, List, [], ◌∷◌, ◌++◌, map, length, Some, None, Option, refl, sym, ap, ◌∙◌, subst, arith, append_assoc}
 use Rattle.std.specs.Prelude.{All, IsSome, IfSome}
 use mathlib.Core.List.{IsPrefix, map-append}
-use Rattle.lift_base.specs.declared.travel.Dir.{Dir}
-use Rattle.lift_base.specs.declared.travel.Dir.TheVariants.{Up, Down}
-use Rattle.lift_base.specs.declared.travel.Stop.{Stop as StopAt}
-use Rattle.lift_base.specs.declared.command.Body.{Body}
-use Rattle.lift_base.specs.declared.command.Body.TheVariants.{Call, Stop, Place}
-use Rattle.lift_base.specs.declared.command.Reason.{Reason}
-use Rattle.lift_base.specs.declared.command.Reason.TheVariants.{NoSuchFloor, SameFloor, NoCar, OldNumber, GapNumber, OtherBody, WrongKind, Full, NotServed}
 use Rattle.lift_base.specs.declared.command.Reply.{Reply}
 use Rattle.lift_base.specs.declared.command.Reply.TheVariants.{Car, Stopped, Placed, Refused, Unknown}
-use Rattle.lift_base.specs.Command.{reason_number}
 use Rattle.lift_desk.specs.declared.words.Ask.{Ask}
-use Rattle.lift_desk.specs.Words.{turn_of, number_of, dir_bit, body_bits, stop_bits, reply_bits, ask_word, reply_word, IsBodyInRange, IsNextStop, IsReply, IsAskWord, IsReplyWord}
+use Rattle.lift_desk.specs.Words.{turn_of, number_of, body_bits, reply_bits, ask_word, reply_word, IsReply, IsAskWord, IsReplyWord}
 use Rattle.lift_desk.specs.Rule.{stamp_of, CountTurns, Lists, IsInOrder}
 use Rattle.lift_desk.specs.Spelled.{ask_words, reply_words, IsAsk, AreWordsOf}
-
-dir_small : (dir : Dir) → dir_bit dir ≤ 1
-dir_small Up = omega arith
-dir_small Down = omega arith
-
-body_small : (body : Body) → IsBodyInRange body → body_bits body < 2 ^ 20
-body_small (Call floor party) h = omega arith
-body_small (Stop floor dir) h = let d = dir_small dir in omega arith
-body_small (Place floor dir) h = let d = dir_small dir in omega arith
-
-stop_small : (next : Option StopAt) → IsNextStop next → stop_bits next < 2 ^ 12
-stop_small None h = omega arith
-stop_small (Some stop) h = let d = dir_small stop.dir in omega arith
-
-reason_small : (reason : Reason) → reason_number reason < 2 ^ 12
-reason_small NoSuchFloor = omega arith
-reason_small SameFloor = omega arith
-reason_small NoCar = omega arith
-reason_small OldNumber = omega arith
-reason_small GapNumber = omega arith
-reason_small OtherBody = omega arith
-reason_small WrongKind = omega arith
-reason_small Full = omega arith
-reason_small NotServed = omega arith
+use Rattle.lift_desk.specs.lemmas.ReadBack.{body_small, next_small, reason_small}
 
 reply_small : (reply : Reply) → IsReply reply → reply_bits reply < 2 ^ 20
 reply_small (Car car) h = omega arith
-reply_small (Stopped next) h = let s = stop_small next h in omega arith
-reply_small (Placed next) h = let s = stop_small next h in omega arith
+reply_small (Stopped next) h = let s = next_small next h in omega arith
+reply_small (Placed next) h = let s = next_small next h in omega arith
 reply_small (Refused reason) h = let s = reason_small reason in omega arith
 reply_small Unknown h = omega arith
 

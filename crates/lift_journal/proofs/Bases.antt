@@ -10,7 +10,7 @@ use Rattle.lift_base.specs.declared.history.Row.{Row as CallRow}
 use Rattle.lift_register.specs.Register.{RegisterState, rows_of, last_of, cars, terminals}
 use Rattle.lift_register.specs.Base.{base_records, record_of_last, last_records}
 use Rattle.lift_register.specs.WellFormed.{IsWellFormed}
-use Rattle.lift_journal.specs.Order.{IsOfBase, MayFollow, IsInOrderAfter, AreRecordsInOrder, last_command_after, MayEnd, IsComplete}
+use Rattle.lift_journal.specs.Order.{IsOfBase, MayFollow, IsInOrderAfter, AreRecordsInOrder, last_record_after, MayEnd, IsComplete}
 use Rattle.lift_journal.specs.lemmas.Orders.{order_join, last_join}
 
 -- an open call of this car, or of a later one, may follow
@@ -45,7 +45,7 @@ row_follows car (Some (Done count)) row own before = absurd before
 
 -- the open calls of one car
 car_rows : (car : ℕ) (rows : List CallRow) (last : Option Record) → AllByRecursion (λ (row : CallRow). row.car ≡ car) rows → BeforeCar car last
-    → IsInOrderAfter last (map Row rows) × BeforeCar car (last_command_after last (map Row rows))
+    → IsInOrderAfter last (map Row rows) × BeforeCar car (last_record_after last (map Row rows))
 car_rows car [] last own before = (tt, before)
 car_rows car (row ∷ rows) last own before =
     let here : BeforeCar car (Some (Row row)) = omega (arith, own.0) in
@@ -54,18 +54,18 @@ car_rows car (row ∷ rows) last own before =
 
 -- of all cars
 all_rows : (f : ℕ → List CallRow) (i n : ℕ) (last : Option Record) → ((k : ℕ) → All (λ (row : CallRow). row.car ≡ k) (f k)) → BeforeCar i last
-    → IsInOrderAfter last (map Row (flat_map f (range_with_len i n))) × BeforeCar (i + n) (last_command_after last (map Row (flat_map f (range_with_len i n))))
+    → IsInOrderAfter last (map Row (flat_map f (range_with_len i n))) × BeforeCar (i + n) (last_record_after last (map Row (flat_map f (range_with_len i n))))
 all_rows f i zero last own before = (tt, subst (λ k. BeforeCar k last) (let same : i ≡ i + 0 = omega arith in same) before)
 all_rows f i (suc n) last own before =
     let here = map Row (f i) in
     let later = map Row (flat_map f (range_with_len (i + 1) n)) in
     let first = car_rows i (f i) last (recursion_from_All (λ (row : CallRow). row.car ≡ i) (f i) (own i)) before in
-    let rest = all_rows f (i + 1) n (last_command_after last here) own (before_next i (last_command_after last here) first.1) in
+    let rest = all_rows f (i + 1) n (last_record_after last here) own (before_next i (last_record_after last here) first.1) in
     let split : map Row (flat_map f (range_with_len i (suc n))) ≡ here ++ later = map-append Row (f i) (flat_map f (range_with_len (i + 1) n)) in
     let count : (i + 1) + n ≡ i + suc n = omega arith in (
       subst (IsInOrderAfter last) (sym split) (order_join last here later first.0 rest.0),
-      subst (λ k. BeforeCar k (last_command_after last (map Row (flat_map f (range_with_len i (suc n)))))) count
-          (subst (BeforeCar ((i + 1) + n)) (sym (ap (last_command_after last) split ∙ last_join last here later)) rest.1),
+      subst (λ k. BeforeCar k (last_record_after last (map Row (flat_map f (range_with_len i (suc n)))))) count
+          (subst (BeforeCar ((i + 1) + n)) (sym (ap (last_record_after last) split ∙ last_join last here later)) rest.1),
     )
 
 rows_then_lasts : (car : ℕ) (last : Option Record) → BeforeCar car last → BeforeTerminal 0 last
@@ -90,22 +90,22 @@ before_terminal terminal (Some (Last other command)) is = omega (arith, is)
 before_terminal terminal (Some (Done count)) is = is
 
 one_last : (terminal : ℕ) (found : Option LastCommand) (before : Option Record) → BeforeTerminal terminal before
-    → IsInOrderAfter before (record_of_last terminal found) × BeforeTerminal (terminal + 1) (last_command_after before (record_of_last terminal found))
+    → IsInOrderAfter before (record_of_last terminal found) × BeforeTerminal (terminal + 1) (last_record_after before (record_of_last terminal found))
 one_last terminal None before is = (tt, before_terminal terminal before is)
 one_last terminal (Some last) before is = ((last_follows terminal before last is, tt), omega arith)
 
 -- the last commands of all terminals
 all_lasts : (f : ℕ → Option LastCommand) (i n : ℕ) (before : Option Record) → BeforeTerminal i before
-    → IsInOrderAfter before (flat_map (λ k. record_of_last k (f k)) (range_with_len i n)) × BeforeTerminal (i + n) (last_command_after before (flat_map (λ k. record_of_last k (f k)) (range_with_len i n)))
+    → IsInOrderAfter before (flat_map (λ k. record_of_last k (f k)) (range_with_len i n)) × BeforeTerminal (i + n) (last_record_after before (flat_map (λ k. record_of_last k (f k)) (range_with_len i n)))
 all_lasts f i zero before is = (tt, subst (λ k. BeforeTerminal k before) (let same : i ≡ i + 0 = omega arith in same) is)
 all_lasts f i (suc n) before is =
     let here = record_of_last i (f i) in
     let later = flat_map (λ k. record_of_last k (f k)) (range_with_len (i + 1) n) in
     let first = one_last i (f i) before is in
-    let rest = all_lasts f (i + 1) n (last_command_after before here) first.1 in
+    let rest = all_lasts f (i + 1) n (last_record_after before here) first.1 in
     let count : (i + 1) + n ≡ i + suc n = omega arith in (
       order_join before here later first.0 rest.0,
-      subst (λ k. BeforeTerminal k (last_command_after before (here ++ later))) count
+      subst (λ k. BeforeTerminal k (last_record_after before (here ++ later))) count
           (subst (BeforeTerminal ((i + 1) + n)) (sym (last_join before here later)) rest.1),
     )
 
@@ -122,10 +122,10 @@ order_of f g done own =
     let rows = map Row (flat_map f (range_with_len 0 16)) in
     let lasts = flat_map (λ k. record_of_last k (g k)) (range_with_len 0 63) in
     let first = all_rows f 0 16 None own tt in
-    let second = all_lasts g 0 63 (last_command_after None rows) (rows_then_lasts 16 (last_command_after None rows) first.1) in
+    let second = all_lasts g 0 63 (last_record_after None rows) (rows_then_lasts 16 (last_record_after None rows) first.1) in
     let both = order_join None rows lasts first.0 second.0 in
     let end = subst (BeforeTerminal 63) (sym (last_join None rows lasts)) second.1 in
-    order_join None (rows ++ lasts) (Done done ∷ []) both (done_follows 63 (last_command_after None (rows ++ lasts)) done end, tt)
+    order_join None (rows ++ lasts) (Done done ∷ []) both (done_follows 63 (last_record_after None (rows ++ lasts)) done end, tt)
 
 pub base_in_order : (register : RegisterState) → IsWellFormed register → AreRecordsInOrder (base_records register)
 unfolding cars terminals

@@ -9,7 +9,7 @@ use Rattle.lift_journal.specs.declared.fault.JournalFault.TheVariants.{Disk, Not
 use Rattle.lift_journal.specs.Walk.{Reaches, IsDamagedAt}
 use Rattle.lift_journal.specs.Steps.{ReadsOnly}
 use Rattle.lift_journal.specs.Calls.{reads_from}
-use Rattle.lift_journal.specs.Behind.{IsHalfOf, EndsIn, EndsInHalf, StampAfter, RefusedAfter}
+use Rattle.lift_journal.specs.RefusedOpening.{IsHalfOf, EndsIn, EndsInHalf, StampAfter, RefusedAfter}
 
 -- other calls stood before
 made_then : (old mid new : DiskState) (first before behind : List Access) → mid.trace ≡ old.trace ++ first → new.trace ≡ mid.trace ++ (before ++ behind)

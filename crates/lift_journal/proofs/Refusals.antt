@@ -12,7 +12,7 @@ use Rattle.lift_base.specs.declared.history.Record.{Record}
 use Rattle.lift_journal.specs.Order.{AreRecordsInOrder, IsComplete}
 use Rattle.lift_journal.specs.Opening.{RefusedFor, FixesImage}
 use Rattle.lift_journal.specs.Answers.{RefusesAt}
-use Rattle.lift_journal.specs.Behind.{RefusedAfter}
+use Rattle.lift_journal.specs.RefusedOpening.{RefusedAfter}
 use Rattle.lift_journal.specs.Steps.{ReadsOnly, HasItsCause}
 use Rattle.lift_journal.specs.lemmas.Looking.{cause_told}
 use Rattle.lift_journal.specs.Walk.{AreFirstBatches, MayBeginChain, IsDamagedAt}

@@ -4,7 +4,7 @@ use Rattle.lift_base.specs.declared.history.Shape.{Shape}
 use Rattle.lift_disk.specs.Disk.{DiskState, Image, IsSynced, MayLeave}
 use Rattle.lift_journal.specs.declared.fault.JournalFault.{JournalFault}
 use Rattle.lift_journal.specs.declared.fault.JournalFault.TheVariants.{Disk, NotFormatted, Damaged, Full, Broken}
-use Rattle.lift_journal.specs.Fronts.{IsOfChain, IsOfStamp}
+use Rattle.lift_journal.specs.ChainStep.{IsOfChain, IsOfStamp}
 use Rattle.lift_journal.specs.Layout.{IsStamped, start_of}
 use Rattle.lift_journal.specs.Steps.{HasItsCause, ReadsOnly, ReadsWell, IsSyncedAt}
 use Rattle.lift_journal.specs.Walk.{IsDamagedAt}

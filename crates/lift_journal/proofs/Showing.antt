@@ -6,8 +6,8 @@ use Rattle.lift_disk.specs.Disk.{DiskState, Image, IsSynced}
 use Rattle.lift_disk.specs.Trace.Access.{Read, Sync}
 use Rattle.lift_journal.specs.declared.fault.JournalFault.{JournalFault}
 use Rattle.lift_journal.specs.declared.fault.JournalFault.TheVariants.{Disk, NotFormatted, Damaged, Full, Broken}
-use Rattle.lift_journal.specs.Behind.{StampAfter}
-use Rattle.lift_journal.specs.Fronts.{IsOfChain}
+use Rattle.lift_journal.specs.RefusedOpening.{StampAfter}
+use Rattle.lift_journal.specs.ChainStep.{IsOfChain}
 use Rattle.lift_journal.specs.Layout.{IsStamped, start_of}
 use Rattle.lift_journal.specs.Steps.{ReadsOnly}
 use Rattle.lift_journal.specs.Visits.{TakesBefore, TakesInHalf, ShownBefore}

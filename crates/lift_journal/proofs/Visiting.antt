@@ -5,13 +5,13 @@ use Rattle.std.proofs.lemmas.List.{append_assoc}
 use Rattle.lift_base.specs.declared.history.Record.{Record}
 use Rattle.lift_record.specs.declared.version.Version.TheVariants.{One}
 use Rattle.lift_record.specs.Version.{version_number}
-use Rattle.lift_journal.specs.Order.{last_command_after, IsInOrderAfter}
+use Rattle.lift_journal.specs.Order.{last_record_after, IsInOrderAfter}
 use Rattle.lift_journal.specs.Layout.{Batch, records_of, used, body_size}
 use Rattle.lift_journal.specs.Walk.{MayBeginChain, version_after}
 use Rattle.lift_journal.specs.Seen.{batch_of}
 use Rattle.lift_journal.specs.declared.batch.Stored.{Stored}
 use Rattle.lift_journal.specs.declared.walk.Front.{Front}
-use Rattle.lift_journal.specs.Fronts.{Passes, passed}
+use Rattle.lift_journal.specs.ChainStep.{Passes, passed}
 use Rattle.lift_journal.specs.Visits.{TakesAll, IsSized, HasTaken, TakesBefore}
 use Rattle.lift_disk.specs.Disk.{DiskState, Image}
 use Rattle.lift_disk.specs.Trace.{Access}
@@ -27,7 +27,7 @@ pub record IsShown {V : Type 0} (takes : V → List Record → V → Type 0) (wa
   pub sized : All IsSized batches
   pub stands : front.gate ≡ start + used batches
   pub version_is : front.version ≡ version_after One batches
-  pub last_is : front.last ≡ last_command_after None (records_of batches)
+  pub last_is : front.last ≡ last_record_after None (records_of batches)
   pub taken : TakesAll takes was batches is
 
 module _ {V : Type 0} (takes : V → List Record → V → Type 0) where
@@ -57,7 +57,7 @@ module _ {V : Type 0} (takes : V → List Record → V → Type 0) where
         sized = All-append IsSized batches (batch ∷ []) shown.sized (All-from_recursion IsSized (batch ∷ []) (sized, tt));
         stands = omega (arith, gate, shown.stands, used_more batches batch);
         version_is = ap (λ (f : Front). f.version) is ∙ sym (version_push One batches batch);
-        last_is = ap (λ (f : Front). f.last) is ∙ ap (λ l. last_command_after l stored.records.items) shown.last_is ∙ sym (last_push batches batch);
+        last_is = ap (λ (f : Front). f.last) is ∙ ap (λ l. last_record_after l stored.records.items) shown.last_is ∙ sym (last_push batches batch);
         taken = takes_push batches batch was mid new shown.taken step;
       }
 

@@ -6,12 +6,12 @@ use Rattle.lift_disk.specs.Disk.{DiskState, Image, IsSynced, LeavesNoOther}
 use Rattle.lift_journal.specs.Steps.{ReadsOnly, ReadsWell}
 use Rattle.lift_record.specs.declared.version.Version.TheVariants.{One}
 use Rattle.lift_record.specs.Version.{version_number}
-use Rattle.lift_journal.specs.Order.{last_command_after, MayEnd, IsInOrderAfter}
+use Rattle.lift_journal.specs.Order.{last_record_after, MayEnd, IsInOrderAfter}
 use Rattle.lift_journal.specs.Layout.{Batch, records_of, IsOpen, IsClosed, size_of, IsBody, IsChain, used, sector_at}
 use Rattle.lift_journal.specs.Walk.{AreFirstBatches, IsBatchAt, MayBeginChain, version_after, Reaches, EndsAt, IsDamagedAt}
 use Rattle.lift_journal.specs.declared.batch.Stored.{Stored}
 use Rattle.lift_journal.specs.declared.walk.Front.{Front}
-use Rattle.lift_journal.specs.Fronts.{Passes, passed}
+use Rattle.lift_journal.specs.ChainStep.{Passes, passed}
 use Rattle.lift_journal.specs.declared.reads.AtGate.{AtGate}
 use Rattle.lift_journal.specs.Seen.{batch_of, ShowsAt}
 use Rattle.lift_journal.specs.Calls.{reads_from}
@@ -26,7 +26,7 @@ pub record IsAtFront (image : Image) (start end : ℕ) (front : Front) (batches 
   pub reached : Reaches image start end front.gate batches
   pub counts : front.number ≡ 1 + length batches
   pub version_is : front.version ≡ version_after One batches
-  pub last_is : front.last ≡ last_command_after None (records_of batches)
+  pub last_is : front.last ≡ last_record_after None (records_of batches)
 
 pub front_then : (batches more : List Batch) (number : ℕ) (sectors : Image) → AreFirstBatches batches number sectors → AreFirstBatches more (number + length batches) (drop (used batches) sectors) → AreFirstBatches (batches ++ more) number sectors
 front_then [] more number sectors front behind = subst (λ k. AreFirstBatches more k sectors) (add-zero number) behind
@@ -112,7 +112,7 @@ module _ (image : Image) (start end : ℕ) (front : Front) (batches : List Batch
         reached = reaches_more image start end front.gate batches at.reached below whole batch is_open (subst (λ n. IsBatchAt image front.gate end n batch) at.counts there) sound;
         counts = omega (arith, at.counts, length-append batches (batch ∷ []));
         version_is = sym (version_push One batches batch);
-        last_is = ap (λ l. last_command_after l stored.records.items) at.last_is ∙ sym (last_push batches batch);
+        last_is = ap (λ l. last_record_after l stored.records.items) at.last_is ∙ sym (last_push batches batch);
       } in
       subst (λ (f : Front). IsAtFront image start end f (batches ++ batch ∷ [])) (sym is) now
 

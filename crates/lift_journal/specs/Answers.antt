@@ -8,7 +8,7 @@ use Rattle.lift_journal.specs.Layout.{Picks}
 use Rattle.lift_journal.specs.Journal.{JournalView}
 use Rattle.lift_journal.specs.Calls.{opening_of}
 use Rattle.lift_journal.specs.Opening.{Opens, Refuses}
-use Rattle.lift_journal.specs.Behind.{RefusedAfter}
+use Rattle.lift_journal.specs.RefusedOpening.{RefusedAfter}
 
 -- A device that was so has been opened as this journal.
 pub record OpensAs {D : Type 0} (state : D → DiskState) (old : DiskState)

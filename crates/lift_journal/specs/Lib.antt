@@ -9,13 +9,13 @@ pub mod Laws
 pub mod Walk
 pub mod Seen
 pub mod Found
-pub mod Fronts
+pub mod ChainStep
 pub mod Visits
 pub mod Opening
 pub mod Checkpoint
 pub mod Switch
 pub mod Fault
-pub mod Behind
+pub mod RefusedOpening
 pub mod Answers
 pub mod Becomes
 pub mod Next

@@ -50,9 +50,9 @@ abbrev pub AreRecordsInOrder : List Record → Type 0
 AreRecordsInOrder records = IsInOrderAfter None records
 
 -- the last of these records, or that one where there are none
-abbrev pub last_command_after : Option Record → List Record → Option Record
-last_command_after last [] = last
-last_command_after last (next ∷ rest) = last_command_after (Some next) rest
+abbrev pub last_record_after : Option Record → List Record → Option Record
+last_record_after last [] = last
+last_record_after last (next ∷ rest) = last_record_after (Some next) rest
 
 -- a chain may end after it: no checkpoint is begun
 abbrev pub MayEnd : Option Record → Type 0
@@ -64,4 +64,4 @@ MayEnd (Some (Done count)) = Unit {0}
 
 -- a checkpoint that has begun has ended with its count of done calls
 abbrev pub IsComplete : List Record → Type 0
-IsComplete records = MayEnd (last_command_after None records)
+IsComplete records = MayEnd (last_record_after None records)

@@ -13,7 +13,7 @@ ghost use Rattle.lift_journal.specs.Steps.{ReadsOnly, IsSyncedAt};
 ghost use Rattle.lift_journal.specs.Failed.{IsFailedAppend, IsFailedCheckpoint};
 ghost use Rattle.lift_journal.specs.Calls.{half_start, append_calls, batch_body, pick_of};
 ghost use Rattle.lift_journal.specs.Calls.{checkpoint_calls, CallsDevice};
-ghost use Rattle.lift_journal.specs.Fronts.{IsOfCursor};
+ghost use Rattle.lift_journal.specs.ChainStep.{IsOfCursor};
 ghost use Rattle.lift_journal.specs.Becomes.{Becomes, MovesOnOk, RefusesForRoom};
 ghost use Rattle.lift_journal.specs.Next.{GivesNext, MovesCursor, NextCalls};
 ghost use Rattle.lift_journal.specs.Visits.{TakesAll, HasTaken, ShownBefore};

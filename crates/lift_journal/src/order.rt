@@ -1,7 +1,7 @@
 //! The order of the records in a chain.
 ghost use Rattle.std.specs.Prelude.{◌≡◌, ◌↔◌, IsTrue, Some};
 ghost use Rattle.lift_journal.specs.Order.{IsEntry, MayFollow, MayFollowRow, MayFollowLast};
-ghost use Rattle.lift_journal.specs.Order.{AreRecordsInOrder, IsInOrderAfter, last_command_after, MayEnd};
+ghost use Rattle.lift_journal.specs.Order.{AreRecordsInOrder, IsInOrderAfter, last_record_after, MayEnd};
 
 use lift_base::{Letter, Record, Terminal};
 
@@ -81,7 +81,7 @@ fn is_in_order(records: &[Record]) -> bool
 /// Goes on after these records, if they may stand in this order after that one.
 pub fn pass_records(last: &mut Option<Record>, records: &[Record]) -> bool
     ensures ordered { IsTrue result ↔ IsInOrderAfter last.old records.now }
-    ensures passed { IsTrue result → last.new ≡ last_command_after last.old records.now }
+    ensures passed { IsTrue result → last.new ≡ last_record_after last.old records.now }
 {
     if records.is_empty() {
         return true;

@@ -9,12 +9,12 @@ ghost use Rattle.lift_journal.specs.Journal.{HasNextPlace, StandsAt};
 ghost use Rattle.lift_journal.specs.Steps.{Examines};
 ghost use Rattle.lift_journal.specs.Walk.{IsDamagedAt};
 ghost use Rattle.lift_journal.specs.Opening.{RefusedFor, FixesImage};
-ghost use Rattle.lift_journal.specs.Fronts.{IsOfChain, IsOfStamp};
+ghost use Rattle.lift_journal.specs.ChainStep.{IsOfChain, IsOfStamp};
 ghost use Rattle.lift_journal.specs.Found.{FindsPlace};
 ghost use Rattle.lift_journal.specs.Visits.{TakesAll, HasTaken, TakesBefore, ShownBefore};
 ghost use Rattle.lift_disk.specs.Trace.Access.{Read};
 ghost use Rattle.lift_journal.specs.Calls.{reads_from};
-ghost use Rattle.lift_journal.specs.Behind.{StampAfter, EndsInHalf, RefusedAfter};
+ghost use Rattle.lift_journal.specs.RefusedOpening.{StampAfter, EndsInHalf, RefusedAfter};
 
 use crate::fault::JournalFault;
 use crate::reads::{read_mark, read_sector, sync_device};

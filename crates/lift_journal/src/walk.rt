@@ -5,9 +5,9 @@ ghost use Rattle.lift_disk.specs.Disk.{IsSynced};
 ghost use Rattle.lift_record.specs.declared.version.Version.TheVariants.{One};
 ghost use Rattle.lift_journal.specs.Steps.{Examines};
 ghost use Rattle.lift_journal.specs.Calls.{reads_from};
-ghost use Rattle.lift_journal.specs.Behind.{EndsIn};
+ghost use Rattle.lift_journal.specs.RefusedOpening.{EndsIn};
 ghost use Rattle.lift_journal.specs.Walk.{EndsAt, IsDamagedAt};
-ghost use Rattle.lift_journal.specs.Fronts.{Passes, passed, IsOfChain};
+ghost use Rattle.lift_journal.specs.ChainStep.{Passes, passed, IsOfChain};
 ghost use Rattle.lift_journal.specs.Layout.{Batch, IsChain};
 ghost use Rattle.lift_journal.specs.Visits.{TakesAll, HasTaken, TakesBefore};
 

@@ -6,7 +6,7 @@ use Rattle.lift_building.specs.Plan.{Plan}
 use Rattle.lift_register.specs.Register.{RegisterState, empty}
 use Rattle.lift_register.specs.Base.{BaseFitFrom, with_record, with_records}
 use Rattle.lift_journal.specs.Layout.{Batch, records_of}
-use Rattle.lift_journal.specs.Order.{MayFollow, last_command_after, MayEnd}
+use Rattle.lift_journal.specs.Order.{MayFollow, last_record_after, MayEnd}
 use Rattle.lift_keeper.specs.Recovery.{RecordFits, with_next, with_all, AllFit, RecoveryState, Passes, passed, AllPass, all_passed, leaves_open}
 
 -- the records of these batches fit one after another from nothing, and make this register
@@ -90,7 +90,7 @@ base_makes_all plan register ((Last terminal content) ∷ records) fit = base_ma
 base_makes_all plan register ((Done count) ∷ records) fit = base_makes_all plan (with_record register (Done count)) records fit.1
 
 pub open_passed : (state : RecoveryState) (last : Option Record) (records : List Record) → state.is_open ≡ is_unended last
-    → (all_passed state records).is_open ≡ is_unended (last_command_after last records)
+    → (all_passed state records).is_open ≡ is_unended (last_record_after last records)
 open_passed state last [] is = is
 open_passed state last (next ∷ records) is = open_passed (passed state next) (Some next) records refl
 

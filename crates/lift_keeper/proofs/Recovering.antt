@@ -9,7 +9,7 @@ use Rattle.lift_building.specs.Plan.{Plan}
 use Rattle.lift_disk.specs.Disk.{Image}
 use Rattle.lift_register.specs.Register.{RegisterState, empty}
 use Rattle.lift_journal.specs.Layout.{Batch, records_of, Holds, IsChain, size_of, start_of, used}
-use Rattle.lift_journal.specs.Order.{MayFollow, last_command_after}
+use Rattle.lift_journal.specs.Order.{MayFollow, last_record_after}
 use Rattle.lift_journal.specs.Visits.{TakesAll}
 use Rattle.lift_journal.specs.lemmas.Chains.{used_below}
 use Rattle.lift_journal.specs.lemmas.Orders.{order_at}
@@ -163,7 +163,7 @@ module _ (plan : Plan) (shape : Shape) (batches : List Batch) (image : Image) (r
   closed : reading.is_over ≡ false → reading.recovery.is_open ≡ false
   closed whole =
       ap (λ (s : RecoveryState). s.is_open) (came.passes whole).1 ∙ open_passed (beginning plan) None (records_of batches) refl
-      ∙ ended_closed (last_command_after None (records_of batches)) holds.sound.complete
+      ∙ ended_closed (last_record_after None (records_of batches)) holds.sound.complete
 
   -- a record can't be taken
   misfits : reading.is_over ≡ true → IsFirstMisfit plan (records_of batches) reading.recovery.taken
@@ -179,11 +179,11 @@ module _ (plan : Plan) (shape : Shape) (batches : List Batch) (image : Image) (r
       let found : slice_get records state.taken ≡ Some stops.misfit = ap (slice_get records) place ∙ stops.there in
       let passes : AllPass (beginning plan) front = subst (AllPass (beginning plan)) same stops.pass in
       let state_at : state ≡ all_passed (beginning plan) front = stops.same ∙ ap (all_passed (beginning plan)) same in
-      let may : MayFollow (last_command_after None front) (get_or records state.taken stops.misfit) =
+      let may : MayFollow (last_record_after None front) (get_or records state.taken stops.misfit) =
       order_at None records state.taken stops.misfit (slice_get_within records state.taken stops.misfit found) holds.sound.ordered in
-      let may_here : MayFollow (last_command_after None front) stops.misfit =
-      subst (MayFollow (last_command_after None front)) (get_or_from_slice_get records state.taken stops.misfit stops.misfit found) may in
-      let is_open : state.is_open ≡ is_unended (last_command_after None front) =
+      let may_here : MayFollow (last_record_after None front) stops.misfit =
+      subst (MayFollow (last_record_after None front)) (get_or_from_slice_get records state.taken stops.misfit stops.misfit found) may in
+      let is_open : state.is_open ≡ is_unended (last_record_after None front) =
       ap (λ (s : RecoveryState). s.is_open) state_at ∙ open_passed (beginning plan) None front refl in
       let same_plan : state.plan ≡ plan = ap (λ (s : RecoveryState). s.plan) state_at ∙ plan_passed (beginning plan) front in
       let same_register : state.register ≡ with_all empty front = ap (λ (s : RecoveryState). s.register) state_at ∙ register_passed (beginning plan) front in
@@ -194,7 +194,7 @@ module _ (plan : Plan) (shape : Shape) (batches : List Batch) (image : Image) (r
         fails = λ fits.
             let of_register : RecordFits plan state.register stops.misfit = subst (λ (r : RegisterState). RecordFits plan r stops.misfit) (sym same_register) fits in
             let of_plan : RecordFits state.plan state.register stops.misfit = subst (λ (q : Plan). RecordFits q state.register stops.misfit) (sym same_plan) of_register in
-            stops.fails (passes_here state (last_command_after None front) stops.misfit is_open may_here of_plan);
+            stops.fails (passes_here state (last_record_after None front) stops.misfit is_open may_here of_plan);
       }
 
   -- no register: a record can't be taken, because the batches end no checkpoint that they have open

@@ -14,7 +14,7 @@ use Rattle.lift_register.specs.Base.{with_records}
 use Rattle.lift_register.specs.Belongs.{BelongsTo}
 use Rattle.lift_journal.specs.declared.fault.JournalFault.{JournalFault}
 use Rattle.lift_journal.specs.declared.fault.JournalFault.TheVariants.{Disk}
-use Rattle.lift_journal.specs.Behind.{RefusedAfter}
+use Rattle.lift_journal.specs.RefusedOpening.{RefusedAfter}
 use Rattle.lift_journal.specs.Calls.{opening_of}
 use Rattle.lift_journal.specs.Journal.{ReadsAs}
 use Rattle.lift_journal.specs.Layout.{Batch, records_of, Holds, Picks}

@@ -6,7 +6,7 @@ use Rattle.lift_building.specs.Plan.{Plan}
 use Rattle.lift_disk.specs.Disk.{DiskState, KeepsImage, RunsOn}
 use Rattle.lift_register.specs.Register.{RegisterState}
 use Rattle.lift_journal.specs.declared.fault.JournalFault.TheVariants.{Disk}
-use Rattle.lift_journal.specs.Behind.{RefusedAfter}
+use Rattle.lift_journal.specs.RefusedOpening.{RefusedAfter}
 use Rattle.lift_journal.specs.Calls.{opening_of}
 use Rattle.lift_journal.specs.Layout.{Batch, Holds, Picks, used}
 use Rattle.lift_journal.specs.Steps.{Makes, SavesAsRead}

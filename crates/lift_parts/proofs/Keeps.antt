@@ -9,7 +9,7 @@ use Rattle.lift_parts.specs.Turns.{FlusherTurns, NoFlush, OneFlush}
 use Rattle.lift_parts.specs.History.{FlushesStand, group_after}
 use Rattle.lift_parts.specs.Keeping.{HaveKept, NoneYet, OneKept, TurnsKeep}
 use Rattle.lift_parts.specs.lemmas.Received.{commits_to}
-use Rattle.lift_parts.proofs.Behind.{leaves_after}
+use Rattle.lift_parts.proofs.GoesOn.{leaves_after}
 
 module _ {D : Type 0} (state : D → DiskState) where
   -- each turn leaves what is safe or in doubt

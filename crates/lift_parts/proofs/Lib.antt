@@ -4,5 +4,5 @@ pub mod TiedTake
 pub mod Answering
 pub mod TiedFlush
 pub mod TiedTerminals
-pub mod Behind
+pub mod GoesOn
 pub mod Keeps

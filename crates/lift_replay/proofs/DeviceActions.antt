@@ -10,7 +10,7 @@ use Rattle.lift_disk.specs.declared.outcome.Outcome.TheVariants.{Keep, Lose, Fil
 use Rattle.lift_register.specs.Balanced.{open_count}
 use Rattle.lift_replay.specs.declared.device_action.DeviceAction.{DeviceAction}
 use Rattle.lift_replay.specs.declared.device_action.DeviceAction.TheVariants.{Fuse, Cut}
-use Rattle.lift_replay.specs.DeviceAction.{AskToDo, IsActionInRange, IsKnownAction, IsOutcomeInRange, outcome_words, IsArmed, DoesToDevice, cut_by, action_text, after_action}
+use Rattle.lift_replay.specs.DeviceAction.{AskToDo, IsActionInRange, IsOutcomeInRange, outcome_words, IsArmed, DoesToDevice, cut_by, action_text, after_action}
 use Rattle.lift_replay.specs.Group.{ScriptGroup, FailedBatch, left_by, recovered}
 use Rattle.lift_replay.specs.Report.{cut_text}
 use Rattle.lift_replay.specs.Shows.{AreInStep, IsFound, Stands, IsKeeperOf, Shows}
@@ -99,10 +99,6 @@ module _ (line : List ℕ) where
 
   pub action_decided : IsDecided Does
   action_decided = elim ways [ inl way ↦ inl (does_of way) | inr none ↦ inr (λ does. none (way_of does.0 does.1)) ]
-
-pub known_action : (plan : Plan) (action : DeviceAction) → IsDecided (IsKnownAction plan action)
-known_action plan (Fuse calls) = inl tt
-known_action plan (Cut outcome) = inl tt
 
 -- it leaves the clerk's seats as they are
 pub action_seat : (old new : ScriptClerk) (action : DeviceAction) → DoesToDevice action old new → new.seat ≡ old.seat

@@ -22,6 +22,6 @@ pub mod Digits
 pub mod Spelled
 pub mod Total
 mod FrequentLines
-pub mod Fronts
+pub mod Written
 pub mod Taken
 pub mod Ready

@@ -1,5 +1,4 @@
--- What a line may do to the group's device: its words, what it names of the building, what it does,
--- and what it reports.
+-- What a line may do to the group's device: its words, what it does, and what it reports.
 use Rattle.std.specs.Prelude.{ℕ, ◌≡◌, ◌<◌, ◌≤◌, List, [], ◌∷◌, codes, Option, Some, None}
 use Rattle.std.specs.Fmt.{decimal}
 use Rattle.lift_building.specs.Plan.{Plan}
@@ -39,11 +38,6 @@ abbrev pub AreReadAsAction : List (List ℕ) → Option DeviceAction → Type 0
 AreReadAsAction words (Some action) = AskToDo words action × IsActionInRange action
 AreReadAsAction words None = (action : DeviceAction) → IsActionInRange action
     → AskToDo words action → ⊥
-
--- the building has the car or the kiosk that it names, if it names one
-abbrev pub IsKnownAction : Plan → DeviceAction → Type 0
-IsKnownAction plan (Fuse calls) = Unit {0}
-IsKnownAction plan (Cut outcome) = Unit {0}
 
 -- The device of the clerk is armed to fail every call after this many, and nothing else changes.
 pub record IsArmed (calls : ℕ) (old new : ScriptClerk) : Type 0 where

@@ -5,7 +5,7 @@ use Rattle.lift_building.specs.Plan.{Plan}
 use Rattle.lift_replay.specs.declared.line.ScriptLine.{ScriptLine}
 use Rattle.lift_replay.specs.declared.line.ScriptLine.TheVariants.{Ask, Turn, Show, Device}
 use Rattle.lift_replay.specs.Ask.{AskToAsk, IsAskInRange, IsKnownAsk}
-use Rattle.lift_replay.specs.DeviceAction.{AskToDo, IsActionInRange, IsKnownAction}
+use Rattle.lift_replay.specs.DeviceAction.{AskToDo, IsActionInRange}
 use Rattle.lift_replay.specs.Query.{AskToShow, IsQueryInRange, IsKnownQuery}
 
 -- these words ask for this
@@ -42,4 +42,4 @@ abbrev pub IsKnown : Plan → ScriptLine → Type 0
 IsKnown plan (Ask ask) = IsKnownAsk plan ask
 IsKnown plan Turn = Unit {0}
 IsKnown plan (Show query) = IsKnownQuery plan query
-IsKnown plan (Device action) = IsKnownAction plan action
+IsKnown plan (Device action) = Unit {0}

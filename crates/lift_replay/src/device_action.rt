@@ -1,14 +1,13 @@
-//! What a line may do to the group's device: set a fuse, or cut the power. How it is spelled, what
-//! it names of the building, and what it does.
+//! What a line may do to the group's device: set a fuse, or cut the power. How it is spelled, and
+//! what it does.
 
-ghost use Rattle.std.specs.Prelude.{◌≡◌, ◌≢◌, ◌∷◌, ◌↔◌, map, IfSome, IfNone, IsTrue, codes};
+ghost use Rattle.std.specs.Prelude.{◌≡◌, ◌≢◌, ◌∷◌, map, IfSome, IfNone, codes};
 ghost use Rattle.lift_base.specs.lemmas.Texts.{texts};
 ghost use Rattle.lift_disk.specs.declared.outcome.Outcome.{Outcome as Left};
-ghost use Rattle.lift_replay.specs.DeviceAction.{AreReadAsAction, IsKnownAction, DoesToDevice};
+ghost use Rattle.lift_replay.specs.DeviceAction.{AreReadAsAction, DoesToDevice};
 ghost use Rattle.lift_replay.specs.DeviceAction.{outcome_words, IsOutcomeInRange, cut_by};
 
 use lift_base::text::number_up_to;
-use lift_building::Building;
 use lift_clerk::Clerk;
 use lift_disk::{FuseDisk, Outcome};
 use lift_policy::Etd;
@@ -79,16 +78,6 @@ pub fn device_action_of(first: &str, others: &[&str]) -> Option<DeviceAction>
 }
 
 impl DeviceAction {
-    /// Whether the building has the car or the kiosk that it names, if it names one.
-    pub(crate) fn is_known(&self, _building: &Building) -> bool
-        ensures { IsTrue result ↔ IsKnownAction _building.now self.now }
-    {
-        match *self {
-            DeviceAction::Fuse { .. } => true,
-            DeviceAction::Cut { .. } => true,
-        }
-    }
-
     /// Does it to a clerk's device. The answer is what the power cut makes of the sectors that
     /// weren't safe, if it is one: whoever has the device cuts it.
     pub fn carry_out(&self, clerk: &mut Clerk<'_, '_, FuseDisk, Etd>) -> Option<Outcome>

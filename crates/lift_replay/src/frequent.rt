@@ -101,14 +101,14 @@ fn last_dir(text: &[u8]) -> Option<Dir>
 }
 
 /// What stands after a prefix of five bytes, none where a text has another one.
-pub fn behind<'t>(text: &'t [u8], front: &[u8; 5]) -> Option<&'t [u8]>
-    ensures { IfSome result (λ rest. text.now ≡ front.now ++ rest.now) }
+pub fn after_prefix<'t>(text: &'t [u8], prefix: &[u8; 5]) -> Option<&'t [u8]>
+    ensures { IfSome result (λ rest. text.now ≡ prefix.now ++ rest.now) }
 {
     if text.len() < 5 {
         return None;
     }
     for i in 0..5 {
-        if text[i] != front[i] {
+        if text[i] != prefix[i] {
             return None;
         }
     }
@@ -118,7 +118,7 @@ pub fn behind<'t>(text: &'t [u8], front: &[u8; 5]) -> Option<&'t [u8]>
 fn stop_in(line: &[u8]) -> Option<ScriptLine>
     ensures { IfSome result (λ wanted. Spells line.now wanted) }
 {
-    let rest = behind(line, b"stop ")?;
+    let rest = after_prefix(line, b"stop ")?;
     let (car, rest) = car_before_space(rest)?;
     let (number, rest) = number_before_space(rest)?;
     let (floor, rest) = number_before_space(rest)?;
@@ -133,7 +133,7 @@ fn stop_in(line: &[u8]) -> Option<ScriptLine>
 fn call_in(line: &[u8]) -> Option<ScriptLine>
     ensures { IfSome result (λ wanted. Spells line.now wanted) }
 {
-    let rest = behind(line, b"call ")?;
+    let rest = after_prefix(line, b"call ")?;
     let (kiosk, rest) = kiosk_before_space(rest)?;
     let (number, rest) = number_before_space(rest)?;
     let floor = last_floor(rest)?;
@@ -150,7 +150,7 @@ fn call_in(line: &[u8]) -> Option<ScriptLine>
 fn cost_in(line: &[u8]) -> Option<ScriptLine>
     ensures { IfSome result (λ wanted. Spells line.now wanted) }
 {
-    let rest = behind(line, b"cost ")?;
+    let rest = after_prefix(line, b"cost ")?;
     let (kiosk, rest) = kiosk_before_space(rest)?;
     let floor = last_floor(rest)?;
     let party = Party::default();

@@ -28,7 +28,7 @@ impl ScriptLine {
             ScriptLine::Ask(ask) => ask.is_known(building),
             ScriptLine::Turn => true,
             ScriptLine::Show(query) => query.is_known(building),
-            ScriptLine::Device(action) => action.is_known(building),
+            ScriptLine::Device(_) => true,
         }
     }
 }

@@ -5,7 +5,7 @@ ghost use Rattle.std.specs.Prelude.{string_bytes, codes, IfSome, IfNone, IfOk};
 ghost use Rattle.std.specs.Str.Lines.{lines, strip_carriage_return};
 ghost use Rattle.lift_replay.specs.Source.{IsScript, LacksDivider};
 
-use crate::frequent::behind;
+use crate::frequent::after_prefix;
 use crate::refused::{NoMemory, add, add_char};
 use memchr::memchr;
 use std::alloc::Global;
@@ -22,10 +22,10 @@ fn split_at_end(text: &str) -> Option<(&str, &str)>
 }
 
 /// What stands after a turn, none where the text doesn't begin with one.
-fn later_turn(text: &str) -> Option<&str>
+fn text_after_turn(text: &str) -> Option<&str>
     ensures { IfSome result (λ rest. text.now ≡ codes "turn\n" ++ rest.now) }
 {
-    behind(text.as_bytes(), b"turn\n")?;
+    after_prefix(text.as_bytes(), b"turn\n")?;
     Some(&text[5..])
 }
 
@@ -52,12 +52,12 @@ fn next_line(text: &str) -> Option<(&str, &str)>
         return None;
     }
     // The most frequent line is found without a search.
-    if let Some(behind) = later_turn(text) {
-        return Some(("turn", behind));
+    if let Some(later) = text_after_turn(text) {
+        return Some(("turn", later));
     }
     match split_at_end(text) {
         None => Some((text, "")),
-        Some((line, behind)) => Some((without_return(line), behind)),
+        Some((line, later)) => Some((without_return(line), later)),
     }
 }
 
@@ -71,15 +71,15 @@ pub fn split_script<'a>(alloc: Global, text: &'a str) -> Result<Option<(String, 
     let mut building = String::new(alloc);
     let mut rest = text;
     for _ in 0..=text.len() {
-        let Some((line, behind)) = next_line(rest) else {
+        let Some((line, later)) = next_line(rest) else {
             return Ok(None);
         };
         if line == "---" {
-            return Ok(Some((building, behind)));
+            return Ok(Some((building, later)));
         }
         add(&mut building, line)?;
         add_char(&mut building, '\n')?;
-        rest = behind;
+        rest = later;
     }
     unreachable!()
 }
@@ -123,8 +123,8 @@ impl<'a> Lines<'a> {
         ensures over { IfNone result (self.old.rest.now ≡ []) }
         ensures kept { IfNone result (self.new ≡ self.old) }
     {
-        let (line, behind) = next_line(self.rest)?;
-        self.rest = behind;
+        let (line, later) = next_line(self.rest)?;
+        self.rest = later;
         self.count += 1;
         Some((self.count, line))
     }

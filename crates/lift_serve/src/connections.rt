@@ -392,6 +392,6 @@ impl Connections {
             shortages,
             listening: _,
         } = self;
-        shortages.behind(over)
+        shortages.after(over)
     }
 }

@@ -78,7 +78,7 @@ impl Over {
 
     /// How it is over after a run of both parts that came to this: where the allocator had no
     /// thread, all are given up.
-    pub(crate) fn behind(self, fault: Option<RunFault>) -> Self
+    pub(crate) fn after_run(self, fault: Option<RunFault>) -> Self
         ensures given_up { fault ≡ Some (Fault.Spawn tt) → IsErr result }
         ensures ended { (bound : EndedState) → IsEndAt bound self → IsEndAt bound result }
     {

@@ -183,7 +183,7 @@ where
             if let Some(given_up) = Over::by(shared.bound, ran.fault) {
                 shared.give_up(rt, &given_up);
             }
-            let over = accepting.join(rt).behind(ran.fault);
+            let over = accepting.join(rt).after_run(ran.fault);
             (ran, over)
         },
     )

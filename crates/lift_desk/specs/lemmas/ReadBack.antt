@@ -40,7 +40,7 @@ read_stop_ask bits floor dir kind at way = rw (kind, at, way, dir_of_bit dir) re
 read_place : (bits floor : ℕ) (dir : Dir) → bits / 2 ^ 18 ≡ 3 → bits % 64 ≡ floor → bits / 64 % 2 ≡ dir_bit dir → body_of bits ≡ Place floor dir
 read_place bits floor dir kind at way = rw (kind, at, way, dir_of_bit dir) refl
 
-body_small : (body : Body) → IsBodyInRange body → body_bits body < 2 ^ 20
+pub body_small : (body : Body) → IsBodyInRange body → body_bits body < 2 ^ 20
 body_small (Call floor party) range = omega arith
 body_small (Stop floor dir) range = omega (arith, dir_bit_small dir)
 body_small (Place floor dir) range = omega (arith, dir_bit_small dir)
@@ -71,7 +71,7 @@ reason_back WrongKind = refl
 reason_back Full = refl
 reason_back NotServed = refl
 
-reason_small : (reason : Reason) → reason_number reason < 2 ^ 12
+pub reason_small : (reason : Reason) → reason_number reason < 2 ^ 12
 reason_small NoSuchFloor = omega arith
 reason_small SameFloor = omega arith
 reason_small NoCar = omega arith
@@ -82,7 +82,7 @@ reason_small WrongKind = omega arith
 reason_small Full = omega arith
 reason_small NotServed = omega arith
 
-next_small : (next : Option StopAt) → IsNextStop next → stop_bits next < 2 ^ 12
+pub next_small : (next : Option StopAt) → IsNextStop next → stop_bits next < 2 ^ 12
 next_small None range = omega arith
 next_small (Some stop) range = omega (arith, dir_bit_small stop.dir)
 

@@ -11,7 +11,7 @@ use Rattle.lift_record.specs.declared.version.Version.{Version}
 use Rattle.lift_record.specs.declared.version.Version.TheVariants.{One, Two}
 use Rattle.lift_record.specs.Version.{version_number}
 use Rattle.lift_journal.specs.Order.{IsEntry, IsOfBase, MayFollow, IsInOrderAfter}
-use Rattle.lift_journal.specs.Order.{AreRecordsInOrder, last_command_after, MayEnd}
+use Rattle.lift_journal.specs.Order.{AreRecordsInOrder, last_record_after, MayEnd}
 use Rattle.lift_journal.specs.Layout.{Batch, records_of, NeverFall, IsSound}
 use Rattle.lift_journal.specs.Walk.{MayBeginChain, version_after}
 
@@ -22,25 +22,25 @@ order_front last (next ∷ first) second order =
     (order.0, order_front (Some next) first second order.1)
 
 pub order_back : (last : Option Record) (first second : List Record)
-    → IsInOrderAfter last (first ++ second) → IsInOrderAfter (last_command_after last first) second
+    → IsInOrderAfter last (first ++ second) → IsInOrderAfter (last_record_after last first) second
 order_back last [] second order = order
 order_back last (next ∷ first) second order = order_back (Some next) first second order.1
 
 pub order_join : (last : Option Record) (first second : List Record) → IsInOrderAfter last first
-    → IsInOrderAfter (last_command_after last first) second → IsInOrderAfter last (first ++ second)
+    → IsInOrderAfter (last_record_after last first) second → IsInOrderAfter last (first ++ second)
 order_join last [] second order behind = behind
 order_join last (next ∷ first) second order behind =
     (order.0, order_join (Some next) first second order.1 behind)
 
 pub last_join : (last : Option Record) (first second : List Record)
-    → last_command_after last (first ++ second) ≡ last_command_after (last_command_after last first) second
+    → last_record_after last (first ++ second) ≡ last_record_after (last_record_after last first) second
 last_join last [] second = refl
 last_join last (next ∷ first) second = last_join (Some next) first second
 
 -- the record at one place
 pub order_at : (last : Option Record) (records : List Record) (k : ℕ) (blank : Record)
     → k < length records → IsInOrderAfter last records
-    → MayFollow (last_command_after last (take k records)) (get_or records k blank)
+    → MayFollow (last_record_after last (take k records)) (get_or records k blank)
 order_at last [] k blank lt order = absurd (omega arith)
 order_at last (next ∷ records) zero blank lt order = order.0
 order_at last (next ∷ records) (suc k) blank lt order =
@@ -48,7 +48,7 @@ order_at last (next ∷ records) (suc k) blank lt order =
 
 pub order_more : (last : Option Record) (records : List Record) (k : ℕ) (blank : Record)
     → k < length records → IsInOrderAfter last (take k records)
-    → MayFollow (last_command_after last (take k records)) (get_or records k blank)
+    → MayFollow (last_record_after last (take k records)) (get_or records k blank)
     → IsInOrderAfter last (take (suc k) records)
 order_more last [] k blank lt order may = absurd (omega arith)
 order_more last (next ∷ records) zero blank lt order may = (may, tt)
@@ -57,7 +57,7 @@ order_more last (next ∷ records) (suc k) blank lt order may =
 
 pub last_more : (last : Option Record) (records : List Record) (k : ℕ) (blank : Record)
     → k < length records
-    → last_command_after last (take (suc k) records) ≡ Some (get_or records k blank)
+    → last_record_after last (take (suc k) records) ≡ Some (get_or records k blank)
 last_more last [] k blank lt = absurd (omega arith)
 last_more last (next ∷ records) zero blank lt = refl
 last_more last (next ∷ records) (suc k) blank lt =
@@ -105,7 +105,7 @@ fall_to_second version (batch ∷ batches) = fall_to_second batch.version batche
 -- where one more batch may stand
 pub front_push : (batches : List Batch) (batch : Batch) → MayBeginChain batches
     → version_number (version_after One batches) ≤ version_number batch.version
-    → IsInOrderAfter (last_command_after None (records_of batches)) batch.records
+    → IsInOrderAfter (last_record_after None (records_of batches)) batch.records
     → MayBeginChain (batches ++ batch ∷ [])
 front_push batches batch sound rises order = record {
   versions = fall_push One batches batch sound.versions rises;
@@ -118,16 +118,16 @@ pub front_rises : (batches : List Batch) (batch : Batch) → MayBeginChain (batc
 front_rises batches batch sound = fall_last One batches batch sound.versions
 
 pub front_order : (batches : List Batch) (batch : Batch) → MayBeginChain (batches ++ batch ∷ [])
-    → IsInOrderAfter (last_command_after None (records_of batches)) batch.records
+    → IsInOrderAfter (last_record_after None (records_of batches)) batch.records
 front_order batches batch sound =
     order_back None (records_of batches) batch.records
     (subst AreRecordsInOrder (records_push batches batch) sound.ordered)
 
 pub last_push : (batches : List Batch) (batch : Batch)
-    → last_command_after None (records_of (batches ++ batch ∷ []))
-    ≡ last_command_after (last_command_after None (records_of batches)) batch.records
+    → last_record_after None (records_of (batches ++ batch ∷ []))
+    ≡ last_record_after (last_record_after None (records_of batches)) batch.records
 last_push batches batch =
-    ap (last_command_after None) (records_push batches batch) ∙ last_join None
+    ap (last_record_after None) (records_push batches batch) ∙ last_join None
     (records_of batches) batch.records
 
 -- An entry may follow wherever a chain may end, and a chain may end after it.
@@ -155,7 +155,7 @@ entries_follow last (next ∷ entries) may each = (
 )
 
 entries_end : (last : Option Record) (entries : List Record) → MayEnd last
-    → AllByRecursion IsEntry entries → MayEnd (last_command_after last entries)
+    → AllByRecursion IsEntry entries → MayEnd (last_record_after last entries)
 entries_end last [] may each = may
 entries_end last (next ∷ entries) may each =
     entries_end (Some next) entries (entry_ends next each.0) each.1
@@ -166,7 +166,7 @@ pub sound_push : (batches : List Batch) (entries : List Record) → IsSound batc
 sound_push batches entries sound kinds =
     let batch : Batch = record { version = Two; records = entries } in
     let each = recursion_from_All IsEntry entries kinds in
-    let last = last_command_after None (records_of batches) in
+    let last = last_record_after None (records_of batches) in
     record {
       versions = fall_push One batches batch sound.versions (fall_to_second One batches);
       ordered = subst AreRecordsInOrder (sym (records_push batches batch))

@@ -132,7 +132,7 @@ impl Shortages {
     /// How a serving ended whose accepting was over so. Told is that all were given up, and else the
     /// first shortage.
     #[tactic(auto, using(crate::proofs::Relayings::told_at_last, crate::proofs::Relayings::told_given_up))]
-    pub(crate) fn behind(self, over: Over) -> ServingEnd
+    pub(crate) fn after(self, over: Over) -> ServingEnd
         ensures fault { result.fault ≡ told_after over self }
         ensures begun { result.fault ≢ Some ServeFault.Network }
         ensures ended { result.ended ≡ ended_in over }

@@ -1,6 +1,6 @@
 use Rattle.std.proofs.Common.{◌≡◌, ◌+◌, ◌-◌, ◌<◌, ◌≤◌, ℕ, zero, suc, List, [], ◌∷◌, length, take, get_or, sym, subst, ap, ◌∙◌, Option, Some, None, arith}
 use Rattle.lift_base.specs.declared.history.Record.{Record}
-use Rattle.lift_journal.specs.Order.{MayFollow, IsInOrderAfter, last_command_after}
+use Rattle.lift_journal.specs.Order.{MayFollow, IsInOrderAfter, last_record_after}
 use Rattle.lift_journal.specs.lemmas.Orders.{order_at, order_more, last_more}
 use Rattle.lift_journal.proofs.order.is_in_order.Goals as goal
 
@@ -11,7 +11,7 @@ order_one (first ∷ records) = (tt, tt)
 
 -- the record before a place is the last of those before it
 before_is : (records : List Record) (k : ℕ) (blank : Record) → 1 ≤ k → k < length records
-    → last_command_after None (take k records) ≡ Some (get_or records (k - 1) blank)
+    → last_record_after None (take k records) ≡ Some (get_or records (k - 1) blank)
 before_is records zero blank low below = absurd (omega arith)
 before_is records (suc k) blank low below =
     let back : k ≡ suc k - 1 = omega arith in
@@ -29,7 +29,7 @@ loop-k-preserved c =
     let next = c.index-records-k-in-loop-k.result in
     let more : suc k ≡ k + 1 = omega arith in
     let here : MayFollow (Some last) next = c.may_come_next.ensures.0 c.if-not-may_come_next.false in
-    let there : MayFollow (last_command_after None (take k records)) (get_or records k next) =
+    let there : MayFollow (last_record_after None (take k records)) (get_or records k next) =
     subst (λ (l : Option Record). MayFollow l (get_or records k next)) (ap (λ (r : Record). Some r) c.index-records-k.is ∙ sym (before_is records k last inv.behind c.loop-k-test.true))
     (subst (λ (r : Record). MayFollow (Some last) r) c.index-records-k-in-loop-k.is here) in
     record {
@@ -47,7 +47,7 @@ returns-then-not-may_come_next c =
     let next = c.index-records-k-in-loop-k.result in (
       λ is. absurd (cc is),
       λ order.
-          let there : MayFollow (last_command_after None (take k records)) (get_or records k next) = order_at None records k next c.loop-k-test.true order in
+          let there : MayFollow (last_record_after None (take k records)) (get_or records k next) = order_at None records k next c.loop-k-test.true order in
           let here : MayFollow (Some last) next =
           subst (λ (r : Record). MayFollow (Some last) r) (sym c.index-records-k-in-loop-k.is)
           (subst (λ (l : Option Record). MayFollow l (get_or records k next)) (before_is records k last inv.behind c.loop-k-test.true ∙ sym (ap (λ (r : Record). Some r) c.index-records-k.is)) there) in

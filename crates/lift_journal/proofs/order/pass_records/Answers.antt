@@ -1,16 +1,16 @@
 use Rattle.std.proofs.Common.{◌≡◌, ◌==◌, false, ◌-◌, ◌≤◌, ℕ, zero, suc, List, length, get_or, sym, ap, ◌∙◌, Option, Some, arith}
 use Rattle.std.proofs.lemmas.List.{take_all}
 use Rattle.lift_base.specs.declared.history.Record.{Record}
-use Rattle.lift_journal.specs.Order.{last_command_after}
+use Rattle.lift_journal.specs.Order.{last_record_after}
 use Rattle.lift_journal.specs.lemmas.Orders.{last_more}
 use Rattle.lift_journal.proofs.order.pass_records.Goals as goal
 
 -- the last of some records
 last_is : (last : Option Record) (records : List Record) (blank : Record) → 1 ≤ length records
-    → last_command_after last records ≡ Some (get_or records (length records - 1) blank)
+    → last_record_after last records ≡ Some (get_or records (length records - 1) blank)
 last_is last records blank some =
     let whole : length records ≤ suc (length records - 1) = omega arith in
-    ap (last_command_after last) (sym (take_all (suc (length records - 1)) records whole))
+    ap (last_record_after last) (sym (take_all (suc (length records - 1)) records whole))
     ∙ last_more last records (length records - 1) blank (omega (arith, some))
 
 some_then : (n : ℕ) → (n == 0) ≡ false → 1 ≤ n

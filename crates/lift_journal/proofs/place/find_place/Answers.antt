@@ -3,7 +3,7 @@ use Rattle.std.specs.Prelude.{IfOk}
 use Rattle.lift_base.specs.declared.history.Shape.{Shape}
 use Rattle.lift_disk.specs.Disk.{DiskState, IsSynced, Image}
 use Rattle.lift_journal.specs.declared.fault.JournalFault.{JournalFault}
-use Rattle.lift_journal.specs.Fronts.{IsOfChain}
+use Rattle.lift_journal.specs.ChainStep.{IsOfChain}
 use Rattle.lift_journal.specs.Layout.{Holds, IsStamped}
 use Rattle.lift_journal.specs.declared.place.Place.{Place}
 use Rattle.lift_journal.specs.Calls.{reads_from}
@@ -15,7 +15,7 @@ use Rattle.lift_journal.specs.lemmas.Looking.{reads_then, well_then, examines_th
 use Rattle.lift_journal.proofs.Refusing.{refused_stamp, refused_chain, settled_after}
 use Rattle.std.proofs.Common.{[], ◌∷◌, inl, inr, ◌⊎◌, arith}
 use Rattle.lift_disk.specs.Trace.Access.{Read, Sync}
-use Rattle.lift_journal.specs.Behind.{RefusedAfter}
+use Rattle.lift_journal.specs.RefusedOpening.{RefusedAfter}
 use Rattle.lift_journal.proofs.Following.{all_then, if_ok_weaker}
 use Rattle.lift_journal.proofs.Ending.{image_stays, stamp_after, half_after}
 use Rattle.lift_journal.proofs.Visiting.{taken_none}

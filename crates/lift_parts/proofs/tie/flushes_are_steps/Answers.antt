@@ -1,4 +1,4 @@
-use Rattle.lift_parts.proofs.Behind.{flushes_stand, turns_go_on, flushes_lead_on}
+use Rattle.lift_parts.proofs.GoesOn.{flushes_stand, turns_go_on, flushes_lead_on}
 use Rattle.lift_parts.proofs.tie.flushes_are_steps.Goals as goal
 
 pub returns-clause-flushes : goal.returns-clause-flushes

@@ -1,4 +1,4 @@
-use Rattle.lift_parts.proofs.Behind.{splits_go_on, joined_go_on, splits_keep_pasts, joined_keep_pasts}
+use Rattle.lift_parts.proofs.GoesOn.{splits_go_on, joined_go_on, splits_keep_pasts, joined_keep_pasts}
 use Rattle.lift_parts.proofs.tie.parts_are_clerks.Goals as goal
 
 pub returns-clause-split : goal.returns-clause-split

@@ -6,7 +6,7 @@ use Rattle.lift_replay.specs.Segment.{IfCut}
 use Rattle.lift_replay.specs.Source.{lines_in}
 use Rattle.lift_replay.specs.declared.segment.SegmentEnd.{SegmentEnd}
 use Rattle.lift_replay.proofs.Runs.{reports_none, segment_more, segment_last}
-use Rattle.lift_replay.proofs.Fronts.{tells_none, tells_more}
+use Rattle.lift_replay.proofs.Written.{tells_none, tells_more}
 use Rattle.lift_replay.specs.lemmas.Writes.{takes_more, pieces_ok, pieces_after}
 use Rattle.lift_replay.proofs.script.add_segments.Goals as goal
 

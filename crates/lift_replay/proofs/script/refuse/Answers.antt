@@ -1,4 +1,4 @@
-use Rattle.lift_replay.proofs.Fronts.{err_so, written_front}
+use Rattle.lift_replay.proofs.Written.{err_so, written_front}
 use Rattle.lift_replay.specs.lemmas.Writes.{called_err, fails_of, takes_of}
 use Rattle.lift_replay.proofs.script.refuse.Goals as goal
 

@@ -4,7 +4,7 @@ use Rattle.std.specs.Str.{IsUtf8}
 use Rattle.lift_replay.specs.Reading.{IsInput, most_bytes}
 use Rattle.lift_replay.specs.Replaying.{IsTextReport, ReportsInput}
 use Rattle.lift_replay.specs.declared.lines.Verdict.TheVariants.{Bad}
-use Rattle.lift_replay.proofs.Fronts.{on_err, input_unwritten}
+use Rattle.lift_replay.proofs.Written.{on_err, input_unwritten}
 use Rattle.lift_replay.proofs.Taken.{long_input, whole_input}
 use Rattle.lift_replay.proofs.Told.{if_bad, on_ok}
 use Rattle.lift_replay.proofs.script.run.Goals as goal

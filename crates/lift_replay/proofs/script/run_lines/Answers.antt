@@ -1,7 +1,7 @@
 use Rattle.std.proofs.Common.{refl}
 use Rattle.lift_replay.specs.Group.{first_group}
 use Rattle.lift_replay.specs.Source.{lines_in}
-use Rattle.lift_replay.proofs.Fronts.{err_so, no_front, on_err, tells_either, tells_put, taken_front, whole_front}
+use Rattle.lift_replay.proofs.Written.{err_so, no_front, on_err, tells_either, tells_put, taken_front, whole_front}
 use Rattle.lift_replay.proofs.Runs.{report_put}
 use Rattle.lift_replay.proofs.Told.{if_ok}
 use Rattle.lift_replay.proofs.Total.{lines_total}

@@ -8,7 +8,7 @@ use Rattle.lift_building.specs.declared.fault.BuildingFault.TheVariants.{Memory}
 use Rattle.lift_replay.specs.Report.{building_text}
 use Rattle.lift_replay.specs.Replaying.{IsTextReport, WritesPrefix}
 use Rattle.lift_replay.specs.declared.lines.Verdict.TheVariants.{Bad}
-use Rattle.lift_replay.proofs.Fronts.{err_so, on_err, text_unwritten}
+use Rattle.lift_replay.proofs.Written.{err_so, on_err, text_unwritten}
 use Rattle.lift_replay.proofs.Told.{if_ok, if_bad, on_ok}
 use Rattle.lift_replay.specs.lemmas.Writes.{called_err}
 use Rattle.lift_replay.proofs.script.run_text.Goals as goal

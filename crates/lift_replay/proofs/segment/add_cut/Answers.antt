@@ -1,6 +1,6 @@
 use Rattle.std.proofs.Common.{◌≡◌, ◌++◌, ◌∙◌, ap, refl, string_bytes}
 use Rattle.lift_replay.specs.Report.{cut_text}
-use Rattle.lift_replay.proofs.Fronts.{err_so, torn_told}
+use Rattle.lift_replay.proofs.Written.{err_so, torn_told}
 use Rattle.lift_replay.specs.lemmas.Writes.{pieces_ok, pieces_memory, pieces_failed}
 use Rattle.lift_replay.proofs.segment.add_cut.Goals as goal
 

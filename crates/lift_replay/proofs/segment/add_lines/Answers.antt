@@ -10,7 +10,7 @@ use Rattle.lift_replay.specs.Running.{TellsLines}
 use Rattle.lift_replay.specs.declared.lines.Verdict.TheVariants.{Good}
 use Rattle.lift_replay.proofs.Told.{end_tells_none}
 use Rattle.lift_replay.proofs.Runs.{reports_kept, reports_put, reports_on}
-use Rattle.lift_replay.proofs.Fronts.{err_so, tells_kept, tells_more, tells_so_far, tells_torn}
+use Rattle.lift_replay.proofs.Written.{err_so, tells_kept, tells_more, tells_so_far, tells_torn}
 use Rattle.lift_replay.specs.lemmas.Writes.{fails_more, takes_more, pieces_ok, pieces_memory, pieces_failed}
 use Rattle.lift_replay.proofs.segment.add_lines.Goals as goal
 

@@ -11,7 +11,7 @@ use Rattle.lift_replay.specs.Shows.{Shows, IsKeeperOf}
 use Rattle.lift_replay.specs.Source.{lines_in}
 use Rattle.lift_replay.proofs.Recovered.{new_ready, new_shows}
 use Rattle.lift_replay.proofs.Runs.{run_told, cut_goes_on}
-use Rattle.lift_replay.proofs.Fronts.{err_so, cut_part, tells_none}
+use Rattle.lift_replay.proofs.Written.{err_so, cut_part, tells_none}
 use Rattle.lift_replay.specs.lemmas.Writes.{takes_more, pieces_ok, pieces_memory, pieces_after}
 use Rattle.lift_replay.proofs.segment.add_segment.Goals as goal
 

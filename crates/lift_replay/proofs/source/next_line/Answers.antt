@@ -5,7 +5,7 @@ use Rattle.lift_replay.proofs.Sources.{cut_line, last_line, turn_line}
 use Rattle.lift_replay.proofs.source.next_line.Goals as goal
 
 pub returns-in-Some-clause-first : goal.returns-in-Some-clause-first
-returns-in-Some-clause-first c = turn_line c.args.text.now c.in-Some.behind.now c.in-Some.ensures
+returns-in-Some-clause-first c = turn_line c.args.text.now c.in-Some.later.now c.in-Some.ensures
 
 pub returns-in-None-clause-first : goal.returns-in-None-clause-first
 returns-in-None-clause-first c =
@@ -14,4 +14,4 @@ returns-in-None-clause-first c =
 pub returns-in-Some-split_at_end-clause-first : goal.returns-in-Some-split_at_end-clause-first
 returns-in-Some-split_at_end-clause-first c =
     let cut = c.in-Some-split_at_end in
-    cut_line c.args.text.now cut.line.now cut.behind.now cut.ensures.cut cut.ensures.first ∙ ap (λ line. line ∷ lines cut.behind.now) (sym c.without_return.ensures)
+    cut_line c.args.text.now cut.line.now cut.later.now cut.ensures.cut cut.ensures.first ∙ ap (λ line. line ∷ lines cut.later.now) (sym c.without_return.ensures)

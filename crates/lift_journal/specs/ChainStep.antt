@@ -7,7 +7,7 @@ use Rattle.lift_journal.specs.declared.fault.JournalFault.TheVariants.{Disk, Not
 use Rattle.lift_journal.specs.declared.fault.JournalFault.TheVariants.{Full, Broken}
 use Rattle.lift_journal.specs.declared.walk.Front.{Front}
 use Rattle.lift_journal.specs.Layout.{body_size}
-use Rattle.lift_journal.specs.Order.{IsInOrderAfter, last_command_after}
+use Rattle.lift_journal.specs.Order.{IsInOrderAfter, last_record_after}
 use Rattle.std.specs.Prelude.{length}
 
 -- the batch may stand after those before it
@@ -21,7 +21,7 @@ passed front stored = record {
   gate = front.gate + (1 + body_size (length stored.records.items));
   number = front.number + 1;
   version = stored.version;
-  last = last_command_after front.last stored.records.items;
+  last = last_record_after front.last stored.records.items;
 }
 
 -- a fault that a walk along a chain may end with
