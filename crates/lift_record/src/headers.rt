@@ -4,6 +4,7 @@ ghost use Rattle.lift_record.specs.Header.{header_bytes, IsHeaderSpelling};
 ghost use Rattle.lift_record.specs.declared.version.Version.TheVariants.{Two};
 
 use crate::version::Version;
+use lift_base::MOST_ENTRIES;
 
 /// What the header of a batch says: the version of its records, how many there are (1 to 63), and
 /// the batch's number in its chain, counted from 1.
@@ -63,7 +64,7 @@ pub fn decode_header(bytes: &[u8; 16]) -> Option<Header>
     };
     let count = u16::from_be_bytes([c, d]);
     let number = u32::from_be_bytes([m, n, o, p]);
-    let in_range = 1 <= count && count <= 63 && 1 <= number;
+    let in_range = 1 <= count && usize::from(count) <= MOST_ENTRIES && 1 <= number;
     if in_range && spell_header(version, count, number) == *bytes {
         Some(Header {
             version,

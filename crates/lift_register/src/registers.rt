@@ -347,7 +347,7 @@ impl Register {
         ensures limit { result ≤ 63 }
     {
         let mut count = 0;
-        for terminal in 0..63 {
+        for terminal in 0..MOST_TERMINALS {
             count += usize::from(self.lasts[terminal].is_some());
         }
         count
@@ -397,7 +397,7 @@ impl Register {
         ensures { result ≡ slice_get (flat_map (last_records self.now) terminals) place }
     {
         let mut left = place;
-        for index in 0..63 {
+        for index in 0..MOST_TERMINALS as u8 {
             let found = self.last_record_of(index);
             let count = usize::from(found.is_some());
             if left < count {

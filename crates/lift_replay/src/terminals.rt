@@ -13,7 +13,7 @@ ghost use Rattle.lift_replay.specs.Terminals.{OthersAreTold};
 
 use crate::refused::NoMemory;
 use crate::report::push_heard;
-use lift_base::{Body, Number, Terminal};
+use lift_base::{Body, MOST_TERMINALS, Number, Terminal};
 use lift_clerk::Clerk;
 use lift_desk::{AskRefusal, Desk, Seat};
 use lift_disk::FuseDisk;
@@ -43,7 +43,7 @@ impl<'d> Terminals<'d> {
         Terminals {
             desk,
             seats,
-            first: 63,
+            first: MOST_TERMINALS as u8,
             end: 0,
         }
     }
@@ -201,7 +201,7 @@ impl<'d> Terminals<'d> {
             waits |= self.push_heard_at(report, index)?;
         }
         if !waits {
-            self.first = 63;
+            self.first = MOST_TERMINALS as u8;
             self.end = 0;
             return Ok(());
         }
