@@ -1,5 +1,5 @@
 -- What storing answers changes, and what it leaves.
-use Rattle.std.proofs.Common.{◌≡◌, ◌≢◌, ℕ, suc, ◌+◌, ◌<◌, ◌≤◌, Bool, List, [], ◌∷◌, ◌++◌, map}
+use Rattle.std.proofs.Common.{◌≡◌, ◌≢◌, ℕ, suc, ◌+◌, ◌≤◌, Bool, List, [], ◌∷◌, ◌++◌}
 use Rattle.std.proofs.Common.{length, Option, Some, None, refl, sym, ap, ◌∙◌, subst, arith}
 use Rattle.std.proofs.Common.{length-append, append_assoc, length-set, get_or}
 use Rattle.std.specs.List.{AllByRecursion}
@@ -9,7 +9,7 @@ use Rattle.lift_desk.specs.declared.words.Ask.{Ask}
 use Rattle.lift_desk.specs.Words.{last_of, number_of, reply_word}
 use Rattle.lift_desk.specs.Steps.{with_taking, with_answer}
 use Rattle.lift_desk.specs.Seats.{ClerkPlace, no_place, view_at, clerk_with, placed_at, Owes}
-use Rattle.lift_desk.specs.lemmas.Places.{view_at-here, view_at-else}
+use Rattle.lift_desk.specs.lemmas.Places.{view_at-else}
 use Rattle.lift_desk.specs.lemmas.WordLists.{last_of-push}
 use Rattle.lift_policy.specs.declared.command.Command.{Command}
 use Rattle.lift_clerk.specs.declared.answering.Answer.{Answer}
@@ -138,7 +138,7 @@ stored-case is_safe first p places word (Some ask) visits finds ih front (a ∷ 
     let replies = replies_told is_safe answers in
     let looked : ClerkView = with_taking p.view word in
     let told = with_answer looked
-        (reply_word (length looked.taken) ask.number (reply_told is_safe a.reply)) in
+    (reply_word (length looked.taken) ask.number (reply_told is_safe a.reply)) in
     let q = placed_at p.table told in
     let at : a.terminal ≡ first = ap (λ l. get_or l 0 0) is in
     let rest : terminals_in answers ≡ terminals_of (commands_of (suc first) visits) = cc in

@@ -1,20 +1,18 @@
 -- One more look, and one more reply.
-use Rattle.std.proofs.Common.{◌≡◌, ℕ, zero, suc, ◌+◌, ◌<◌, true, false, List, [], ◌∷◌, ◌++◌}
-use Rattle.std.proofs.Common.{length, get_or, Option, Some, None, refl, sym, ap, ◌∙◌, subst, arith}
+use Rattle.std.proofs.Common.{◌≡◌, ℕ, zero, suc, ◌+◌, true, false, List, [], ◌∷◌, ◌++◌}
+use Rattle.std.proofs.Common.{length, Option, Some, None, refl, sym, ap, ◌∙◌, arith}
 use Rattle.std.proofs.Common.{length-append, append_assoc}
 use Rattle.std.proofs.lemmas.List.{append-nil}
 use Rattle.lift_base.specs.declared.command.Reply.{Reply}
 use Rattle.lift_desk.specs.declared.view.ClerkView.{ClerkView}
 use Rattle.lift_desk.specs.declared.words.Ask.{Ask}
-use Rattle.lift_desk.specs.Words.{last_of, number_of, reply_word}
-use Rattle.lift_desk.specs.Steps.{is_new_word, with_taking, with_answer}
-use Rattle.lift_desk.specs.Seats.{ClerkPlace, view_at, clerk_with, placed_at}
+use Rattle.lift_desk.specs.Words.{reply_word}
+use Rattle.lift_desk.specs.Steps.{is_new_word, with_taking}
+use Rattle.lift_desk.specs.Seats.{ClerkPlace}
 use Rattle.lift_desk.specs.Seats.{Owes, OwesNothing}
-use Rattle.lift_desk.specs.lemmas.WordLists.{last_of-push}
 use Rattle.lift_policy.specs.declared.command.Command.{Command}
 use Rattle.lift_clerk.specs.Visits.{Visit, FindsAt, Finds, command_at, commands_of, with_reply}
-use Rattle.lift_clerk.specs.Visits.{looked_at, replies_after, served}
-use Rattle.lift_clerk.specs.Scanning.{terminals_of}
+use Rattle.lift_clerk.specs.Visits.{replies_after, served}
 
 pub commands-more : (first n : ℕ) (visits : List Visit) (v : Visit) → n ≡ first + length visits
     → commands_of first (visits ++ v ∷ []) ≡ commands_of first visits ++ command_at n v.found

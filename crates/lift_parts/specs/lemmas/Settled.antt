@@ -1,5 +1,5 @@
 -- What the looks and the answers of a batch change at each terminal.
-use Rattle.std.proofs.Common.{◌≡◌, ◌≢◌, ℕ, suc, ◌+◌, ◌<◌, Bool, true, false, eqb, List, [], ◌∷◌, length, map, get_or, refl, sym, ap, subst, ◌∙◌, arith}
+use Rattle.std.proofs.Common.{◌≡◌, ◌≢◌, ℕ, ◌<◌, Bool, true, false, eqb, List, [], ◌∷◌, length, get_or, refl, sym, ap, subst, ◌∙◌, arith}
 use Rattle.std.proofs.lemmas.Bool.{eq-eqb, eqb-true, false≢true}
 use Rattle.std.proofs.lemmas.List.{length-set, get_or-set_other}
 use Rattle.std.specs.List.{AllByRecursion}
@@ -8,12 +8,10 @@ use Rattle.lift_desk.specs.declared.view.ClerkView.{ClerkView}
 use Rattle.lift_desk.specs.Steps.{with_taking}
 use Rattle.lift_desk.specs.Seats.{ClerkPlace, no_place, view_at, clerk_with, placed_at, Owes}
 use Rattle.lift_desk.specs.lemmas.Places.{view_at-here, view_at-else}
-use Rattle.lift_policy.specs.declared.command.Command.{Command}
-use Rattle.lift_clerk.specs.declared.answering.Answer.{Answer}
 use Rattle.lift_clerk.specs.Answering.{AreOwed, terminals_in, reply_told, with_answers, with_reply_to_last}
 use Rattle.lift_clerk.specs.Answered.{AreApart, AreOthers, ask_of}
 use Rattle.lift_clerk.specs.Visits.{FindsAt}
-use Rattle.lift_clerk.specs.lemmas.Stored.{answered-else, length-answered, owes-taken}
+use Rattle.lift_clerk.specs.lemmas.Stored.{answered-else, owes-taken}
 use Rattle.lift_parts.specs.declared.taken.NotedCommand.{NotedCommand}
 use Rattle.lift_parts.specs.Batch.{AreBelow, commands_in}
 use Rattle.lift_parts.specs.Flusher.{noted_visit, looked_for, LooksGive, answers_in}
@@ -62,8 +60,7 @@ owed-after desk places (t ∷ batch) many below apart found =
     let view = with_taking (view_at places k) t.note.word in
     let next : List ClerkPlace = clerk_with places k view in
     let under = below.0 in
-    let still : view_at (looked_for next batch) k ≡ view = looked-else next batch k apart.0 ∙ view_at-here places k view (omega arith) in
-    (
+    let still : view_at (looked_for next batch) k ≡ view = looked-else next batch k apart.0 ∙ view_at-here places k view (omega arith) in (
       below.0,
       subst Owes (sym still) (owes-taken place t.note.word (ask_of t.command) found.0),
       others-answers k batch apart.0,
@@ -82,7 +79,6 @@ module _ (is_safe : Bool) (j : ℕ) (P : List NotedCommand → ClerkPlace → Cl
     (skip : (t : NotedCommand) (batch : List NotedCommand) (p : ClerkPlace) (v : ClerkView) → t.command.terminal ≢ j → P batch p v → P (t ∷ batch) p v)
     (here : (t : NotedCommand) (batch : List NotedCommand) (p : ClerkPlace) → t.command.terminal ≡ j → AreOthers j (commands_in batch) → FindsAt p (noted_visit t)
     → P (t ∷ batch) p (told_after is_safe t p.view)) where
-
   -- the seats that were looked at, as far as this terminal goes
   abbrev Same : List ClerkPlace → List ClerkPlace → List NotedCommand → Type 0
   Same places mid batch = (length mid ≡ length places) × (view_at mid j ≡ view_at (looked_for places batch) j)

@@ -1,4 +1,4 @@
-use Rattle.std.proofs.Common.{◌≡◌, ◌<◌, ◌≤◌, List, [], ◌∷◌, ◌++◌, length, refl, sym, ap, ◌∙◌, subst, arith, append_assoc, length-append}
+use Rattle.std.proofs.Common.{◌≡◌, ◌<◌, ◌≤◌, List, [], ◌∷◌, ◌++◌, length, sym, ap, ◌∙◌, subst, arith, append_assoc, length-append}
 use Rattle.std.proofs.lemmas.List.{length-map}
 use Rattle.lift_desk.specs.Steps.{with_taking}
 use Rattle.lift_desk.specs.Seats.{ClerkPlace, IsNoteOf, Says, view_at}
@@ -24,9 +24,11 @@ room answers left rest commands taken is all few =
     omega (arith, ap length all, ap length is, length-append answers (answers_in left), many left, many commands)
 
 pub push-requires : goal.push-requires
-push-requires c =
-    (omega arith, room c.loop-taken.answers.items c.loop-taken.taken-iterator c.next.new.self c.args.commands.items c.in-Some.taken c.in-Some.ensures.steps c.loop-taken.invariant.answers
-    (let few = c.len-few.ensures in omega (arith, few.value, few.fits)))
+push-requires c = (
+  omega arith,
+  room c.loop-taken.answers.items c.loop-taken.taken-iterator c.next.new.self c.args.commands.items c.in-Some.taken c.in-Some.ensures.steps c.loop-taken.invariant.answers
+      (let few = c.len-few.ensures in omega (arith, few.value, few.fits)),
+)
 
 pub loop-taken-preserved : goal.loop-taken-preserved
 loop-taken-preserved c =
