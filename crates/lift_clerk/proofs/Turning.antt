@@ -21,27 +21,32 @@ use Rattle.lift_keeper.specs.Keeper.{KeeperView}
 use Rattle.lift_keeper.specs.Writer.{WriterView}
 use Rattle.lift_keeper.specs.lemmas.Committed.{under_ok, under_err, calls_under_ok, calls_under_err}
 use Rattle.lift_clerk.specs.declared.counts.Counts.{Counts}
-use Rattle.lift_clerk.specs.declared.scan.Answer.{Answer}
-use Rattle.lift_clerk.specs.Visits.{Visit, commands_of, served, LooksAndAnswers}
+use Rattle.lift_clerk.specs.declared.answering.Answer.{Answer}
+use Rattle.lift_clerk.specs.Visits.{Visit, commands_of, LooksAndAnswers}
 use Rattle.lift_clerk.specs.Clerk.{ClerkState}
-use Rattle.lift_clerk.specs.Scanning.{ClerkScans, Decides, IsScanned, replies_in, replies_told}
-use Rattle.lift_clerk.specs.Turn.{IsFailedTurn, IsBrokenTurn}
+use Rattle.lift_clerk.specs.Answering.{AreOwed, terminals_in, replies_in, replies_told, with_answers}
+use Rattle.lift_clerk.specs.Scanning.{ClerkScans, Decides}
+use Rattle.lift_clerk.specs.Turn.{without_batch, IsTurn, IsFailedTurn, IsBrokenTurn}
+use Rattle.lift_clerk.specs.lemmas.Stored.{scan-answered, scan-owed}
 use Rattle.lift_clerk.specs.lemmas.Visiting.{nothing_owed}
 use Rattle.lift_clerk.proofs.Answered.{many-commands, told_unknown}
 
--- what answering has done
-abbrev StoresAll : List ClerkPlace → List ClerkPlace → List Answer → Bool → Type 0
-StoresAll seat next answers is_safe = (places : List ClerkPlace) (visits : List Visit) → IsScanned places visits seat answers → next ≡ served places visits (replies_told is_safe answers)
+-- what was found can be answered
+pub owes_all : {D : Type 0} (desk : List TableId) (choice : Choice) (places seat : List ClerkPlace) (before after : KeeperView D) (answers : List Answer) → IsClerkOf desk places
+    → ClerkScans choice desk places seat before after answers (length desk) → AreOwed desk seat (terminals_in answers)
+owes_all desk choice places seat before after answers seated all =
+    subst (λ (l : List ClerkPlace). AreOwed desk l (terminals_in answers)) (sym all.scans.looked)
+    (scan-owed desk places all.scans.visits (terminals_in answers) (sym (length-map places (λ (p : ClerkPlace). p.table)) ∙ ap length seated) all.scans.looks all.scans.found.terminals)
 
 -- each look is answered
 pub serves_all : {D : Type 0} (desk : List TableId) (choice : Choice) (places seat next : List ClerkPlace) (before after : KeeperView D) (answers : List Answer) (is_safe : Bool) → IsClerkOf desk places
-    → (all : ClerkScans choice desk places seat before after answers (length desk)) → StoresAll seat next answers is_safe → All IsReply (replies_told is_safe answers)
+    → (all : ClerkScans choice desk places seat before after answers (length desk)) → next ≡ with_answers is_safe seat answers → All IsReply (replies_told is_safe answers)
     → LooksAndAnswers places next all.scans.visits (replies_told is_safe answers)
 serves_all desk choice places seat next before after answers is_safe seated all is in_range = record {
   each_once = all.scans.count ∙ sym (ap length seated) ∙ length-map places (λ (p : ClerkPlace). p.table);
   finds = all.scans.looks;
   one_reply_each = length-map answers _ ∙ many-commands answers (commands_of 0 all.scans.visits) all.scans.found.terminals;
-  stored = is places all.scans.visits (record { finds = all.scans.looks; looked = all.scans.looked; terminals = all.scans.found.terminals });
+  stored = is ∙ ap (λ (l : List ClerkPlace). with_answers is_safe l answers) all.scans.looked ∙ scan-answered is_safe places all.scans.visits answers all.scans.looks all.scans.found.terminals;
   in_range = in_range;
 }
 
@@ -75,10 +80,38 @@ same_keeper k l states writers = λ i. record { state = states i; writer = write
 pub nothing_waits : (batch : List Entry) (is_broken : Bool) → (batch ≡ []) ⊎ (is_broken ≡ true) → is_broken ≡ false → batch ≡ []
 nothing_waits batch is_broken empty_batch whole = ⊎_elim (λ none. none) (λ broken. absurd (cc)) empty_batch
 
+pub good_turn : {D P : Type 0} (desk : List TableId) (choice : Choice) (old new : ClerkState D P) (seat : List ClerkPlace) (between : KeeperView D) (answers : List Answer) (counts : Counts)
+    → IsClerkOf desk old.seat
+    → (all : ClerkScans choice desk old.seat seat old.keeper between answers (length desk))
+    → new.seat ≡ with_answers true seat answers → All IsReply (replies_told true answers) → new.desk ≡ old.desk
+    → (old.keeper.state.batch ≡ []) ⊎ (old.keeper.writer.is_broken ≡ true)
+    → old.keeper.writer.is_broken ≡ false
+    → new.keeper.state ≡ without_batch between.state
+    → between.state.register ≡ register_of old.keeper.writer.register between.state.batch
+    → counts.taken ≡ length answers
+    → counts.accepted ≡ length between.state.batch
+    → IsTurn choice old new counts
+good_turn desk choice old new seat between answers counts seated all stored in_range same_desk empty_batch whole after safe taken accepted =
+    let scans = all.scans in
+    let commands = commands_of 0 scans.visits in
+    record {
+      visits = scans.visits;
+      replies = replies_in answers;
+      decided = between.state;
+      desk = same_desk;
+      serves = serves_all desk choice old.seat seat new.seat old.keeper between answers true seated all stored in_range;
+      begins = nothing_waits old.keeper.state.batch old.keeper.writer.is_broken empty_batch whole;
+      run = run_of choice old.keeper.writer.plan old.keeper.writer.is_broken old.keeper.state between.state commands (replies_in answers) whole scans.found.decides;
+      after = after;
+      safe = safe;
+      taken = taken ∙ many-commands answers commands scans.found.terminals;
+      accepted = accepted;
+    }
+
 pub failed_turn : {D P : Type 0} (desk : List TableId) (choice : Choice) (old new : ClerkState D P) (seat : List ClerkPlace) (between : KeeperView D) (answers : List Answer)
     → IsClerkOf desk old.seat
     → (all : ClerkScans choice desk old.seat seat old.keeper between answers (length desk))
-    → StoresAll seat new.seat answers false → All IsReply (replies_told false answers) → new.desk ≡ old.desk
+    → new.seat ≡ with_answers false seat answers → All IsReply (replies_told false answers) → new.desk ≡ old.desk
     → (old.keeper.state.batch ≡ []) ⊎ (old.keeper.writer.is_broken ≡ true)
     → old.keeper.writer.is_broken ≡ false
     → new.keeper.state ≡ between.state
@@ -106,7 +139,7 @@ failed_turn desk choice old new seat between answers seated all stored in_range 
 pub broken_turn : {D P : Type 0} (desk : List TableId) (choice : Choice) (old new : ClerkState D P) (seat : List ClerkPlace) (between : KeeperView D) (answers : List Answer)
     → IsClerkOf desk old.seat
     → (all : ClerkScans choice desk old.seat seat old.keeper between answers (length desk))
-    → StoresAll seat new.seat answers false → All IsReply (replies_told false answers) → new.desk ≡ old.desk
+    → new.seat ≡ with_answers false seat answers → All IsReply (replies_told false answers) → new.desk ≡ old.desk
     → old.keeper.writer.is_broken ≡ true
     → new.keeper ≡ between
     → IsBrokenTurn old new

@@ -1,6 +1,7 @@
 pub mod Visits
 pub mod Clerk
 pub mod Turn
+pub mod Answering
 pub mod Scanning
 pub mod Answered
 pub mod Steps

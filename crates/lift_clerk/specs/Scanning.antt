@@ -1,8 +1,7 @@
--- A scan and its answers, as far as they have come.
-use Rattle.std.specs.Prelude.{ℕ, Bool, true, false, ◌≡◌, ◌≤◌, List, map, length, if◌then◌else◌}
+-- A scan, as far as it has come.
+use Rattle.std.specs.Prelude.{ℕ, Bool, true, false, ◌≡◌, ◌≤◌, List, map, length}
 use Rattle.atomic_table.specs.Seated.{TableId}
 use Rattle.lift_base.specs.declared.command.Reply.{Reply}
-use Rattle.lift_base.specs.declared.command.Reply.TheVariants.{Unknown}
 use Rattle.lift_building.specs.Plan.{Plan}
 use Rattle.lift_desk.specs.Seats.{ClerkPlace, IsClerkOf}
 use Rattle.lift_policy.specs.declared.command.Command.{Command}
@@ -10,37 +9,17 @@ use Rattle.lift_policy.specs.Eligible.{Choice}
 use Rattle.lift_policy.specs.Step.{State}
 use Rattle.lift_policy.specs.Run.{Run, RunWhileBroken}
 use Rattle.lift_keeper.specs.Keeper.{KeeperView}
-use Rattle.lift_clerk.specs.declared.scan.Answer.{Answer}
-use Rattle.lift_clerk.specs.Visits.{Visit, Finds, FindsAt, Scans, commands_of, looked_at}
-
-abbrev pub terminals_in : List Answer → List ℕ
-terminals_in answers = map (λ (a : Answer). a.terminal) answers
-
-abbrev pub replies_in : List Answer → List Reply
-replies_in answers = map (λ (a : Answer). a.reply) answers
+use Rattle.lift_clerk.specs.declared.answering.Answer.{Answer}
+use Rattle.lift_clerk.specs.Answering.{terminals_in, replies_in}
+use Rattle.lift_clerk.specs.Visits.{Visit, FindsAt, Scans, commands_of}
 
 abbrev pub terminals_of : List Command → List ℕ
 terminals_of commands = map (λ (c : Command). c.terminal) commands
-
--- what is answered: what was decided where it is safe, else Unknown
-abbrev pub reply_told : Bool → Reply → Reply
-reply_told is_safe reply = if is_safe then reply else Unknown
-
-abbrev pub replies_told : Bool → List Answer → List Reply
-replies_told is_safe answers = map (λ (a : Answer). reply_told is_safe a.reply) answers
 
 -- commands are decided by the rules, or answered Unknown
 abbrev pub Decides : Bool → Plan → Choice → State → List Command → List Reply → State → Type 0
 Decides true plan choice state commands replies next = RunWhileBroken state commands replies next
 Decides false plan choice state commands replies next = Run plan choice state commands replies next
-
--- each place was looked at as far as these visits go, and each command found there has its answer,
--- which isn't stored yet
-pub record IsScanned (places : List ClerkPlace) (visits : List Visit) (seat : List ClerkPlace)
-    (answers : List Answer) : Type 0 where
-  pub finds : Finds places visits
-  pub looked : seat ≡ looked_at places visits
-  pub terminals : terminals_in answers ≡ terminals_of (commands_of 0 visits)
 
 -- what these looks found was decided, each command on the state that the earlier ones left
 pub record ClerkDecides (choice : Choice) (plan : Plan) (is_broken : Bool) (before after : State)

@@ -3,6 +3,7 @@ pub mod Visiting
 pub mod Scanned
 pub mod Lists
 pub mod Served
+pub mod Stored
 pub mod Standing
 pub mod Words
 pub mod Asked

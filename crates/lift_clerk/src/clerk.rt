@@ -9,8 +9,9 @@ ghost use Rattle.lift_keeper.specs.Prelude.{CommitsTo, CommitCalls, Recovers, Re
 ghost use Rattle.lift_clerk.specs.Clerk.{IsClerk, IsToldAt};
 ghost use Rattle.lift_clerk.specs.Turn.{IsTurn, IsFailedTurn, IsBrokenTurn, batch_size};
 
+use crate::answering::{Answer, answer_all};
 use crate::counts::Counts;
-use crate::scan::{Answer, ClerkParts, answer_all, scan_desk};
+use crate::scan::{ClerkParts, scan_desk};
 use arrayvec::ArrayVec;
 use lift_base::MOST_ENTRIES;
 use lift_desk::{ClerkSeat, Desk, Seat};

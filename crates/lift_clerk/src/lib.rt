@@ -3,6 +3,7 @@
 //! device's.
 #![tactic(auto)]
 
+mod answering;
 mod clerk;
 mod counts;
 mod group;
@@ -10,6 +11,7 @@ mod history;
 mod machine;
 mod scan;
 
+pub use answering::{Answer, answer_all};
 pub use clerk::Clerk;
 pub use counts::Counts;
 pub use group::{ask_once, calls_are_steps, hear_once, pasts_go_on, turn_goes_on};

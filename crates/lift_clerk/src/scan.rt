@@ -1,38 +1,19 @@
-//! One scan of the desk's terminals, and the answers to what it found.
+//! One scan of the desk's terminals, and what is decided of what it found.
 
 ghost use Rattle.std.specs.Prelude.{◌≡◌, ℕ, suc, ◌<◌, ◌≤◌, ◌+◌, List, [], ◌∷◌, ◌++◌, length};
-ghost use Rattle.std.specs.Prelude.{All, Some, false};
+ghost use Rattle.std.specs.Prelude.{Some, false};
 ghost use Rattle.std.specs.Option.{option_to_list};
 ghost use Rattle.atomic_table.specs.Seated.{TableId};
-ghost use Rattle.lift_desk.specs.Seats.{IsClerkOf};
-ghost use Rattle.lift_desk.specs.Words.{IsReply};
-ghost use Rattle.lift_clerk.specs.Visits.{command_at, served};
-ghost use Rattle.lift_clerk.specs.Scanning.{ClerkScans, Decides, IsScanned, replies_told};
-ghost use Rattle.lift_clerk.specs.Scanning.{reply_told};
+ghost use Rattle.lift_clerk.specs.Visits.{command_at};
+ghost use Rattle.lift_clerk.specs.Scanning.{ClerkScans, Decides};
 
+use crate::answering::Answer;
 use arrayvec::ArrayVec;
 use lift_base::{MOST_ENTRIES, Reply, Terminal};
 use lift_desk::{Ask, ClerkSeat, Desk};
 use lift_disk::Disk;
 use lift_keeper::Keeper;
 use lift_policy::{Policy, decisions_keep};
-
-/// What a terminal is answered, once it is safe.
-#[derive(Clone, Copy, Default)]
-pub struct Answer {
-    pub terminal: Terminal,
-    pub reply: Reply,
-}
-
-impl Answer {
-    /// The reply as it is stored: where nothing is safe, it isn't known what becomes of the
-    /// command.
-    fn told(self, is_safe: bool) -> Reply
-        ensures { result ≡ reply_told is_safe self.reply }
-    {
-        if is_safe { self.reply } else { Reply::Unknown }
-    }
-}
 
 /// Who looks at the terminals of a desk, one after another, and decides what it finds there.
 pub trait DeskScan<T> {
@@ -111,26 +92,5 @@ fn decide<D: Disk, P: Policy>(
         Reply::Unknown
     } else {
         keeper.decide(terminal, ask.number, &ask.body, policy)
-    }
-}
-
-/// Stores the answers: what was decided where it is safe, else Unknown.
-pub fn answer_all(
-    desk: &Desk,
-    seat: &mut ClerkSeat,
-    answers: &ArrayVec<Answer, MOST_ENTRIES>,
-    is_safe: bool,
-)
-    requires seated { IsClerkOf desk.now seat.old }
-    requires scanned { (places : _) × (visits : _)
-        × IsScanned places visits seat.old answers.now.items }
-    ensures stored { (places : _) (visits : _) → IsScanned places visits seat.old answers.now.items
-        → seat.new ≡ served places visits (replies_told is_safe answers.now.items) }
-    ensures in_range { All IsReply (replies_told is_safe answers.now.items) }
-    ensures seated { IsClerkOf desk.now seat.new }
-{
-    for place in 0..answers.len() {
-        let answer = answers[place];
-        desk.answer(seat, answer.terminal, answer.told(is_safe));
     }
 }

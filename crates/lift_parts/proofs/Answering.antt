@@ -3,35 +3,36 @@ use Rattle.lift_world.specs.Turns.{with_replies}
 use Rattle.lift_policy.specs.Run.{unknowns}
 use Rattle.lift_base.specs.declared.command.Reply.TheVariants.{Unknown}
 use Rattle.std.proofs.lemmas.List.{length-map}
-use Rattle.lift_clerk.specs.Answered.{AreApart, Grows, Answers, answers_to}
+use Rattle.lift_clerk.specs.Answered.{AreApart, AreOthers, Grows, Answers, answers_to}
 use Rattle.lift_parts.specs.Batch.{replies_in}
 use Rattle.lift_clerk.specs.Answered.{answer_words, ask_of}
-use Rattle.std.proofs.Common.{ℕ, suc, ◌≡◌, ◌≢◌, ◌+◌, ◌<◌, Bool, true, false, cond, eqb, List, [], ◌∷◌, ◌++◌, length, map, get_or, Option, Some, refl, sym, ap, subst, ◌∙◌, arith, append_assoc}
-use Rattle.std.specs.Prelude.{filter, All, IsSome, IfSome}
+use Rattle.std.proofs.Common.{ℕ, suc, ◌≡◌, ◌≢◌, ◌+◌, Bool, true, false, cond, eqb, List, [], ◌∷◌, ◌++◌, length, map, refl, sym, ap, subst, ◌∙◌, arith, append_assoc}
+use Rattle.std.specs.Prelude.{filter, All}
 use Rattle.std.proofs.lemmas.List.Elements.{All-cons, All-nil}
-use Rattle.std.proofs.lemmas.Bool.{eq-eqb, eqb-true, false≢true}
-use Rattle.std.proofs.lemmas.List.{append-nil, length-append, length-set}
+use Rattle.std.proofs.lemmas.Bool.{eq-eqb, ne_eqb}
+use Rattle.std.proofs.lemmas.List.{append-nil, length-append}
 use mathlib.Core.List.{map-append}
 use Rattle.lift_base.specs.declared.command.Reply.{Reply}
 use Rattle.lift_desk.specs.declared.view.ClerkView.{ClerkView}
-use Rattle.lift_desk.specs.declared.words.Ask.{Ask}
 use Rattle.lift_desk.specs.Words.{reply_word}
 use Rattle.lift_desk.specs.Spelled.{ask_words, IsAsk}
-use Rattle.lift_desk.specs.Steps.{with_taking, with_answer}
-use Rattle.lift_desk.specs.Seats.{ClerkPlace, no_place, view_at, placed_at, TakesOf}
-use Rattle.lift_desk.specs.lemmas.Places.{view_at-here, view_at-else}
+use Rattle.lift_desk.specs.Steps.{with_taking}
+use Rattle.lift_desk.specs.Seats.{ClerkPlace, view_at}
 use Rattle.lift_policy.specs.declared.command.Command.{Command}
 use Rattle.lift_world.specs.declared.event.Answer.{Answer}
 use Rattle.lift_world.specs.declared.event.Taken.{Taken}
 use Rattle.lift_world.specs.World.{asks, is_answer_to}
 use Rattle.lift_world.specs.Next.{answer_of, unknown_to}
-use Rattle.lift_clerk.specs.Scanning.{reply_told}
-use Rattle.lift_clerk.specs.Visits.{Visit}
+use Rattle.lift_clerk.specs.Answering.{reply_told}
+use Rattle.lift_clerk.specs.Visits.{FindsAt}
+use Rattle.lift_clerk.specs.lemmas.Lists.{no_asks}
+use Rattle.lift_clerk.specs.lemmas.Stored.{length-answered, number-taken}
 use Rattle.lift_clerk.specs.lemmas.Visiting.{taken-new}
 use Rattle.lift_clerk.specs.lemmas.Words.{asks_both, asks_count, answers_both, answers_long}
 use Rattle.lift_parts.specs.declared.taken.NotedCommand.{NotedCommand}
 use Rattle.lift_parts.specs.Batch.{AreBelow, commands_in}
-use Rattle.lift_parts.specs.Flusher.{AnswersOne, Answered}
+use Rattle.lift_parts.specs.Flusher.{Answered, LooksGive, noted_visit, looked_for, answers_in}
+use Rattle.lift_parts.specs.lemmas.Settled.{at-each-terminal, length-looked_for, told_after}
 use Rattle.lift_parts.specs.Tie.{held_as}
 
 -- ---- the answers to a terminal's words
@@ -71,38 +72,6 @@ grown_join u v x cs ds old_answers new_answers g h =
 abbrev pub answer_told : Bool → NotedCommand → Answer
 answer_told is_safe t = record { terminal = t.command.terminal; number = t.command.number; reply = reply_told is_safe t.reply }
 
--- one command
-module _ (is_safe : Bool) (places next : List ClerkPlace) (taken : NotedCommand) where
-  abbrev t : ℕ
-  t = taken.command.terminal
-
-  abbrev old : ClerkView
-  old = view_at places t
-
-  -- the terminal's words, once its look was answered
-  abbrev told : ℕ → ClerkView
-  told word = with_answer (with_taking old word) (reply_word (suc (length old.taken)) taken.command.number (reply_told is_safe taken.reply))
-
-  own : (word : ℕ) (found : Option Ask) → AnswersOne is_safe places taken (record { word = word; found = found }) next → t < length places
-      → Grown old (view_at next t) (taken.command ∷ []) (answer_told is_safe taken ∷ [])
-  own word found k inside =
-      let ask : Ask = ask_of taken.command in
-      let now : view_at next t ≡ told word = ap (λ (s : List ClerkPlace). view_at s t) k.answered ∙ view_at-here places t (told word) inside in
-      let reads : TakesOf old word (Some ask) = subst (TakesOf old word) k.gives k.finds.reads in
-      let even : length old.answered ≡ length old.taken =
-      subst (λ (o : Option Ask). IsSome o → length old.answered ≡ length old.taken) k.gives k.finds.even refl in
-      let more : (with_taking old word).taken ≡ old.taken ++ word ∷ [] = taken-new old word reads.0 in
-      record {
-        taken = ap (λ (v : ClerkView). v.taken) now ∙ more ∙ ap (λ (n : ℕ). old.taken ++ n ∷ []) reads.1;
-        answered = ap (λ (v : ClerkView). v.answered) now ∙ ap (λ (n : ℕ). old.answered ++ reply_word (suc n) taken.command.number (reply_told is_safe taken.reply) ∷ []) (sym even);
-      }
-
-  pub other : (visit : Visit) (j : ℕ) → j ≢ t → AnswersOne is_safe places taken visit next → view_at next j ≡ view_at places j
-  other visit j apart k = ap (λ (s : List ClerkPlace). view_at s j) k.answered ∙ view_at-else places t j (told visit.word) apart
-
-  pub same_long : (visit : Visit) → AnswersOne is_safe places taken visit next → length next ≡ length places
-  same_long visit k = ap length k.answered ∙ length-set places t (placed_at (get_or places t no_place).table (told visit.word))
-
 -- all of them
 abbrev pub here : ℕ → List NotedCommand → List Command
 here j batch = filter (asks j) (commands_in batch)
@@ -110,38 +79,55 @@ here j batch = filter (asks j) (commands_in batch)
 abbrev pub told_here : Bool → ℕ → List NotedCommand → List Answer
 told_here is_safe j batch = filter (is_answer_to j) (map (answer_told is_safe) batch)
 
-one_grown : (is_safe : Bool) (places mid next : List ClerkPlace) (taken : NotedCommand) (batch : List NotedCommand) (visit : Visit) (j : ℕ) (b : Bool) → eqb taken.command.terminal j ≡ b
-    → AnswersOne is_safe places taken visit mid → taken.command.terminal < length places → Grown (view_at mid j) (view_at next j) (here j batch) (told_here is_safe j batch)
-    → Grown (view_at places j) (view_at next j) (cond b (taken.command ∷ here j batch) (here j batch)) (cond b (answer_told is_safe taken ∷ told_here is_safe j batch) (told_here is_safe j batch))
-one_grown is_safe places mid next taken batch visit j true e k inside g =
-    let at : taken.command.terminal ≡ j = eqb-true taken.command.terminal j e in
-    let first = own is_safe places mid taken visit.word visit.found k inside in
-    grown_join (view_at places j) (view_at mid j) (view_at next j) (taken.command ∷ []) (here j batch) (answer_told is_safe taken ∷ []) (told_here is_safe j batch)
-    (subst (λ (n : ℕ). Grown (view_at places n) (view_at mid n) (taken.command ∷ []) (answer_told is_safe taken ∷ [])) at first) g
-one_grown is_safe places mid next taken batch visit j false e k inside g =
-    let apart : j ≢ taken.command.terminal = λ q. (let yes : eqb taken.command.terminal j ≡ true = eq-eqb taken.command.terminal j (sym q) in absurd (false≢true (sym e ∙ yes))) in
-    subst (λ (v : ClerkView). Grown v (view_at next j) (here j batch) (told_here is_safe j batch)) (other is_safe places mid taken visit j apart k) g
+-- none of these answers is to this terminal
+none_told : (is_safe : Bool) (j : ℕ) (batch : List NotedCommand) → AreOthers j (commands_in batch) → told_here is_safe j batch ≡ []
+none_told is_safe j [] others = refl
+none_told is_safe j (t ∷ batch) others =
+    ap (λ (b : Bool). cond b (answer_told is_safe t ∷ told_here is_safe j batch) (told_here is_safe j batch)) (ne_eqb t.command.terminal j others.0) ∙ none_told is_safe j batch others.1
 
-below_same : (m n : ℕ) (cs : List Command) → m ≡ n → AreBelow m cs → AreBelow n cs
-below_same m n cs e h = subst (λ (k : ℕ). AreBelow k cs) e h
+-- the words of one terminal
+module _ (is_safe : Bool) (j : ℕ) where
+  abbrev At : List NotedCommand → ClerkPlace → ClerkView → Type 0
+  At batch p after = Grown p.view after (here j batch) (told_here is_safe j batch)
 
-pub grows : (is_safe : Bool) (places next : List ClerkPlace) (batch : List NotedCommand) → Answered is_safe places batch next → AreBelow (length places) (commands_in batch)
+  -- by whether the first command is of it
+  abbrev At_by : Bool → NotedCommand → List NotedCommand → ClerkPlace → ClerkView → Type 0
+  At_by b t batch p after =
+      Grown p.view after (cond b (t.command ∷ here j batch) (here j batch)) (cond b (answer_told is_safe t ∷ told_here is_safe j batch) (told_here is_safe j batch))
+
+  skips : (t : NotedCommand) (batch : List NotedCommand) (p : ClerkPlace) (v : ClerkView) → t.command.terminal ≢ j → At batch p v → At (t ∷ batch) p v
+  skips t batch p v apart g = subst (λ (b : Bool). At_by b t batch p v) (sym (ne_eqb t.command.terminal j apart)) g
+
+  own : (t : NotedCommand) (p : ClerkPlace) → FindsAt p (noted_visit t) → Grown p.view (told_after is_safe t p.view) (t.command ∷ []) (answer_told is_safe t ∷ [])
+  own t p finds =
+      let view = with_taking p.view t.note.word in
+      let more : view.taken ≡ p.view.taken ++ t.note.word ∷ [] = taken-new p.view t.note.word finds.reads.0 in
+      let even : length p.view.answered ≡ length p.view.taken = finds.even refl in
+      let count : length view.taken ≡ suc (length p.view.answered) = omega (arith, ap length more, length-append p.view.taken (t.note.word ∷ [])) in
+      record {
+        taken = more ∙ ap (λ (n : ℕ). p.view.taken ++ n ∷ []) finds.reads.1;
+        answered = ap (λ (x : ℕ × ℕ). p.view.answered ++ reply_word x.0 x.1 (reply_told is_safe t.reply) ∷ []) (λ i. (count i, number-taken p t.note.word (ask_of t.command) finds i));
+      }
+
+  finds_own : (t : NotedCommand) (batch : List NotedCommand) (p : ClerkPlace) → t.command.terminal ≡ j → AreOthers j (commands_in batch) → FindsAt p (noted_visit t)
+      → At (t ∷ batch) p (told_after is_safe t p.view)
+  finds_own t batch p at others finds =
+      subst (λ (b : Bool). At_by b t batch p (told_after is_safe t p.view)) (sym (eq-eqb t.command.terminal j at))
+      (subst (λ (x : List Command × List Answer). Grown p.view (told_after is_safe t p.view) (t.command ∷ x.0) (answer_told is_safe t ∷ x.1))
+      (λ i. (sym (no_asks j (commands_in batch) others) i, sym (none_told is_safe j batch others) i)) (own t p finds))
+
+pub grows : (is_safe : Bool) (places next : List ClerkPlace) (batch : List NotedCommand) → Answered is_safe places batch next → AreBelow (length places) (commands_in batch) → AreApart (commands_in batch)
     → (length next ≡ length places) × ((j : ℕ) → Grown (view_at places j) (view_at next j) (here j batch) (told_here is_safe j batch))
-grows is_safe places next [] all under =
-    (ap length all, λ j. subst (λ (s : List ClerkPlace). Grown (view_at places j) (view_at s j) [] []) (sym all) (grown_none (view_at places j)))
-grows is_safe places next (t ∷ batch) all under =
-    let long = same_long is_safe places all.1 t all.0 all.2 in
-    let rest = grows is_safe all.1 next batch all.3 (below_same (length places) (length all.1) (commands_in batch) (sym long) under.1) in
-    (rest.0 ∙ long, λ j. one_grown is_safe places all.1 next t batch all.0 j (eqb t.command.terminal j) refl all.2 under.0 (rest.1 j))
+grows is_safe places next batch all below apart = (
+  ap length all.stored ∙ length-answered is_safe (looked_for places batch) (answers_in batch) ∙ length-looked_for places batch,
+  λ j. subst (λ (s : List ClerkPlace). Grown (view_at places j) (view_at s j) (here j batch) (told_here is_safe j batch)) (sym all.stored)
+      (at-each-terminal is_safe j (At is_safe j) (λ p. grown_none p.view) (skips is_safe j) (finds_own is_safe j) places batch below apart all.finds),
+)
 
 -- a word can spell each command
-spelled_one : (is_safe : Bool) (places next : List ClerkPlace) (taken : NotedCommand) (visit : Visit) → AnswersOne is_safe places taken visit next → IsAsk (ask_of taken.command)
-spelled_one is_safe places next taken visit k = subst (λ (o : Option Ask). IfSome o IsAsk) k.gives k.finds.in_range
-
-spelled : (is_safe : Bool) (places next : List ClerkPlace) (batch : List NotedCommand) → Answered is_safe places batch next → All IsAsk (map ask_of (commands_in batch))
-spelled is_safe places next [] all = All-nil IsAsk
-spelled is_safe places next (t ∷ batch) all =
-    All-cons IsAsk (ask_of t.command) (map ask_of (commands_in batch)) (spelled_one is_safe places all.1 t all.0 all.2) (spelled is_safe all.1 next batch all.3)
+spelled : (places : List ClerkPlace) (batch : List NotedCommand) → LooksGive places batch → All IsAsk (map ask_of (commands_in batch))
+spelled places [] found = All-nil IsAsk
+spelled places (t ∷ batch) found = All-cons IsAsk (ask_of t.command) (map ask_of (commands_in batch)) found.0.in_range (spelled places batch found.1)
 
 -- as many answers as commands
 one_more : (is_safe : Bool) (j : ℕ) (t : NotedCommand) (batch : List NotedCommand) (b : Bool) → length (here j batch) ≡ length (told_here is_safe j batch)
@@ -195,11 +181,11 @@ module _ where
   pub answers_them : (is_safe : Bool) (places next : List ClerkPlace) (batch : List NotedCommand) → AreBelow (length places) (commands_in batch) → AreApart (commands_in batch) → Answered is_safe places batch next
       → Answers places next (commands_in batch) (replies_of is_safe batch)
   answers_them is_safe places next batch below apart k =
-      let grown = (grows is_safe places next batch k below).1 in
+      let grown = (grows is_safe places next batch k below apart).1 in
       record {
         one_each = as_long is_safe batch;
         apart = apart;
-        in_range = spelled is_safe places next batch k;
+        in_range = spelled places batch k.finds;
         grows = λ t.
             let g = grown t in
             let same : filter (is_answer_to t) (answers_to (commands_in batch) (replies_of is_safe batch)) ≡ told_here is_safe t batch =

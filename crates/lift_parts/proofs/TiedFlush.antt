@@ -1,6 +1,6 @@
 -- What a flusher's turn leads to.
 use Rattle.lift_parts.proofs.Answering.{Grown, answer_told, here, told_here, grows, as_many, answers_as, unknown_as}
-use Rattle.lift_clerk.specs.Answered.{answer_words, ask_of}
+use Rattle.lift_clerk.specs.Answered.{AreApart, answer_words, ask_of}
 use Rattle.std.proofs.Common.{ℕ, suc, ◌≡◌, ◌≢◌, ◌+◌, ◌-◌, ◌<◌, Bool, true, false, List, [], ◌∷◌, ◌++◌, length, map, take, drop, Some, refl, sym, ap, subst, ◌∙◌, arith, append_assoc}
 use Rattle.std.specs.Prelude.{filter}
 use Rattle.std.proofs.Math.Seq.{take-append_seam, drop-append_seam}
@@ -88,10 +88,10 @@ module _ {D P : Type 0} (laws : RelayLaws) (w : World) (a : AllocatorState P) (f
   line_is = sent.1
 
   -- the words, once the commands are answered
-  module _ (is_safe : Bool) (answered : Answered is_safe f.seat batch.commands g.seat) (end : World) (asked : end.asked ≡ w.asked) (queue : end.queue ≡ first.qs)
+  module _ (is_safe : Bool) (answered : Answered is_safe f.seat batch.commands g.seat) (apart : AreApart (commands_in batch.commands)) (end : World) (asked : end.asked ≡ w.asked) (queue : end.queue ≡ first.qs)
       (answers : end.answered ≡ w.answered ++ map (answer_told is_safe) batch.commands) where
     grown : (length g.seat ≡ length f.seat) × ((j : ℕ) → Grown (view_at f.seat j) (view_at g.seat j) (here j batch.commands) (told_here is_safe j batch.commands))
-    grown = grows is_safe f.seat g.seat batch.commands answered first.under
+    grown = grows is_safe f.seat g.seat batch.commands answered first.under apart
 
     way_is : (j : ℕ) → on_way w j ≡ here j batch.commands ++ on_way end j
     way_is j =
@@ -217,7 +217,7 @@ module _ {D P : Type 0} (laws : RelayLaws) (w : World) (a : AllocatorState P) (f
     answered_is = ap (λ (xs : List Taken). w.answered ++ map answer_of xs) commands_are;
     same_asked = refl;
     same_heard = refl;
-    shows = shows laws w a f g batch t.turn.receives sent m true t.turn.answered end refl refl (ap (λ (xs : List Taken). w.answered ++ map answer_of xs) commands_are ∙ ap (λ (xs : List Answer). w.answered ++ xs) (answers_as batch.commands))
+    shows = shows laws w a f g batch t.turn.receives sent m true t.turn.answered t.turn.apart end refl refl (ap (λ (xs : List Taken). w.answered ++ map answer_of xs) commands_are ∙ ap (λ (xs : List Answer). w.answered ++ xs) (answers_as batch.commands))
         refl refl t.same_plan (flusher_events all_found fq.q folds (length batch.entries)) (possible folds) refl refl refl
         (ap (λ (xs : List Taken). w.due ++ xs) (none_left fq.q.commands) ∙ append-nil w.due ∙ m.nothing_due)
         register_now
@@ -274,7 +274,7 @@ module _ {D P : Type 0} (laws : RelayLaws) (w : World) (a : AllocatorState P) (f
     answered_is = ap (λ (xs : List Taken). w.answered ++ map answer_of (map unknown_to xs)) fcommands_are;
     same_asked = refl;
     same_heard = refl;
-    shows = shows laws w a f g batch t.turn.receives sent m false t.turn.answered fend refl refl
+    shows = shows laws w a f g batch t.turn.receives sent m false t.turn.answered t.turn.apart fend refl refl
         (ap (λ (xs : List Taken). w.answered ++ map answer_of (map unknown_to xs)) fcommands_are ∙ ap (λ (xs : List Answer). w.answered ++ xs) (unknown_as batch.commands))
         refl refl t.same_plan (failing_flush all_found ffq.q folds GateWritten (length batch.entries)) (fpossible folds) refl refl refl
         (ap (λ (xs : List Taken). w.due ++ map unknown_to xs) (none_left ffq.q.commands) ∙ append-nil w.due ∙ m.nothing_due)
@@ -321,7 +321,7 @@ module _ {D P : Type 0} (laws : RelayLaws) (w : World) (a : AllocatorState P) (f
     answered_is = ap (λ (xs : List Taken). w.answered ++ map answer_of xs) bcommands_are;
     same_asked = refl;
     same_heard = refl;
-    shows = shows laws w a f g batch t.turn.receives sent m false t.turn.answered bend refl refl
+    shows = shows laws w a f g batch t.turn.receives sent m false t.turn.answered t.turn.apart bend refl refl
         (ap (λ (xs : List Taken). w.answered ++ map answer_of xs) bcommands_are ∙ ap (λ (xs : List Answer). w.answered ++ xs) (unknown_as batch.commands))
         refl refl (ap (λ (v : Rattle.lift_keeper.specs.Writer.WriterView D). v.plan) t.rests) (broken_flush all_found bq.q) bpossible refl refl refl
         (ap (λ (xs : List Taken). w.due ++ map unknown_to xs) (none_left bq.q.commands) ∙ append-nil w.due ∙ m.nothing_due)

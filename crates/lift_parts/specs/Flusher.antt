@@ -1,16 +1,18 @@
 -- The part that makes batches safe and answers.
-use Rattle.std.specs.Prelude.{ℕ, suc, ◌≡◌, ◌≢◌, ◌≤◌, Bool, true, false, List, [], ◌∷◌, length, drop}
+use Rattle.std.specs.Prelude.{ℕ, ◌≡◌, ◌≢◌, ◌≤◌, Bool, true, false, List, [], ◌∷◌, length, drop, map}
 use Rattle.std.specs.Prelude.{slice_index_or, Some, Result, Ok, Err, is_ok}
+use Rattle.std.specs.List.{AllByRecursion}
 use Rattle.atomic_table.specs.Seated.{TableId}
 use Rattle.lift_base.specs.declared.history.Entry.{Entry}
-use Rattle.lift_desk.specs.Words.{turn_of, last_of, reply_word}
-use Rattle.lift_desk.specs.Steps.{with_taking, with_answer}
+use Rattle.lift_desk.specs.Words.{turn_of, last_of}
+use Rattle.lift_desk.specs.Steps.{with_taking}
 use Rattle.lift_desk.specs.Seats.{ClerkPlace, IsClerkOf, no_place, view_at, clerk_with, Owes}
 use Rattle.lift_journal.specs.declared.fault.JournalFault.TheVariants.{Disk, Broken}
 use Rattle.lift_keeper.specs.declared.fault.KeeperFault.{KeeperFault}
 use Rattle.lift_keeper.specs.declared.fault.KeeperFault.TheVariants.{Journal}
 use Rattle.lift_keeper.specs.Writer.{WriterView}
-use Rattle.lift_clerk.specs.Scanning.{reply_told}
+use Rattle.lift_clerk.specs.declared.answering.Answer.{Answer}
+use Rattle.lift_clerk.specs.Answering.{with_answers}
 use Rattle.lift_clerk.specs.Visits.{Visit, FindsAt}
 use Rattle.lift_parts.specs.declared.taken.NotedCommand.{NotedCommand}
 use Rattle.lift_parts.specs.declared.counts.FlushCounts.{FlushCounts}
@@ -42,24 +44,34 @@ pub record IsFlusher {D : Type 0} (f : FlusherState D) : Type 0 where
   pub safe : f.writer.is_broken ≡ false → f.writer.register ≡ f.end.state.register
   pub all_answered : AllAnsweredBy f.seat f.end.turns
 
--- One command: its terminal was looked at once, the look read the word that its note says and gave
--- the command, and its answer was stored: its reply where that is safe, else Unknown; and nothing
--- else.
-pub record AnswersOne (is_safe : Bool) (places : List ClerkPlace) (taken : NotedCommand) (visit : Visit)
-    (next : List ClerkPlace) : Type 0 where
-  pub finds : FindsAt (slice_index_or places taken.command.terminal no_place) visit
-  pub gives : visit.found ≡ Some (ask_of taken.command)
-  pub word : visit.word ≡ taken.note.word
-  pub answered : next ≡ clerk_with places taken.command.terminal
-      (with_answer (with_taking (view_at places taken.command.terminal) visit.word)
-      (reply_word (suc (length (view_at places taken.command.terminal).taken))
-      taken.command.number (reply_told is_safe taken.reply)))
+-- the look that a command's note asks for: it reads the word that the note says, and gives the
+-- command
+abbrev pub noted_visit : NotedCommand → Visit
+noted_visit taken = record { word = taken.note.word; found = Some (ask_of taken.command) }
 
--- each command of a batch, one after another
-abbrev pub Answered : Bool → List ClerkPlace → List NotedCommand → List ClerkPlace → Type 0
-Answered is_safe places [] next = next ≡ places
-Answered is_safe places (taken ∷ batch) next = (visit : Visit) × (mid : List ClerkPlace)
-    × AnswersOne is_safe places taken visit mid × Answered is_safe mid batch next
+-- the seats after these looks, one at the terminal of each command
+abbrev pub looked_for : List ClerkPlace → List NotedCommand → List ClerkPlace
+looked_for places [] = places
+looked_for places (taken ∷ batch) = looked_for (clerk_with places taken.command.terminal
+    (with_taking (view_at places taken.command.terminal) taken.note.word)) batch
+
+-- such a look at its terminal gives each command
+abbrev pub LooksGive : List ClerkPlace → List NotedCommand → Type 0
+LooksGive places batch = AllByRecursion (λ (t : NotedCommand).
+    FindsAt (slice_index_or places t.command.terminal no_place) (noted_visit t)) batch
+
+-- the replies of a batch, each to its command's terminal
+abbrev pub answers_in : List NotedCommand → List Answer
+answers_in taken =
+    map (λ (t : NotedCommand). record { terminal = t.command.terminal; reply = t.reply }) taken
+
+-- The terminal of each command was looked at once, the look read the word that the note says and gave
+-- the command, and the command's answer was stored: its reply where that is safe, else Unknown; and
+-- nothing else.
+pub record Answered (is_safe : Bool) (places : List ClerkPlace) (batch : List NotedCommand)
+    (next : List ClerkPlace) : Type 0 where
+  pub finds : LooksGive places batch
+  pub stored : next ≡ with_answers is_safe (looked_for places batch) (answers_in batch)
 
 -- what was accepted of the batches that were received from one state of an end to another
 abbrev pub entries_received : ReceiveState → ReceiveState → List Entry

@@ -1,72 +1,50 @@
--- What a turn of the flusher answers.
-use Rattle.std.proofs.Common.{◌≡◌, ◌≢◌, ℕ, zero, suc, ◌+◌, ◌<◌, ◌≤◌, Bool, true, false, List, [], ◌∷◌, ◌++◌, take, length, get_or, Option, Some, refl, sym, ap, ◌∙◌, subst, arith, length-append}
-use Rattle.std.specs.Prelude.{IfSome, nat_eq}
-use Rattle.std.proofs.Math.Seq.{take-suc}
+-- What the looks and the answers of a flusher's turn come to.
+use Rattle.std.proofs.Common.{◌≡◌, ◌≢◌, ℕ, zero, suc, ◌+◌, ◌<◌, ◌≤◌, Bool, true, false, List, [], ◌∷◌, ◌++◌, length, get_or, Option, Some, refl, sym, ap, ◌∙◌, subst, arith, length-append}
+use Rattle.std.specs.Prelude.{nat_eq}
 use Rattle.std.proofs.lemmas.Bool.Decides.{nat_tests}
-use Rattle.std.proofs.lemmas.List.{append_cancel_left, length-set, get_or-set_same, get_or-set_other}
+use Rattle.std.proofs.lemmas.List.{append_cancel_left, get_or-set_same, get_or-set_other, length-map}
 use Rattle.atomic_table.specs.Seated.{TableId}
-use Rattle.lift_base.specs.declared.command.Reply.{Reply}
 use Rattle.lift_desk.specs.declared.view.ClerkView.{ClerkView}
 use Rattle.lift_desk.specs.declared.words.Ask.{Ask}
 use Rattle.lift_desk.specs.Words.{turn_of, last_of, number_of, reply_word}
-use Rattle.lift_desk.specs.Steps.{with_taking, with_answer}
-use Rattle.lift_desk.specs.Seats.{ClerkPlace, no_place, placed_at, view_at, clerk_with, ahead_from, TakesOf, Owes, OwesNothing}
-use Rattle.lift_desk.specs.lemmas.Places.{view_at-here, view_at-else}
+use Rattle.lift_desk.specs.Steps.{with_taking}
+use Rattle.lift_desk.specs.Seats.{ClerkPlace, IsClerkOf, no_place, view_at, clerk_with, ahead_from, TakesOf, Owes, OwesNothing}
+use Rattle.lift_desk.specs.lemmas.Places.{view_at-here}
 use Rattle.lift_desk.specs.lemmas.WordLists.{last_of-push}
-use Rattle.lift_clerk.specs.Scanning.{reply_told}
+use Rattle.lift_clerk.specs.declared.answering.Answer.{Answer}
+use Rattle.lift_clerk.specs.Answering.{AreOwed, terminals_in, reply_told, with_answers}
+use Rattle.lift_clerk.specs.Answered.{AreApart, AreOthers, ask_of}
 use Rattle.lift_clerk.specs.Visits.{Visit, FindsAt}
-use Rattle.lift_clerk.specs.Answered.{ask_of}
 use Rattle.lift_clerk.specs.lemmas.Visiting.{taken-new}
 use Rattle.lift_clerk.specs.lemmas.Looking.{Looked}
 use Rattle.lift_parts.specs.declared.taken.NotedCommand.{NotedCommand}
 use Rattle.lift_parts.specs.Batch.{AreBelow, commands_in, turns_of, turns_with, turns_after, IsNoted, AreNoted}
-use Rattle.lift_parts.specs.Flusher.{AnswersOne, Answered, AllAnsweredBy}
+use Rattle.lift_parts.specs.Flusher.{Answered, AllAnsweredBy, LooksGive, noted_visit, looked_for, answers_in}
+use Rattle.lift_parts.specs.lemmas.Settled.{at-each-terminal, owed-after, told_after}
 use Rattle.lift_parts.specs.lemmas.Used.{is_below}
-use Rattle.lift_relay.specs.Settler.{IsToBeAnswered}
+use Rattle.lift_relay.specs.Settler.{AreDue}
 
-number_given : (taken : NotedCommand) (found : Option Ask) (n : ℕ) → IfSome found (λ (ask : Ask). n ≡ ask.number) → found ≡ Some (ask_of taken.command) → n ≡ taken.command.number
-number_given taken found n is gives = subst (λ (o : Option Ask). IfSome o (λ (ask : Ask). n ≡ ask.number)) gives is
-
+-- what is taken is the word that was read
 one_end : (xs : List ℕ) (x y : ℕ) → xs ++ x ∷ [] ≡ xs ++ y ∷ [] → x ≡ y
 one_end xs x y e = let same = append_cancel_left xs (x ∷ []) (y ∷ []) e in cc
 
--- what is taken is the word that was read
 one_word : (view : ClerkView) (word other : ℕ) (found : Option Ask) (taken : NotedCommand) → TakesOf view word found → found ≡ Some (ask_of taken.command) → (with_taking view word).taken ≡ view.taken ++ other ∷ [] → word ≡ other
 one_word view word other found taken takes gives now =
     let is : TakesOf view word (Some (ask_of taken.command)) = subst (TakesOf view word) gives takes in
     one_end view.taken word other (sym (taken-new view word is.0) ∙ now)
 
--- one place changed twice has the second view
-changed_twice : (places : List ClerkPlace) (t : ℕ) (v w : ClerkView) → clerk_with (clerk_with places t v) t w ≡ clerk_with places t w
-changed_twice [] t v w = refl
-changed_twice (p ∷ places) zero v w = refl
-changed_twice (p ∷ places) (suc t) v w = ap (λ (l : List ClerkPlace). p ∷ l) (changed_twice places t v w)
-
--- the look gave the command, and its answer is stored
-pub gives_one : (is_safe : Bool) (places mid next : List ClerkPlace) (taken : NotedCommand) (word : ℕ) (found : Option Ask) (reply : Reply) → Looked FindsAt places mid taken.command.terminal word found → found ≡ Some (ask_of taken.command)
-    → view_at mid taken.command.terminal ≡ with_taking (view_at places taken.command.terminal) word
-    → next ≡ clerk_with mid taken.command.terminal (with_answer (view_at mid taken.command.terminal)
-    (reply_word (length (view_at mid taken.command.terminal).taken) (number_of (last_of (view_at mid taken.command.terminal).taken)) reply))
-    → reply ≡ reply_told is_safe taken.reply → (with_taking (view_at places taken.command.terminal) word).taken ≡ (view_at places taken.command.terminal).taken ++ taken.note.word ∷ []
-    → AnswersOne is_safe places taken (record { word = word; found = found }) next
-gives_one is_safe places mid next taken word found reply look gives here stored said noted =
+-- one look found its command
+pub finds_one : (places next : List ClerkPlace) (taken : NotedCommand) (word : ℕ) (found : Option Ask) → taken.command.terminal < length places → Looked FindsAt places next taken.command.terminal word found
+    → found ≡ Some (ask_of taken.command) → (view_at next taken.command.terminal).taken ≡ (view_at places taken.command.terminal).taken ++ taken.note.word ∷ []
+    → FindsAt (get_or places taken.command.terminal no_place) (noted_visit taken)
+    × (next ≡ clerk_with places taken.command.terminal (with_taking (view_at places taken.command.terminal) taken.note.word))
+finds_one places next taken word found inside look gives noted =
     let t = taken.command.terminal in
-    let view : ClerkView = with_taking (view_at places t) word in
-    let is : word ≡ taken.note.word = one_word (view_at places t) word taken.note.word found taken look.look.reads gives noted in
-    let number : number_of (last_of (view_at mid t).taken) ≡ taken.command.number =
-    ap (λ (w : ClerkView). number_of (last_of w.taken)) here ∙ ap (λ l. number_of (last_of l)) noted ∙ ap number_of (last_of-push (view_at places t).taken taken.note.word ∙ sym is) ∙ number_given taken found _ look.look.number gives in
-    let told : Reply = reply_told is_safe taken.reply in
-    let count : length view.taken ≡ suc (length (view_at places t).taken) = omega (arith, ap length noted, length-append (view_at places t).taken (taken.note.word ∷ [])) in
-    record {
-      finds = look.look;
-      gives = gives;
-      word = is;
-      answered = stored ∙ ap (λ (p : ℕ × Reply). clerk_with mid t (with_answer (view_at mid t) (reply_word (length (view_at mid t).taken) p.0 p.1))) (λ i. (number i, said i))
-          ∙ ap (λ (v : ClerkView). clerk_with mid t (with_answer v (reply_word (length v.taken) taken.command.number told))) here
-          ∙ ap (λ (l : List ClerkPlace). clerk_with l t (with_answer view (reply_word (length view.taken) taken.command.number told))) look.seat_is
-          ∙ changed_twice places t view (with_answer view (reply_word (length view.taken) taken.command.number told))
-          ∙ ap (λ (n : ℕ). clerk_with places t (with_answer view (reply_word n taken.command.number told))) count;
-    }
+    let here : view_at next t ≡ with_taking (view_at places t) word = ap (λ (l : List ClerkPlace). view_at l t) look.seat_is ∙ view_at-here places t (with_taking (view_at places t) word) inside in
+    let is : word ≡ taken.note.word = one_word (view_at places t) word taken.note.word found taken look.look.reads gives (ap (λ (v : ClerkView). v.taken) (sym here) ∙ noted) in (
+      subst (λ (v : Visit). FindsAt (get_or places t no_place) v) (λ i. record { word = is i; found = gives i }) look.look,
+      look.seat_is ∙ ap (λ (n : ℕ). clerk_with places t (with_taking (view_at places t) n)) is,
+    )
 
 is_same : (m n : ℕ) → nat_eq m n ≡ true → m ≡ n
 is_same m n e = grind (arith, nat_tests)
@@ -74,81 +52,99 @@ is_same m n e = grind (arith, nat_tests)
 is_other : (m n : ℕ) → nat_eq m n ≡ false → m ≢ n
 is_other m n e = grind (arith, nat_tests)
 
--- nothing is owed at the terminal, and its turn is the command's; the others are as they were
-pub settles_one : (places mid next : List ClerkPlace) (turns : List ℕ) (taken : NotedCommand) (looked stored : ClerkView) → taken.command.terminal < length places → taken.command.terminal < length turns
-    → mid ≡ clerk_with places taken.command.terminal looked → looked.taken ≡ (view_at places taken.command.terminal).taken ++ taken.note.word ∷ []
-    → next ≡ clerk_with mid taken.command.terminal stored → stored.taken ≡ looked.taken → ¬ Owes (view_at next taken.command.terminal)
-    → AllAnsweredBy places turns → AllAnsweredBy next (turns_with turns taken)
-settles_one places mid next turns taken looked stored inside counted first takes second same rests all_answered j = at j (nat_eq j taken.command.terminal) refl
+-- what these seats took is no later than these turns
+abbrev Late : List ClerkPlace → List ℕ → Type 0
+Late places turns = (t : ℕ) → turn_of (last_of (view_at places t).taken) ≤ get_or turns t 0
+
+still_late : (desk : List TableId) (places : List ClerkPlace) (turns : List ℕ) (taken : NotedCommand) → IsNoted desk turns taken → Late places turns → Late places (turns_with turns taken)
+still_late desk places turns taken noted late j = at j (nat_eq j taken.command.terminal) refl
   where
-    t : ℕ
-    t = taken.command.terminal
-
-    there : t < length mid
-    there = subst (λ (l : List ClerkPlace). t < length l) (sym first) (omega (arith, length-set places t (placed_at (get_or places t no_place).table looked)))
-
-    last_is : turn_of (last_of (view_at next t).taken) ≡ turn_of taken.note.word
-    last_is = ap (λ (l : List ClerkPlace). turn_of (last_of (view_at l t).taken)) second ∙ ap (λ (v : ClerkView). turn_of (last_of v.taken)) (view_at-here mid t stored there)
-        ∙ ap (λ l. turn_of (last_of l)) (same ∙ takes) ∙ ap turn_of (last_of-push (view_at places t).taken taken.note.word)
-
-    at : (j : ℕ) (b : Bool) → nat_eq j t ≡ b → (¬ Owes (view_at next j)) × (turn_of (last_of (view_at next j).taken) ≤ get_or (turns_with turns taken) j 0)
+    at : (j : ℕ) (b : Bool) → nat_eq j taken.command.terminal ≡ b → turn_of (last_of (view_at places j).taken) ≤ get_or (turns_with turns taken) j 0
     at j true e =
-        let is = is_same j t e in
-        let now = get_or-set_same turns t (turn_of taken.note.word) 0 counted in
-        let last = last_is in
-        subst (λ k. (¬ Owes (view_at next k)) × (turn_of (last_of (view_at next k).taken) ≤ get_or (turns_with turns taken) k 0)) (sym is)
-        (rests, omega arith)
+        let now = get_or-set_same turns taken.command.terminal (turn_of taken.note.word) 0 noted.counted in
+        let was = late taken.command.terminal in
+        let later = noted.later in
+        subst (λ k. turn_of (last_of (view_at places k).taken) ≤ get_or (turns_with turns taken) k 0) (sym (is_same j taken.command.terminal e)) (omega arith)
     at j false e =
-        let apart = is_other j t e in
-        let still : view_at next j ≡ view_at places j = ap (λ (l : List ClerkPlace). view_at l j) second ∙ view_at-else mid t j stored apart ∙ ap (λ (l : List ClerkPlace). view_at l j) first ∙ view_at-else places t j looked apart in
-        let turn = get_or-set_other turns t j (turn_of taken.note.word) 0 apart in
-        let was = all_answered j in
-        (subst (λ (v : ClerkView). ¬ Owes v) (sym still) was.0, subst (λ (v : ClerkView). turn_of (last_of v.taken) ≤ get_or (turns_with turns taken) j 0) (sym still) (omega arith))
+        let now = get_or-set_other turns taken.command.terminal j (turn_of taken.note.word) 0 (is_other j taken.command.terminal e) in
+        let was = late j in
+        omega arith
 
-more : (is_safe : Bool) (places mid next : List ClerkPlace) (batch : List NotedCommand) (taken : NotedCommand) (visit : Visit) → Answered is_safe places batch mid
-    → AnswersOne is_safe mid taken visit next → Answered is_safe places (batch ++ taken ∷ []) next
-more is_safe places mid next [] taken visit all last = (visit, next, subst (λ (l : List ClerkPlace). AnswersOne is_safe l taken visit next) all last, refl)
-more is_safe places mid next (t ∷ batch) taken visit all last = (all.0, all.1, all.2, more is_safe all.1 mid next batch taken visit all.3 last)
-
--- the commands up to one, with it
-take_one : (commands : List NotedCommand) (n : ℕ) (taken : NotedCommand) → n < length commands → taken ≡ get_or commands n taken → take (n + 1) commands ≡ take n commands ++ taken ∷ []
-take_one commands n taken inside is =
-    let suc_n : suc n ≡ n + 1 = omega arith in
-    sym (ap (λ m. take m commands) suc_n) ∙ take-suc commands n taken inside ∙ ap (λ (t : NotedCommand). take n commands ++ t ∷ []) (sym is)
-
--- one command more
-pub answered_more : (is_safe : Bool) (places mid next : List ClerkPlace) (commands : List NotedCommand) (n : ℕ) (taken : NotedCommand) (visit : Visit) → n < length commands → taken ≡ get_or commands n taken
-    → Answered is_safe places (take n commands) mid → AnswersOne is_safe mid taken visit next → Answered is_safe places (take (n + 1) commands) next
-answered_more is_safe places mid next commands n taken visit inside is before last =
-    subst (λ (l : List NotedCommand). Answered is_safe places l next) (sym (take_one commands n taken inside is)) (more is_safe places mid next (take n commands) taken visit before last)
-
--- the command after these, with its note
-pub noted_at : (desk : List TableId) (turns : List ℕ) (commands : List NotedCommand) (n : ℕ) (d : NotedCommand) → n < length commands → AreNoted desk turns commands → IsNoted desk (turns_after turns (take n commands)) (get_or commands n d)
-noted_at desk turns [] n d inside all = absurd (omega arith)
-noted_at desk turns (t ∷ commands) zero d inside all = all.0
-noted_at desk turns (t ∷ commands) (suc n) d inside all = noted_at desk (turns_with turns t) commands n d (omega arith) all.1
+-- so each command is an ask after all that they took
+pub all_due : (desk : List TableId) (places : List ClerkPlace) (turns : List ℕ) (commands : List NotedCommand) → AreBelow (length desk) (commands_in commands) → AreNoted desk turns commands → Late places turns
+    → AreDue desk places commands
+all_due desk places turns [] below noted late = tt
+all_due desk places turns (t ∷ commands) below noted late =
+    let later = noted.0.later in
+    let was = late t.command.terminal in (
+      (below.0, noted.0.of_table, (noted.0.in_range, (is_below _ _ (omega arith), noted.0.says))),
+      all_due desk places (turns_with turns t) commands below.1 noted.1 (still_late desk places turns t noted.0 late),
+    )
 
 pub after_last : (turns : List ℕ) (xs : List NotedCommand) (x : NotedCommand) → turns_after turns (xs ++ x ∷ []) ≡ turns_with (turns_after turns xs) x
 after_last turns [] x = refl
 after_last turns (y ∷ xs) x = after_last (turns_with turns y) xs x
 
-pub after_more : (turns : List ℕ) (commands : List NotedCommand) (n : ℕ) (taken : NotedCommand) → n < length commands → taken ≡ get_or commands n taken → turns_with (turns_after turns (take n commands)) taken ≡ turns_after turns (take (n + 1) commands)
-after_more turns commands n taken inside is = sym (after_last turns (take n commands) taken) ∙ ap (turns_after turns) (sym (take_one commands n taken inside is))
+turns_else : (turns : List ℕ) (batch : List NotedCommand) (j : ℕ) → AreOthers j (commands_in batch) → get_or (turns_after turns batch) j 0 ≡ get_or turns j 0
+turns_else turns [] j others = refl
+turns_else turns (t ∷ batch) j others =
+    turns_else (turns_with turns t) batch j others.1 ∙ get_or-set_other turns t.command.terminal j (turn_of t.note.word) 0 (λ e. others.0 (sym e))
 
--- each command's terminal is one of the desk's
-below_one : (count : ℕ) (commands : List NotedCommand) (n : ℕ) (d : NotedCommand) → n < length commands → AreBelow count (commands_in commands) → (get_or commands n d).command.terminal < count
-below_one count [] n d inside below = absurd (omega arith)
-below_one count (t ∷ commands) zero d inside below = below.0
-below_one count (t ∷ commands) (suc n) d inside below = below_one count commands n d (omega arith) below.1
+-- nothing is owed at a terminal, and what was taken there is no later than its turn
+module _ (desk : List TableId) (is_safe : Bool) (j : ℕ) where
+  abbrev Rests : List NotedCommand → ClerkPlace → ClerkView → Type 0
+  Rests batch p after = (turns : List ℕ) → AreNoted desk turns batch → (¬ Owes p.view) × (turn_of (last_of p.view.taken) ≤ get_or turns j 0)
+      → (¬ Owes after) × (turn_of (last_of after.taken) ≤ get_or (turns_after turns batch) j 0)
 
--- what is not later than these turns isn't as late as the command after them
-pub due_at : (desk : List TableId) (places : List ClerkPlace) (turns : List ℕ) (commands : List NotedCommand) (n : ℕ) (d : NotedCommand) → n < length commands → AreBelow (length desk) (commands_in commands)
-    → AreNoted desk turns commands → AllAnsweredBy places (turns_after turns (take n commands)) → IsToBeAnswered desk places (get_or commands n d)
-due_at desk places turns commands n d inside below all all_answered =
-    let noted = noted_at desk turns commands n d inside all in
-    let later = noted.later in
-    let before = (all_answered (get_or commands n d).command.terminal).1 in
-    record { terminal = below_one (length desk) commands n d inside below; noted = noted.of_table; says = (noted.in_range, (is_below _ _ (omega arith), noted.says)) }
+  skips : (t : NotedCommand) (batch : List NotedCommand) (p : ClerkPlace) (v : ClerkView) → t.command.terminal ≢ j → Rests batch p v → Rests (t ∷ batch) p v
+  skips t batch p v apart rests turns noted was =
+      let same = get_or-set_other turns t.command.terminal j (turn_of t.note.word) 0 (λ e. apart (sym e)) in
+      let late = was.1 in
+      rests (turns_with turns t) noted.1 (was.0, omega arith)
+
+  answers_own : (t : NotedCommand) (batch : List NotedCommand) (p : ClerkPlace) → t.command.terminal ≡ j → AreOthers j (commands_in batch) → FindsAt p (noted_visit t)
+      → Rests (t ∷ batch) p (told_after is_safe t p.view)
+  answers_own t batch p at others finds turns noted was =
+      let view = with_taking p.view t.note.word in
+      let more : view.taken ≡ p.view.taken ++ t.note.word ∷ [] = taken-new p.view t.note.word finds.reads.0 in
+      let even : length p.view.answered ≡ length p.view.taken = finds.even refl in
+      let last : turn_of (last_of view.taken) ≡ turn_of t.note.word = ap (λ l. turn_of (last_of l)) more ∙ ap turn_of (last_of-push p.view.taken t.note.word) in
+      let now : get_or (turns_with turns t) j 0 ≡ turn_of t.note.word =
+      subst (λ (k : ℕ). get_or (turns_with turns t) k 0 ≡ turn_of t.note.word) at (get_or-set_same turns t.command.terminal (turn_of t.note.word) 0 noted.0.counted) in
+      let after = turns_else (turns_with turns t) batch j others in (
+        (λ owes. omega (arith, ap length more, length-append p.view.taken (t.note.word ∷ []), length-append p.view.answered (reply_word (length view.taken) (number_of (last_of view.taken)) (reply_told is_safe t.reply) ∷ []))),
+        omega arith,
+      )
+
+-- a batch's commands are of terminals that these seats are at
+pub below_seats : (desk tables : List TableId) (places : List ClerkPlace) (batch : List NotedCommand) → desk ≡ tables → IsClerkOf tables places → AreBelow (length desk) (commands_in batch) → AreBelow (length places) (commands_in batch)
+below_seats desk tables places batch is seated below =
+    subst (λ (n : ℕ). AreBelow n (commands_in batch)) (ap length (is ∙ sym seated) ∙ length-map places (λ (p : ClerkPlace). p.table)) below
+
+pub settled : (desk : List TableId) (is_safe : Bool) (places next : List ClerkPlace) (turns : List ℕ) (batch : List NotedCommand) → AreBelow (length places) (commands_in batch) → AreApart (commands_in batch)
+    → AreNoted desk turns batch → Answered is_safe places batch next → AllAnsweredBy places turns → AllAnsweredBy next (turns_after turns batch)
+settled desk is_safe places next turns batch below apart noted answered was j =
+    subst (λ (l : List ClerkPlace). (¬ Owes (view_at l j)) × (turn_of (last_of (view_at l j).taken) ≤ get_or (turns_after turns batch) j 0)) (sym answered.stored)
+    (at-each-terminal is_safe j (Rests desk is_safe j) (λ p turns noted rests. rests) (skips desk is_safe j) (answers_own desk is_safe j) places batch below apart answered.finds turns noted (was j))
+
+-- what was looked for is owed its answers, and once they are stored the batch is answered
+module _ (desk : List TableId) (places seat : List ClerkPlace) (batch items : List NotedCommand) (answers : List Answer) (is : items ≡ batch) (found : LooksGive places items)
+    (looked : seat ≡ looked_for places items) (told : answers ≡ answers_in items) where
+  pub owes_them : IsClerkOf desk places → AreBelow (length desk) (commands_in batch) → AreApart (commands_in batch) → AreOwed desk seat (terminals_in answers)
+  owes_them seated below apart =
+      let many : length places ≡ length desk = sym (length-map places (λ (p : ClerkPlace). p.table)) ∙ ap length seated in
+      subst (λ (x : List ClerkPlace × List Answer). AreOwed desk x.0 (terminals_in x.1)) (λ i. (sym looked i, sym told i))
+      (owed-after desk places items many (subst (λ (l : List NotedCommand). AreBelow (length desk) (commands_in l)) (sym is) below) (subst (λ (l : List NotedCommand). AreApart (commands_in l)) (sym is) apart) found)
+
+  pub answered_them : (is_safe : Bool) (next : List ClerkPlace) → next ≡ with_answers is_safe seat answers → Answered is_safe places batch next
+  answered_them is_safe next stored = record {
+    finds = subst (LooksGive places) is found;
+    stored = stored ∙ ap (λ (x : List ClerkPlace × List Answer). with_answers is_safe x.0 x.1) (λ i. (looked i, told i))
+        ∙ ap (λ (l : List NotedCommand). with_answers is_safe (looked_for places l) (answers_in l)) is;
+  }
+
+  pub as_many : length answers ≡ length batch
+  as_many = ap length told ∙ length-map items (λ (t : NotedCommand). record { terminal = t.command.terminal; reply = t.reply }) ∙ ap length is
 
 -- as the clerk's seats are where it is split
 pub answered_first : (clerk : List ClerkPlace) → OwesNothing clerk → AllAnsweredBy clerk (turns_of (ahead_from clerk))

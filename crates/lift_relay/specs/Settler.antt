@@ -1,5 +1,6 @@
 -- The half of a flusher that never waits, as contracts see it.
 use Rattle.std.specs.Prelude.{◌≡◌, ◌<◌, false, List, length, Result, Ok, is_ok}
+use Rattle.std.specs.List.{AllByRecursion}
 use Rattle.atomic_table.specs.Seated.{TableId}
 use Rattle.lift_disk.specs.Disk.{DiskState}
 use Rattle.lift_desk.specs.Seats.{ClerkPlace, IsClerkOf, IsNoteOf, Says, view_at}
@@ -18,12 +19,12 @@ pub record SettlerState (D : Type 0) : Type 0 where
   pub seat : List ClerkPlace
   pub writer : WriterView D
 
--- The command is of a terminal of the desk, and its note says it: an ask there, after all that
--- these seats took.
-pub record IsToBeAnswered (desk : List TableId) (seat : List ClerkPlace) (taken : NotedCommand) : Type 0 where
-  pub terminal : taken.command.terminal < length desk
-  pub noted : IsNoteOf desk taken.command.terminal taken.note
-  pub says : Says (view_at seat taken.command.terminal) taken.note.word (ask_of taken.command)
+-- each command is of a terminal of the desk, and its note says it: an ask there, after all that these
+-- seats took
+abbrev pub AreDue : List TableId → List ClerkPlace → List NotedCommand → Type 0
+AreDue desk seat commands = AllByRecursion (λ (t : NotedCommand).
+    (t.command.terminal < length desk) × IsNoteOf desk t.command.terminal t.note
+    × Says (view_at seat t.command.terminal) t.note.word (ask_of t.command)) commands
 
 -- One batch: its entries were committed, a crash at any moment leaves what was safe before or that
 -- with the batch, and each of its commands, which its own look gave, was answered: with its reply

@@ -1,23 +1,23 @@
 //! The half of a flusher that never waits.
 
-ghost use Rattle.std.specs.Prelude.{◌≡◌, ℕ, List, [], ◌<◌, ◌⊎◌, ◌↔◌, length, true, false, IfOk};
+ghost use Rattle.std.specs.Prelude.{◌≡◌, ℕ, List, [], ◌⊎◌, ◌↔◌, length, true, false, IfOk};
 ghost use Rattle.lift_desk.specs.Rule.{IsInOrder};
 ghost use Rattle.lift_desk.specs.Seats.{IsClerkOf, IsSeatOf, OwesNothing, view_at};
 ghost use Rattle.lift_desk.specs.Seats.{seat_with, clerk_with};
 ghost use Rattle.lift_desk.specs.Steps.{with_told_answers, with_told_asks, lists_of};
 ghost use Rattle.lift_keeper.specs.Prelude.{Commits, CommitCalls};
-ghost use Rattle.lift_clerk.specs.Visits.{Visit};
-ghost use Rattle.lift_parts.specs.Batch.{next_turns, turns_with};
-ghost use Rattle.lift_parts.specs.Flusher.{AnswersOne, Answered, AllAnsweredBy};
+ghost use Rattle.lift_clerk.specs.Answered.{AreApart};
+ghost use Rattle.lift_parts.specs.Batch.{commands_in};
+ghost use Rattle.lift_parts.specs.Flusher.{AllAnsweredBy, LooksGive, answers_in, looked_for};
 ghost use Rattle.lift_relay.specs.Heard.{FailureHeard};
-ghost use Rattle.lift_relay.specs.Settler.{IsToBeAnswered, SettlesBatch};
+ghost use Rattle.lift_relay.specs.Settler.{AreDue, SettlesBatch};
 
 use crate::batch::Batch;
 use crate::held::HeldClerk;
 use crate::witness::{HeardBy, Witness, tell_of};
 use arrayvec::ArrayVec;
-use lift_base::{Reply, Terminal};
-use lift_clerk::Clerk;
+use lift_base::{MOST_ENTRIES, Terminal};
+use lift_clerk::{Answer, Clerk, answer_all};
 use lift_decider::Decider;
 use lift_desk::{ClerkSeat, Desk, Seat, TakeSeat};
 use lift_disk::Disk;
@@ -26,7 +26,6 @@ use lift_parts::{FlushCounts, NotedCommand};
 use lift_policy::Policy;
 use lift_register::Register;
 use std::marker::{Model, PhantomData};
-use std::mem;
 
 /// Makes batches safe and answers them. No call of it waits: so what it ensures holds, and no answer
 /// stands before its batch is safe, whatever a thread does that has it. The seats and the writer are
@@ -53,44 +52,34 @@ impl<'d, 'b, D: Disk, K> Model for Settler<'d, 'b, D, K> {
     ghost invariant = { λ s. IsClerkOf s.desk.now s.seat };
 }
 
-/// Looks once at the terminal of a command, which the look gives, as its note says; and answers it:
-/// with its reply where it is safe, else Unknown.
-fn answer(desk: &Desk, seat: &mut ClerkSeat, taken: NotedCommand, is_safe: bool)
+/// Looks once at the terminal of each of these commands, which the look gives, as its note says. The
+/// answers that these looks are owed: each command's reply.
+fn look_again(
+    desk: &Desk,
+    seat: &mut ClerkSeat,
+    commands: ArrayVec<NotedCommand, MOST_ENTRIES>,
+) -> ArrayVec<Answer, MOST_ENTRIES>
     requires seated { IsClerkOf desk.now seat.old }
-    requires due { IsToBeAnswered desk.now seat.old taken }
-    ensures answers { (visit : Visit) × AnswersOne is_safe seat.old taken visit seat.new }
-    ensures all_answered { (turns : List ℕ) → AllAnsweredBy seat.old turns
-        → taken.command.terminal < length turns → AllAnsweredBy seat.new (turns_with turns taken) }
+    requires due { AreDue desk.now seat.old commands.items }
+    requires apart { AreApart (commands_in commands.items) }
+    ensures found { LooksGive seat.old commands.items }
+    ensures looked { seat.new ≡ looked_for seat.old commands.items }
+    ensures answers { result.items ≡ answers_in commands.items }
     ensures seated { IsClerkOf desk.now seat.new }
 {
-    let NotedCommand {
-        command,
-        reply,
-        note,
-    } = taken;
-    let _found = desk.look_for(seat, command.terminal, note);
-    let reply = if is_safe { reply } else { Reply::Unknown };
-    desk.answer(seat, command.terminal, reply);
-}
-
-/// Looks once at the terminal of each command of a batch, and answers it: with its reply where the
-/// batch is safe, else Unknown. How many commands there were.
-fn answer_all(desk: &Desk, seat: &mut ClerkSeat, batch: Batch, is_safe: bool) -> usize
-    requires seated { IsClerkOf desk.now seat.old }
-    requires at_desk { batch.desk ≡ desk.now }
-    requires all_answered { AllAnsweredBy seat.old batch.turns }
-    ensures answered { Answered is_safe seat.old batch.commands seat.new }
-    ensures all_answered { AllAnsweredBy seat.new (next_turns batch) }
-    ensures count { result ≡ length batch.commands }
-    ensures seated { IsClerkOf desk.now seat.new }
-{
-    let mut commands = batch.into_commands();
-    let count = commands.len();
-    for place in 0..count {
-        let taken = mem::take(&mut commands[place]);
-        answer(desk, seat, taken, is_safe);
+    let _few = commands.len();
+    let mut answers = ArrayVec::new();
+    for taken in commands {
+        let NotedCommand {
+            command,
+            reply,
+            note,
+        } = taken;
+        let terminal = command.terminal;
+        let _found = desk.look_for(seat, terminal, note);
+        answers.push(Answer { terminal, reply });
     }
-    count
+    answers
 }
 
 /// Whether an ask that these seats took is unanswered, at some terminal.
@@ -163,16 +152,17 @@ impl<'d, 'b, D: Disk, K> Settler<'d, 'b, D, K> {
         let was_broken = self.writer.is_broken();
         let committed = self.writer.commit(batch.entries());
         tell_of(witness, was_broken, self.writer.is_broken());
+        let answers = look_again(self.desk, &mut self.seat, batch.into_commands());
         match committed {
             Ok(()) => {
-                let answers = answer_all(self.desk, &mut self.seat, batch, true);
+                answer_all(self.desk, &mut self.seat, &answers, true);
                 Ok(FlushCounts {
                     batches: 1,
-                    answers,
+                    answers: answers.len(),
                 })
             }
             Err(fault) => {
-                answer_all(self.desk, &mut self.seat, batch, false);
+                answer_all(self.desk, &mut self.seat, &answers, false);
                 Err(fault)
             }
         }

@@ -22,10 +22,10 @@ use Rattle.lift_policy.specs.Run.{unknowns}
 use Rattle.lift_policy.specs.Step.{State}
 use Rattle.lift_keeper.specs.Keeper.{KeeperView}
 use Rattle.lift_keeper.specs.Writer.{WriterView}
-use Rattle.lift_clerk.specs.declared.scan.Answer.{Answer}
+use Rattle.lift_clerk.specs.declared.answering.Answer.{Answer}
 use Rattle.lift_clerk.specs.Visits.{Visit, FindsAt, command_at, commands_of}
-use Rattle.lift_clerk.specs.Scanning.{ClerkScans, Decides, terminals_in, terminals_of}
-use Rattle.lift_clerk.specs.Scanning.{replies_in}
+use Rattle.lift_clerk.specs.Answering.{terminals_in, replies_in}
+use Rattle.lift_clerk.specs.Scanning.{ClerkScans, Decides, terminals_of}
 use Rattle.lift_clerk.specs.lemmas.Looking.{Looked, inside-desk, one-more}
 use Rattle.lift_clerk.specs.lemmas.Visiting.{commands-more, taken-new}
 

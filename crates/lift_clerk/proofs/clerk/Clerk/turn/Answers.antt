@@ -9,9 +9,9 @@ use Rattle.lift_keeper.specs.Commits.{CommitsTo}
 use Rattle.lift_keeper.specs.Writer.{WriterView}
 use Rattle.lift_clerk.specs.declared.counts.Counts.{Counts}
 use Rattle.lift_clerk.specs.Clerk.{ClerkState}
-use Rattle.lift_clerk.specs.Turn.{IsFailedTurn, IsBrokenTurn}
-use Rattle.lift_clerk.specs.Scanning.{replies_told}
-use Rattle.lift_clerk.proofs.Turning.{serves_all, serves_rest, is_whole, same_keeper, failed_turn, broken_turn, committed, not_committed, calls_on_ok, calls_on_err}
+use Rattle.lift_clerk.specs.Turn.{IsTurn, IsFailedTurn, IsBrokenTurn}
+use Rattle.lift_clerk.specs.Answering.{replies_told}
+use Rattle.lift_clerk.proofs.Turning.{owes_all, serves_all, serves_rest, is_whole, same_keeper, good_turn, failed_turn, broken_turn, committed, not_committed, calls_on_ok, calls_on_err}
 use Rattle.lift_clerk.proofs.clerk.Clerk.turn.Goals as goal
 
 pub returns-in-Ok-clause-answered : goal.returns-in-Ok-clause-answered
@@ -126,3 +126,34 @@ returns-in-Err-clause-rests g c = λ was.
     subst (λ (v : ClerkState g.row.D.Denot g.row.P.Denot). IsBrokenTurn v new) c.self.view_is
     (broken_turn s.desk.now (g.P.Policy.chooses s.parts.policy) old new now.seat between answers c.self.invariant.seated all c.answer_all-in-Err.ensures.stored c.answer_all-in-Err.ensures.in_range refl
     broken (same_keeper c.commit.new.self between c.in-Err.ensures.unmoved (c.in-Err.ensures.commits.rests (ap (λ (w : WriterView g.row.D.Denot). w.is_broken) writer ∙ broken))))
+
+pub answer_all-requires-clause-owed : goal.answer_all-requires-clause-owed
+answer_all-requires-clause-owed g c =
+    let s = c.self.inside in
+    owes_all s.desk.now (g.P.Policy.chooses s.parts.policy) s.parts.seat c.scan_desk.new.scanner.seat s.parts.keeper c.scan_desk.new.scanner.keeper c.scan_desk.new.found.items c.self.invariant.seated c.scan_desk.ensures.1
+
+pub answer_all-requires-in-Err-clause-owed : goal.answer_all-requires-in-Err-clause-owed
+answer_all-requires-in-Err-clause-owed g c =
+    let s = c.self.inside in
+    owes_all s.desk.now (g.P.Policy.chooses s.parts.policy) s.parts.seat c.scan_desk.new.scanner.seat s.parts.keeper c.scan_desk.new.scanner.keeper c.scan_desk.new.found.items c.self.invariant.seated c.scan_desk.ensures.1
+
+pub returns-in-Ok-clause-turns : goal.returns-in-Ok-clause-turns
+returns-in-Ok-clause-turns g c =
+    let s = c.self.inside in
+    let all = c.scan_desk.ensures.1 in
+    let now = c.scan_desk.new.scanner in
+    let answers = c.scan_desk.new.found.items in
+    let between = now.keeper in
+    let writer = all.writer in
+    let commit = c.in-Ok.ensures.commits in
+    let old : ClerkState g.row.D.Denot g.row.P.Denot = record { desk = s.desk.now; seat = s.parts.seat; keeper = s.parts.keeper; policy = s.parts.policy } in
+    let new : ClerkState g.row.D.Denot g.row.P.Denot = record { desk = s.desk.now; seat = c.answer_all.new.seat; keeper = c.commit.new.self; policy = now.policy } in
+    let counts : Counts = record { taken = c.len.result; accepted = c.pending.result } in
+    let whole : between.writer.is_broken ≡ false = is_whole between.writer.is_broken (λ broken. let other = commit.broken.1 broken in cc) in
+    let shown = c.register-shown.ensures in
+    subst (λ (v : ClerkState g.row.D.Denot g.row.P.Denot). IsTurn (g.P.Policy.chooses v.policy) v new counts) c.self.view_is
+    (good_turn s.desk.now (g.P.Policy.chooses s.parts.policy) old new now.seat between answers counts c.self.invariant.seated all c.answer_all.ensures.stored c.answer_all.ensures.in_range refl c.self.invariant.empty_batch
+    (sym (ap (λ (w : WriterView g.row.D.Denot). w.is_broken) writer) ∙ whole)
+    c.in-Ok.ensures.begins
+    (sym shown.value ∙ shown.ahead whole ∙ ap (λ (w : WriterView g.row.D.Denot). register_of w.register between.state.batch) writer)
+    c.len.ensures.value c.pending.ensures.value)

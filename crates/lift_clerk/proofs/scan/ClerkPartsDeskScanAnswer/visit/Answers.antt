@@ -1,7 +1,7 @@
 use Rattle.std.proofs.Common.{suc, [], ◌∷◌, ◌++◌, Option, Some, None, refl, sym, subst, arith}
 use Rattle.std.specs.Option.{option_to_list}
 use Rattle.lift_policy.specs.Laws.{RunsJoin}
-use Rattle.lift_clerk.specs.declared.scan.Answer.{Answer}
+use Rattle.lift_clerk.specs.declared.answering.Answer.{Answer}
 use Rattle.lift_clerk.specs.Visits.{command_at}
 use Rattle.lift_clerk.specs.Scanning.{ClerkScans, Decides}
 use Rattle.lift_clerk.specs.lemmas.Scanned.{decides-nothing, scans-more}

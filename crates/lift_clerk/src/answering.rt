@@ -1,0 +1,48 @@
+//! What terminals are answered.
+
+ghost use Rattle.std.specs.Prelude.{◌≡◌, All};
+ghost use Rattle.lift_desk.specs.Seats.{IsClerkOf};
+ghost use Rattle.lift_desk.specs.Words.{IsReply};
+ghost use Rattle.lift_clerk.specs.Answering.{AreOwed, terminals_in, with_answers};
+ghost use Rattle.lift_clerk.specs.Answering.{reply_told, replies_told};
+
+use arrayvec::ArrayVec;
+use lift_base::{MOST_ENTRIES, Reply, Terminal};
+use lift_desk::{ClerkSeat, Desk};
+
+/// What a terminal is answered, once it is safe.
+#[derive(Clone, Copy, Default)]
+pub struct Answer {
+    pub terminal: Terminal,
+    pub reply: Reply,
+}
+
+impl Answer {
+    /// The reply as it is stored: where nothing is safe, it isn't known what becomes of the
+    /// command.
+    fn told(self, is_safe: bool) -> Reply
+        ensures { result ≡ reply_told is_safe self.reply }
+    {
+        if is_safe { self.reply } else { Reply::Unknown }
+    }
+}
+
+/// Stores these answers, each to the ask that its terminal is owed: its reply where that is safe,
+/// else Unknown.
+pub fn answer_all(
+    desk: &Desk,
+    seat: &mut ClerkSeat,
+    answers: &ArrayVec<Answer, MOST_ENTRIES>,
+    is_safe: bool,
+)
+    requires seated { IsClerkOf desk.now seat.old }
+    requires owed { AreOwed desk.now seat.old (terminals_in answers.now.items) }
+    ensures stored { seat.new ≡ with_answers is_safe seat.old answers.now.items }
+    ensures in_range { All IsReply (replies_told is_safe answers.now.items) }
+    ensures seated { IsClerkOf desk.now seat.new }
+{
+    for place in 0..answers.len() {
+        let answer = answers[place];
+        desk.answer(seat, answer.terminal, answer.told(is_safe));
+    }
+}
