@@ -26,7 +26,12 @@ pub fn etd(building: &Building, position: Position, rows: &[Row], row: &Row) -> 
 
 /// What a new call adds to the times of all passengers of a car, its own with them, and the time of
 /// its own.
-fn added(building: &Building, position: &Position, rows: &[Row], call: &NewCall) -> (u64, u64)
+pub(crate) fn added(
+    building: &Building,
+    position: &Position,
+    rows: &[Row],
+    call: &NewCall,
+) -> (u64, u64)
     requires within { AreFloorsWithin building.now.floors position.now call.now }
     requires calls { AreWithin building.now.floors rows.now }
     requires few { length rows.now ≤ 32 }

@@ -1,4 +1,4 @@
-//! Costs read from a car's schedule, which keeps its stop list and who leaves where.
+//! Costs read from a car's schedule: from its stop list and who leaves where, or else from nothing.
 
 ghost use Rattle.std.specs.Prelude.{◌≡◌, ◌+◌, ◌*◌, ◌<◌, ◌≤◌, length};
 ghost use Rattle.lift_cost.specs.Calls.{AreWithin, AreFloorsWithin};
@@ -7,6 +7,8 @@ ghost use Rattle.lift_cost.specs.Cost.{degradation};
 
 use crate::among::{added_among, etd_among};
 use crate::call::NewCall;
+use crate::cost;
+use crate::cost::etd;
 use lift_base::Row;
 use lift_building::Building;
 use lift_stops::Schedule;
@@ -17,7 +19,11 @@ pub fn etd_of(building: &Building, schedule: &Schedule, row: &Row) -> u64
     ensures value { result ≡ etd building.now schedule.now.position schedule.now.rows row.now }
     ensures limit { result ≤ 43560000 }
 {
-    etd_among(building, &schedule.position(), schedule.halts(), row)
+    let position = schedule.position();
+    match schedule.listed() {
+        Some(listed) => etd_among(building, &position, listed.halts, row),
+        None => etd(building, position, schedule.rows(), row),
+    }
 }
 
 /// What a new call adds to the times of all passengers of a car, its own with them, and the time of
@@ -32,13 +38,10 @@ fn added(building: &Building, schedule: &Schedule, call: &NewCall) -> (u64, u64)
     ensures no_loss { result.1 ≤ result.0 }
 {
     let position = schedule.position();
-    added_among(
-        building,
-        &position,
-        call,
-        schedule.halts(),
-        schedule.leaving(),
-    )
+    match schedule.listed() {
+        Some(listed) => added_among(building, &position, call, listed.halts, listed.leaving),
+        None => cost::added(building, &position, schedule.rows(), call),
+    }
 }
 
 /// What a new call adds to the times of all passengers of a car, its own with them: each call's

@@ -10,7 +10,7 @@ ghost use Rattle.lift_policy.specs.Step.{view_of, accepting, with_car_at, next_f
 ghost use Rattle.lift_policy.specs.Laws.{IsStateIn};
 ghost use Rattle.lift_decider.specs.Decider.{IsBatch, IsRegisterIn, starting};
 
-use crate::schedules::{insert, serve, stand};
+use crate::schedules::{insert, list_halts, serve, stand};
 use arrayvec::ArrayVec;
 use lift_base::{Entry, Letter, MOST_CARS, MOST_ENTRIES, Number, Position, Row, Stop};
 use lift_building::Building;
@@ -81,6 +81,13 @@ impl Group {
         ensures { result ≡ view_of self.now }
     {
         View::new(&self.register, &self.schedules)
+    }
+
+    /// Each car's schedule lists its halts, so that a policy weighs a new call by them.
+    pub fn list_halts(&mut self)
+        ensures { self.new ≡ self.old }
+    {
+        list_halts(&mut self.schedules);
     }
 
     /// Gives the batch out.

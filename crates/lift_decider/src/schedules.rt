@@ -6,7 +6,7 @@ ghost use Rattle.lift_stops.specs.StopList.{next_stop};
 ghost use Rattle.lift_stops.specs.Schedule.{position_after};
 ghost use Rattle.lift_decider.specs.Schedules.{schedule_at, with_row, HasRows, HasRowsAfter};
 
-use lift_base::{Letter, Position, Row, Stop};
+use lift_base::{Letter, MOST_CARS, Position, Row, Stop};
 use lift_policy::schedule_of;
 use lift_register::Register;
 use lift_stops::Schedule;
@@ -19,6 +19,25 @@ pub fn insert(schedule: &mut Option<Schedule>, row: &Row)
     match schedule {
         Some(schedule) => schedule.insert(*row),
         None => {}
+    }
+}
+
+/// The schedule, where there is one, lists its halts.
+fn list_own(schedule: &mut Option<Schedule>)
+    ensures { schedule.new ≡ schedule.old }
+{
+    match schedule {
+        Some(schedule) => schedule.list_halts(),
+        None => {}
+    }
+}
+
+/// Each schedule lists its halts, so that a new call is weighed by them.
+pub fn list_halts(schedules: &mut [Option<Schedule>; MOST_CARS])
+    ensures { schedules.new ≡ schedules.old }
+{
+    for place in 0..MOST_CARS {
+        list_own(&mut schedules[place]);
     }
 }
 

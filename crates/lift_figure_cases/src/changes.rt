@@ -32,8 +32,8 @@ pub(crate) fn is_as_from_nothing(schedule: &Schedule, rows: &[Row], more: &Row) 
         return false;
     };
     let are_same = (schedule.rows() == rows)
-        & (schedule.halts() == halts.as_slice())
-        & (anew.halts() == halts.as_slice())
+        & (schedule.halts() == halts)
+        & (anew.halts() == halts)
         & (schedule.next_stop() == next_stop(rows, *position));
     if anew.rows().len() > 32 {
         return false;
@@ -43,7 +43,7 @@ pub(crate) fn is_as_from_nothing(schedule: &Schedule, rows: &[Row], more: &Row) 
     anew.insert(*more);
     are_same
         & is_same_anew
-        & (anew.halts() == halts.as_slice())
+        & (anew.halts() == halts)
         & (stop_list(anew.rows(), *position).as_slice() == halts.as_slice())
 }
 
@@ -71,8 +71,11 @@ fn are_leaving_in(schedule: &Schedule, rows: &[Row], position: &Position, pass: 
             floor: floor(number),
         };
         let persons = leaving_at(rows, position, &halt);
-        let told = u32::from(schedule.leaving().at(&halt));
-        if told != persons || u32::from(anew.at(&halt)) != persons {
+        let told = match schedule.listed() {
+            Some(listed) => listed.leaving.at(&halt),
+            None => anew.at(&halt),
+        };
+        if u32::from(told) != persons || u32::from(anew.at(&halt)) != persons {
             return false;
         }
     }
@@ -165,13 +168,17 @@ fn change(
 }
 
 /// Whether a schedule that is changed this many times, by a fixed list of calls, stops and moves,
-/// is each time as from nothing. The building has ten floors.
+/// and that lists its halts after half of them, is each time as from nothing. The building has ten
+/// floors.
 fn are_as_from_nothing(building: &Building, count: u32, seed: &mut u32) -> bool {
     let mut rows: ArrayVec<Row, 32> = ArrayVec::new();
     let mut position = Position::default();
     let mut schedule = Schedule::new(position);
     for _ in 0..count {
         position = change(seed, &mut schedule, &mut rows).unwrap_or(position);
+        if next(seed) % 2 == 0 {
+            schedule.list_halts();
+        }
         let more = waiting_row(&next_call(seed));
         let call = next_call(seed);
         if schedule.position() != position

@@ -163,8 +163,8 @@ impl Trip {
     fn halts(&self, came: &mut Came) -> Option<()> {
         let halts = stop_list(&self.rows, self.position);
         let anew = schedule_with(self.position, &self.rows)?;
-        came.both_ways(self.schedule.halts() == halts.as_slice());
-        came.both_ways(anew.halts() == halts.as_slice());
+        came.both_ways(self.schedule.halts() == halts);
+        came.both_ways(anew.halts() == halts);
         came.halts(&halts);
         Some(())
     }

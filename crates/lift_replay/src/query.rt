@@ -111,7 +111,7 @@ fn push_stops(report: &mut String, view: &View, car: Letter) -> Result<(), NoMem
     push_letter(report, car)?;
     match view.schedule(car) {
         None => add(report, " unplaced")?,
-        Some(schedule) => push_halts(report, schedule.halts())?,
+        Some(schedule) => push_halts(report, &schedule.halts())?,
     }
     add_char(report, '\n')
 }

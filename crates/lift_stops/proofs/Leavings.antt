@@ -1,16 +1,16 @@
 -- A table of those who leave, with one call more.
-use Rattle.std.proofs.Common.{◌&&◌, All, ◌≡◌, ◌≢◌, ℕ, ◌+◌, ◌≤◌, ◌<◌, true, false, List, [], ◌∷◌, ◌++◌, length, get_or, sym, ap, ◌∙◌, arith, inl, inr, refl}
+use Rattle.std.proofs.Common.{◌&&◌, ◌≡◌, ◌≢◌, ℕ, ◌+◌, ◌≤◌, ◌<◌, true, false, List, [], ◌∷◌, ◌++◌, length, get_or, sym, ap, ◌∙◌, arith, inl, inr, refl}
 use Rattle.std.proofs.Math.ListN.{set, length-set}
 use Rattle.std.proofs.lemmas.Bool.{cases_Bool, eq-eqb}
 use Rattle.lift_base.specs.declared.travel.Pass.{Pass}
 use Rattle.lift_base.specs.declared.travel.Pass.TheVariants.{First, Second, Third}
 use Rattle.std.proofs.lemmas.List.{get_or-set_same, get_or-set_other, length_push}
-use Rattle.std.proofs.lemmas.List.Sums.{sum_by_push, sum_by-append, sum_by-cons, sum_by-le}
+use Rattle.std.proofs.lemmas.List.Sums.{sum_by_push}
 use Rattle.lift_base.specs.declared.travel.Position.{Position}
 use Rattle.lift_base.specs.declared.travel.Halt.{Halt}
 use Rattle.lift_base.specs.declared.history.Row.{Row}
 use Rattle.lift_stops.specs.StopList.{same_halt, same_pass, halt_at}
-use Rattle.lift_stops.specs.Leaving.{AreCounted, AreLeaving, HasParty, place_of, leaving_of, leaving_at}
+use Rattle.lift_stops.specs.Leaving.{AreLeaving, place_of, leaving_of, leaving_at}
 use Rattle.lift_stops.specs.lemmas.Leaving.{place_within, places_apart, same_place}
 
 pub same_halt-self : (halt : Halt) → same_halt halt halt ≡ true
@@ -57,47 +57,3 @@ one_leaves rows row position table place persons low few place-is persons-is lea
           ];
       limit = λ halt. omega (arith, sum_by_push (leaving_of position halt) rows row, leaving-most position halt row few, leaving.limit halt, length_push rows row);
     }
-
--- a call less
-pub one_less : (before behind : List Row) (row : Row) (position : Position) (table : List ℕ) (place persons : ℕ) → row.to < 64 → place ≡ place_of (halt_at position row row.to)
-    → persons + row.party ≡ get_or table place 0 → AreCounted (before ++ row ∷ behind) position table → AreCounted (before ++ behind) position (set table place persons)
-one_less before behind row position table place persons low place-is persons-is counted =
-    let goal : Halt = halt_at position row row.to in
-    let inside : place < length table = omega (arith, place-is, counted.size, place_within goal low) in
-    record {
-      size = length-set table place persons ∙ counted.size;
-      at_each = λ halt halt-low.
-          let whole = sum_by-append (leaving_of position halt) before (row ∷ behind) in
-          let first = sum_by-cons (leaving_of position halt) row behind in
-          let less = sum_by-append (leaving_of position halt) before behind in
-          let was : get_or table (place_of halt) 0 ≡ leaving_at (before ++ row ∷ behind) position halt = counted.at_each halt halt-low in
-          elim (cases_Bool (same_halt goal halt)) [
-            | inl here ↦
-                let at-place : place_of halt ≡ place = same_place goal halt here ∙ sym place-is in
-                let written : get_or (set table place persons) (place_of halt) 0 ≡ persons = ap (λ p. get_or (set table place persons) p 0) at-place ∙ get_or-set_same table place persons 0 inside in
-                let old : get_or table place 0 ≡ leaving_at (before ++ row ∷ behind) position halt = ap (λ p. get_or table p 0) (sym at-place) ∙ was in
-                omega (arith, whole, first, less, written, persons-is, old, leaving-here position halt row here)
-            | inr elsewhere ↦
-                let apart : place_of halt ≢ place = λ same. places_apart goal halt low halt-low elsewhere (same ∙ place-is) in
-                let kept : get_or (set table place persons) (place_of halt) 0 ≡ get_or table (place_of halt) 0 = get_or-set_other table place (place_of halt) persons 0 apart in
-                omega (arith, whole, first, less, kept, was, leaving-elsewhere position halt row elsewhere)
-          ];
-    }
-
--- the table has them all
-pub counted_here : (before behind : List Row) (row : Row) (position : Position) (table : List ℕ) → row.to < 64 → AreCounted (before ++ row ∷ behind) position table
-    → row.party ≤ get_or table (place_of (halt_at position row row.to)) 0
-counted_here before behind row position table low counted =
-    let goal : Halt = halt_at position row row.to in
-    omega (arith, counted.at_each goal low, sum_by-append (leaving_of position goal) before (row ∷ behind), sum_by-cons (leaving_of position goal) row behind, leaving-here position goal row (same_halt-self goal))
-
-pub leaving_counted : (rows : List Row) (position : Position) (table : List ℕ) → AreLeaving rows position table → AreCounted rows position table
-leaving_counted rows position table leaving = record { size = leaving.size; at_each = leaving.at_each }
-
--- of parties of 15 persons at most
-pub within_limit : (rows : List Row) (position : Position) (table : List ℕ) → All HasParty rows → AreCounted rows position table → AreLeaving rows position table
-within_limit rows position table parties counted = record {
-  size = counted.size;
-  at_each = counted.at_each;
-  limit = λ halt. omega (arith, sum_by-le (leaving_of position halt) 15 rows (λ k blank within. leaving-most position halt (get_or rows k blank) (parties k blank within).1));
-}

@@ -1,5 +1,5 @@
 -- Bits of a set, and the halts that they stand for.
-use Rattle.std.proofs.Common.{All, take, get_or, ◌≡◌, ◌≢◌, ℕ, zero, suc, ◌+◌, ◌-◌, ◌*◌, ◌^◌, ◌/◌, ◌%◌, min, ◌<◌, ◌≤◌, ◌==◌, ◌||◌, Bool, true, false, cond, List, [], ◌∷◌, ◌++◌, map, filter, length, refl, sym, ap, subst, ◌∙◌, arith, inl, inr}
+use Rattle.std.proofs.Common.{All, take, get_or, ◌≡◌, ◌≢◌, ℕ, zero, suc, ◌+◌, ◌-◌, ◌*◌, ◌^◌, ◌/◌, ◌%◌, min, ◌<◌, ◌≤◌, ◌==◌, ◌||◌, Bool, true, false, cond, None, Some, slice_get, List, [], ◌∷◌, ◌++◌, map, filter, length, refl, sym, ap, subst, ◌∙◌, arith, inl, inr}
 use Rattle.std.specs.Int.{bit_at, trailing_zeros, w64}
 use Rattle.std.specs.Int.Bits.{bit_xor}
 use Rattle.std.specs.Int.RustNames.{bit_or}
@@ -10,8 +10,9 @@ use Rattle.std.proofs.lemmas.Bool.{cases_eq, cases_lt, eq-eqb, ne_eqb}
 use Rattle.std.proofs.lemmas.Nat.Bits.{bit_at-zero, bit_at_set_same, bit_at_set_other, bit_at_lowest, bit_at-suc, bit_at_above, bit_at_and, bit_at_xor, bit_at-trailing_zeros}
 use Rattle.std.proofs.lemmas.Nat.{leading_top}
 use Rattle.std.specs.Int.Count.{count_leading_zeros}
-use Rattle.std.proofs.lemmas.List.{take_more, take_all}
+use Rattle.std.proofs.lemmas.List.{take_more, take_all, append-nil}
 use Rattle.std.proofs.lemmas.List.Elements.{filter_agree, filter-append}
+use Rattle.lift_base.specs.Travel.{reverse_of}
 use Rattle.lift_base.specs.declared.travel.Dir.{Dir}
 use Rattle.lift_base.specs.declared.travel.Dir.TheVariants.{Up, Down}
 use Rattle.lift_base.specs.declared.travel.Pass.{Pass}
@@ -241,6 +242,32 @@ marked-stops rows position marks has =
     rw (pass_marked rows position marks First has, pass_marked rows position marks Second has, pass_marked rows position marks Third has, ← filter-append needed one two) (sym (filter-append needed (one ++ two) three))
 
 -- ---- how many halts
+
+-- a pass without floors
+none_of_pass : (pass : Pass) (dir : Dir) (set : ℕ) → set ≡ 0 → halts_marked pass dir set ≡ []
+none_of_pass pass dir set none = ap (λ (xs : List ℕ). map (halt_on pass dir) xs) (ap (marked dir) none ∙ marked-none dir)
+
+-- the first halt is one of the first pass that has any
+pub first_of_second : (marks : Marks) (dir : Dir) (halt : Halt) → marks.first ≡ 0
+    → ((others : List Halt) → Some halt ≡ slice_get (halts_marked Second (reverse_of dir) marks.second ++ others) 0) → Some halt ≡ slice_get (all_marked marks dir) 0
+first_of_second marks dir halt none first =
+    first (halts_marked Third dir marks.third)
+    ∙ ap (λ (halts : List Halt). slice_get (halts ++ halts_marked Second (reverse_of dir) marks.second ++ halts_marked Third dir marks.third) 0) (sym (none_of_pass First dir marks.first none))
+
+after_two : (marks : Marks) (dir : Dir) → marks.first ≡ 0 → marks.second ≡ 0 → all_marked marks dir ≡ halts_marked Third dir marks.third
+after_two marks dir none no_second =
+    ap (λ (halts : List Halt). halts ++ halts_marked Second (reverse_of dir) marks.second ++ halts_marked Third dir marks.third) (none_of_pass First dir marks.first none)
+    ∙ ap (λ (halts : List Halt). halts ++ halts_marked Third dir marks.third) (none_of_pass Second (reverse_of dir) marks.second no_second)
+
+pub first_of_third : (marks : Marks) (dir : Dir) (halt : Halt) → marks.first ≡ 0 → marks.second ≡ 0
+    → ((others : List Halt) → Some halt ≡ slice_get (halts_marked Third dir marks.third ++ others) 0) → Some halt ≡ slice_get (all_marked marks dir) 0
+first_of_third marks dir halt none no_second first =
+    first []
+    ∙ ap (λ (halts : List Halt). slice_get halts 0) (append-nil (halts_marked Third dir marks.third) ∙ sym (after_two marks dir none no_second))
+
+pub first_of_none : (marks : Marks) (dir : Dir) → marks.first ≡ 0 → marks.second ≡ 0 → marks.third ≡ 0 → None ≡ slice_get (all_marked marks dir) 0
+first_of_none marks dir none no_second no_third =
+    ap (λ (halts : List Halt). slice_get halts 0) (sym (after_two marks dir none no_second ∙ none_of_pass Third dir marks.third no_third))
 
 few_legs : (row : Row) → length (legs_of row) ≤ 2
 few_legs row = either row.aboard row.from row.to

@@ -40,7 +40,7 @@ becomes_lent {X} f xs lent i x blank is within mapped =
     rw (is, now) (becomes f xs i x blank within mapped, omega (arith, within, length-set xs i x), omega (arith, length-set xs i x))
 
 -- what stands after the one that is taken out
-pub removed : {X : Type 0} (xs : List X) (i : ℕ) → remove xs i ≡ take i xs ++ drop (i + 1) xs
+removed : {X : Type 0} (xs : List X) (i : ℕ) → remove xs i ≡ take i xs ++ drop (i + 1) xs
 removed {X} xs i = sym (ap (λ (n : ℕ). take i xs ++ drop n xs) (add-one i))
 
 goes : {X : Type 0} (f : X → List X) (xs : List X) (i : ℕ) (blank : X) → i < length xs → [] ≡ f (get_or xs i blank) → mapped_from f xs i ≡ mapped_from f (remove xs i) i
@@ -57,14 +57,3 @@ goes {X} f xs i blank within is =
 pub goes_short : {X : Type 0} (f : X → List X) (xs : List X) (i : ℕ) (blank : X) → i < length xs → [] ≡ f (get_or xs i blank)
     → (mapped_from f xs i ≡ mapped_from f (remove xs i) i) × (i ≤ length (remove xs i)) × (length (remove xs i) ≤ length xs)
 goes_short f xs i blank within is = (goes f xs i blank within is, omega (arith, within, length-remove xs i within), omega (arith, length-remove xs i within))
-
--- a list is what is before a place, what is there, and what is after it
-pub cut_at : {X : Type 0} (xs : List X) (i : ℕ) (blank : X) → i < length xs → xs ≡ take i xs ++ (get_or xs i blank ∷ drop (i + 1) xs)
-cut_at {X} xs i blank within = sym (take-append-drop i xs) ∙ ap (λ (l : List X). take i xs ++ l) (drop_more xs i blank within)
-
-pub cut_at_written : {X : Type 0} (xs lent : List X) (i : ℕ) (x : X) → lent ≡ xs → i < length xs → refill (length xs) xs (set lent i x) ≡ (take i xs ++ x ∷ []) ++ drop (i + 1) xs
-cut_at_written {X} xs lent i x is within =
-    let now : refill (length xs) xs (set xs i x) ≡ set xs i x = take_at (set xs i x) (drop (length (set xs i x)) xs) (length xs) (length-set xs i x) in
-    rw (is, now) (sym (take-append-drop (i + 1) (set xs i x))
-    ∙ ap (λ (l : List X). l ++ drop (i + 1) (set xs i x)) (take_more_set xs i x within)
-    ∙ ap (λ (l : List X). (take i xs ++ x ∷ []) ++ l) (drop-set-lt (i + 1) xs i x (omega arith)))

@@ -1,5 +1,5 @@
 -- A stop where a car has no halt to make.
-use Rattle.std.proofs.Common.{◌≡◌, ℕ, zero, suc, ◌+◌, ◌<◌, ◌≤◌, ◌==◌, ◌&&◌, Bool, true, false, Some, List, [], ◌∷◌, All, length, get_or, slice_get, refl, sym, ap, ◌∙◌, arith, inl, inr}
+use Rattle.std.proofs.Common.{◌≡◌, ℕ, zero, suc, ◌+◌, ◌<◌, ◌≤◌, ◌==◌, ◌&&◌, Bool, true, false, cond, Some, List, [], ◌∷◌, All, length, get_or, slice_get, refl, sym, ap, subst, ◌∙◌, arith, inl, inr}
 use Rattle.std.specs.List.{flat_map, sum_by}
 use Rattle.std.proofs.lemmas.Bool.{eqb-true, le-leb, cases_Bool, and_parts}
 use Rattle.std.proofs.lemmas.List.Concat.{flat_map-cons}
@@ -23,7 +23,37 @@ use Rattle.lift_stops.specs.lemmas.Insertion.{Rises, IsIn, rank_of_member}
 use Rattle.lift_stops.specs.lemmas.Halts.{halt_at}
 use Rattle.lift_stops.proofs.Leavings.{same_halt-self, leaving-here}
 use Rattle.lift_stops.proofs.Kept.{own_halt, own_listed, own_low, low_rank, stops-rise}
-use Rattle.lift_stops.proofs.Served.{ahead_here, boards_first, still_waiting, here_in}
+
+-- the pass of a call from one floor to another, whose next leg is this one
+abbrev pass_to : Stop → (from to leg : ℕ) → Pass
+pass_to stop from to leg = cond (same_dir (dir_of from to) stop.dir) (cond (is_ahead stop.dir leg stop.floor) First Third) Second
+
+ahead_here : (dir : Dir) (floor other : ℕ) → floor ≡ other → is_ahead dir floor other ≡ true
+ahead_here Up floor other same = le-leb other floor (omega (arith, same))
+ahead_here Down floor other same = le-leb floor other (omega (arith, same))
+
+same_dirs : (a b : Dir) → same_dir a b ≡ true → b ≡ a
+same_dirs Up Up same = refl
+same_dirs Up Down same = absurd cc
+same_dirs Down Up same = absurd cc
+same_dirs Down Down same = refl
+
+same_dir-self : (dir : Dir) → same_dir dir dir ≡ true
+same_dir-self Up = refl
+same_dir-self Down = refl
+
+-- a call that boards here is made in the first pass
+boards_first : (stop : Stop) (from to leg : ℕ) → stop.floor ≡ from → same_dir stop.dir (dir_of from to) ≡ true → is_ahead (dir_of from to) leg stop.floor ≡ true → pass_to stop from to leg ≡ First
+boards_first stop from to leg here way ahead =
+    let dirs : dir_of from to ≡ stop.dir = same_dirs stop.dir (dir_of from to) way in
+    let on : is_ahead stop.dir leg stop.floor ≡ true = subst (λ (dir : Dir). is_ahead dir leg stop.floor ≡ true) dirs ahead in
+    rw (dirs, same_dir-self stop.dir, on) refl
+
+abbrev pub here_in : Pass → Stop → Halt
+here_in pass stop = record { pass = pass; floor = stop.floor }
+
+still_waiting : (row : Row) → row.aboard ≡ false → record row { aboard = false } ≡ row
+still_waiting row waits = ap (λ (a : Bool). record row { aboard = a }) (sym waits)
 
 -- the first halt isn't ahead of one of the first pass
 abbrev pub StartsBy : Dir → ℕ → List Halt → Type 0

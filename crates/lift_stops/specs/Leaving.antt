@@ -23,13 +23,7 @@ leaving_at rows position halt = sum_by (leaving_of position halt) rows
 abbrev pub HasParty : Row → Type 0
 HasParty row = (1 ≤ row.party) × (row.party ≤ 15)
 
--- A table tells at each halt's place how many persons leave there.
-pub record AreCounted (rows : List Row) (position : Position) (table : List ℕ) : Type 0 where
-  pub size : length table ≡ 192
-  pub at_each : (halt : Halt) → halt.floor < 64
-      → slice_index table (place_of halt) ≡ leaving_at rows position halt
-
--- The same, and these are at most 15 for each call.
+-- A table tells at each halt's place how many persons leave there: at most 15 of each call.
 pub record AreLeaving (rows : List Row) (position : Position) (table : List ℕ) : Type 0 where
   pub size : length table ≡ 192
   pub at_each : (halt : Halt) → halt.floor < 64

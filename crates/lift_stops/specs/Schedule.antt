@@ -1,5 +1,5 @@
 -- What a schedule stands for.
-use Rattle.std.specs.Prelude.{◌≡◌, ℕ, ◌≤◌, ◌*◌, List, All, length}
+use Rattle.std.specs.Prelude.{◌≡◌, ℕ, ◌≤◌, Bool, true, List, All, length}
 use Rattle.lift_base.specs.declared.travel.Halt.{Halt}
 use Rattle.lift_base.specs.declared.travel.Position.{Position}
 use Rattle.lift_base.specs.declared.travel.Stop.{Stop}
@@ -21,13 +21,17 @@ pub record KeepsPasses (rows : List Row) (position next : Position) : Type 0 whe
   pub dir : next.dir ≡ position.dir
   pub passes : All (λ row. pass_of next row ≡ pass_of position row) rows
 
--- The halts are the stop list of the calls, at most two for each, and the table tells how many
--- persons leave there. Each leg is a floor that a building may have.
-pub record IsPlanned (position : Position) (rows : List Row) (halts : List Halt)
+-- The halts are the stop list of the calls, and the table tells how many persons leave there. Each
+-- leg is a floor that a building may have.
+pub record AreListed (position : Position) (rows : List Row) (halts : List Halt)
     (table : List ℕ) : Type 0 where
   pub listed : halts ≡ stop_list rows position
-  pub short : length halts ≤ 2 * length rows
-  pub few : length rows ≤ 33
   pub floors : All HasFloors rows
   pub parties : All HasParty rows
   pub leaving : AreLeaving rows position table
+
+-- A car has at most 33 calls. Where it is listed, its halts and its table are those of the calls.
+pub record IsPlanned (position : Position) (rows : List Row) (is_listed : Bool) (halts : List Halt)
+    (table : List ℕ) : Type 0 where
+  pub few : length rows ≤ 33
+  pub listed : is_listed ≡ true → AreListed position rows halts table

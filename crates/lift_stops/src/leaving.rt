@@ -1,10 +1,10 @@
 //! How many persons leave a car at each of its halts.
 
-ghost use Rattle.std.specs.Prelude.{◌≡◌, ◌<◌, ◌≤◌, List, [], ◌∷◌, ◌++◌, length, slice_index};
+ghost use Rattle.std.specs.Prelude.{◌≡◌, ◌<◌, ◌≤◌, List, [], ◌∷◌, ◌++◌, All, length, slice_index};
 ghost use Rattle.lift_base.specs.declared.history.Row.{Row as RowValue};
 ghost use Rattle.lift_base.specs.declared.travel.Position.{Position as PositionValue};
 ghost use Rattle.lift_stops.specs.StopList.{halt_at, pass_of};
-ghost use Rattle.lift_stops.specs.Leaving.{AreCounted, AreLeaving, HasParty, leaving_at, place_of};
+ghost use Rattle.lift_stops.specs.Leaving.{AreLeaving, HasParty, leaving_at, place_of};
 
 use crate::stops::pass_of;
 use lift_base::{Halt, Pass, Position, Row};
@@ -67,21 +67,11 @@ impl Leaving {
         self.persons[place] = self.persons[place].wrapping_add(persons);
     }
 
-    /// Counts a call less, one of those of a car at this position.
-    pub(crate) fn remove(&mut self, position: &Position, row: &Row)
-        ensures { (before behind : List RowValue)
-            → AreCounted (before ++ row.now ∷ behind) position.now self.old
-            → AreCounted (before ++ behind) position.now self.new }
-    {
-        let place = goal_of(pass_of(row, *position), row);
-        let party = u16::from(row.party.get());
-        self.persons[place] = self.persons[place].saturating_sub(party);
-    }
-
     /// Who leaves where, of these calls of a car at this position, at most 33.
     pub fn of(rows: &[Row], position: &Position) -> Self
         requires { length rows.now ≤ 33 }
-        ensures { AreLeaving rows.now position.now result }
+        ensures leaving { AreLeaving rows.now position.now result }
+        ensures parties { All HasParty rows.now }
     {
         let mut leaving = Leaving::new();
         for row in rows {

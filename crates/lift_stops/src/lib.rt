@@ -7,5 +7,5 @@ mod schedule;
 mod stops;
 
 pub use leaving::Leaving;
-pub use schedule::Schedule;
+pub use schedule::{Listed, Schedule};
 pub use stops::{Split, next_stop, pass_of, split_at, stop_list, stop_of};

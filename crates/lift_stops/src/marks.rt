@@ -1,17 +1,16 @@
 //! A car's halts made from its open calls, by sets of bits.
 
 ghost use Rattle.std.specs.Prelude.{◌≡◌, ℕ, ◌+◌, ◌*◌, ◌<◌, ◌≤◌, ◌==◌, ◌||◌, List, [], ◌∷◌, ◌++◌, All};
-ghost use Rattle.std.specs.Prelude.{length, true, false};
+ghost use Rattle.std.specs.Prelude.{length, slice_get, Some, true, false};
 ghost use Rattle.std.specs.List.{list_any};
 ghost use Rattle.lift_base.specs.declared.travel.Position.{Position as PositionValue};
+ghost use Rattle.lift_base.specs.declared.travel.Halt.{Halt as HaltValue};
 ghost use Rattle.lift_base.specs.declared.history.Row.{Row as RowValue};
 ghost use Rattle.lift_stops.specs.Insertion.{floor_rank};
 ghost use Rattle.lift_stops.specs.StopList.{HasFloors, legs_of, pass_of, stop_list};
-ghost use Rattle.lift_stops.specs.Leaving.{AreLeaving};
 ghost use Rattle.lift_stops.specs.Marks.{HasHalts, has_bit, marked, halts_marked};
 ghost use Rattle.lift_stops.specs.Marks.{all_marked};
 
-use crate::leaving::Leaving;
 use crate::stops::pass_of;
 use arrayvec::ArrayVec;
 use lift_base::{Dir, Floor, Halt, MOST_HALTS, Pass, Position, Row};
@@ -22,19 +21,6 @@ struct Marks {
     first: u64,
     second: u64,
     third: u64,
-}
-
-/// How many floors a car that travels all of them in this direction reaches before this one.
-pub fn bit_of(dir: Dir, floor: Floor) -> u32
-    ensures place { result ≡ floor_rank dir floor }
-    ensures below { result < 64 }
-    ensures floor { floor < 64 }
-{
-    let number = u32::from(floor.get());
-    match dir {
-        Dir::Up => number,
-        Dir::Down => 63 - number,
-    }
 }
 
 /// The halt at this floor in a pass.
@@ -82,6 +68,16 @@ fn first_of(set: u64, dir: Dir) -> (u32, u64)
             (floor, set ^ (1 << floor))
         }
     }
+}
+
+/// The first halt of a pass in this direction.
+fn first_in(pass: Pass, dir: Dir, set: u64) -> Halt
+    requires { 0 < set }
+    ensures { (others : List HaltValue)
+        → Some result ≡ slice_get (halts_marked pass dir set ++ others) 0 }
+{
+    let (floor, _others) = first_of(set, dir);
+    halt_at(pass, floor)
 }
 
 /// Appends the halts of a pass in this direction, in the order of travel.
@@ -132,6 +128,21 @@ impl Marks {
         }
     }
 
+    /// The halt that a car in this direction makes first.
+    fn first_halt(&self, dir: Dir) -> Option<Halt>
+        ensures { result ≡ slice_get (all_marked self.now dir) 0 }
+    {
+        if self.first != 0 {
+            Some(first_in(Pass::First, dir, self.first))
+        } else if self.second != 0 {
+            Some(first_in(Pass::Second, dir.reverse(), self.second))
+        } else if self.third != 0 {
+            Some(first_in(Pass::Third, dir, self.third))
+        } else {
+            None
+        }
+    }
+
     /// Writes the halts of a car in this direction, in the order in which it makes them.
     fn write(&self, halts: &mut ArrayVec<Halt, MOST_HALTS>, dir: Dir)
         requires { length (all_marked self.now dir) ≤ 66 }
@@ -144,41 +155,32 @@ impl Marks {
     }
 }
 
-/// The halts that a car at this position needs for these calls. Those who leave there join a table
-/// in which nobody leaves.
-fn marks_of(rows: &[Row], position: &Position, leaving: &mut Leaving) -> Marks
-    requires few { length rows.now ≤ 33 }
-    requires nobody { AreLeaving [] position.now leaving.old }
+/// The halts that a car at this position needs for these calls.
+fn marks_of(rows: &[Row], position: &Position) -> Marks
     ensures marks { HasHalts rows.now position.now result }
-    ensures count { length (stop_list rows.now position.now) ≤ 2 * length rows.now }
     ensures floors { All HasFloors rows.now }
-    ensures leaving { AreLeaving rows.now position.now leaving.new }
 {
-    let Position { floor, dir } = *position;
     let mut marks = Marks::new();
     for row in rows {
-        let pass = pass_of(row, Position { floor, dir });
-        marks = marks.with(pass, row);
-        leaving.add(pass, row);
+        marks = marks.with(pass_of(row, *position), row);
     }
     marks
 }
 
+/// The halt that a car at this position makes first for these calls.
+pub fn first_halt(rows: &[Row], position: &Position) -> Option<Halt>
+    ensures { result ≡ slice_get (stop_list rows.now position.now) 0 }
+{
+    marks_of(rows, position).first_halt(position.dir)
+}
+
 /// Writes the halts that a car at this position still has to make for these calls, in the order in
-/// which it makes them, and who leaves there.
-pub fn write_halts(
-    halts: &mut ArrayVec<Halt, MOST_HALTS>,
-    leaving: &mut Leaving,
-    rows: &[Row],
-    position: &Position,
-)
+/// which it makes them.
+pub fn write_halts(halts: &mut ArrayVec<Halt, MOST_HALTS>, rows: &[Row], position: &Position)
     requires { length rows.now ≤ 33 }
     ensures halts { halts.new.items ≡ stop_list rows.now position.now }
     ensures count { length halts.new.items ≤ 2 * length rows.now }
     ensures floors { All HasFloors rows.now }
-    ensures leaving { AreLeaving rows.now position.now leaving.new }
 {
-    *leaving = Leaving::new();
-    let marks = marks_of(rows, position, leaving);
-    marks.write(halts, position.dir);
+    marks_of(rows, position).write(halts, position.dir);
 }

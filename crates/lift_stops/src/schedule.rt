@@ -1,7 +1,7 @@
 //! The stop list of a car, kept while its position and its calls change.
 
-ghost use Rattle.std.specs.Prelude.{◌≡◌, ◌≢◌, ◌+◌, ◌<◌, ◌≤◌, List, [], ◌∷◌, ◌++◌, length, Contains};
-ghost use Rattle.std.specs.Prelude.{All, IsTrue, Some, false, slice_get};
+ghost use Rattle.std.specs.Prelude.{◌≡◌, ◌≢◌, ◌+◌, ◌*◌, ◌<◌, ◌≤◌, List, [], ◌∷◌, ◌++◌, length, Contains};
+ghost use Rattle.std.specs.Prelude.{All, IfSome, IsTrue, Some, false, slice_get};
 ghost use Rattle.std.specs.List.{flat_map};
 ghost use Rattle.lift_base.specs.declared.history.Row.{Row as RowValue};
 ghost use Rattle.lift_base.specs.declared.travel.Halt.{Halt as HaltValue};
@@ -11,11 +11,11 @@ ghost use Rattle.lift_base.specs.History.{row_after};
 ghost use Rattle.lift_stops.specs.Parts.{AllDiffer};
 ghost use Rattle.lift_stops.specs.StopList.{HasFloors, StopsInOrder, is_ahead, stop_list, next_stop};
 ghost use Rattle.lift_stops.specs.Schedule.{KeepsPasses, position_after};
-ghost use Rattle.lift_stops.specs.Leaving.{AreCounted, AreLeaving, HasParty};
+ghost use Rattle.lift_stops.specs.Leaving.{AreLeaving, HasParty};
 
 use crate::leaving::Leaving;
 use crate::marks::write_halts;
-use crate::stops::{drop_halts, insert_row, is_ahead, pass_of, stop_of};
+use crate::stops::{insert_row, is_ahead, next_stop, pass_of, stop_list, stop_of};
 use arrayvec::ArrayVec;
 use lift_base::{Halt, MOST_HALTS, Pass, Position, Row, Stop, count_unchanged};
 use std::marker::Model;
@@ -30,16 +30,11 @@ fn copy_of(halts: &[Halt]) -> ArrayVec<Halt, MOST_HALTS>
 }
 
 /// Takes a stop into the calls of a car that is there: those that are open still stay in their
-/// order, and those who leave are counted no more. The answer is whether it changes any; the others
-/// aren't written.
-fn serve_rows(rows: &mut ArrayVec<Row, 33>, leaving: &mut Leaving, stop: &Stop) -> bool
+/// order. The answer is whether it changes any; the others aren't written.
+fn serve_rows(rows: &mut ArrayVec<Row, 33>, stop: &Stop) -> bool
     ensures rows { rows.new.items ≡ flat_map (row_after stop.now) rows.old.items }
-    ensures leaving { AreCounted rows.old.items (position_after stop.now) leaving.old
-        → AreCounted (flat_map (row_after stop.now) rows.old.items) (position_after stop.now)
-        leaving.new }
     ensures unchanged { result ≡ false → rows.new.items ≡ rows.old.items }
 {
-    let position = &position_at(stop);
     let mut index = count_unchanged(rows, stop);
     if index == rows.len() {
         return false;
@@ -50,7 +45,9 @@ fn serve_rows(rows: &mut ArrayVec<Row, 33>, leaving: &mut Leaving, stop: &Stop) 
                 rows[index] = row;
                 index += 1;
             }
-            None => leaving.remove(position, &rows.remove(index)),
+            None => {
+                let _gone = rows.remove(index);
+            }
         }
         index += count_unchanged(&rows[index..], stop);
     }
@@ -117,15 +114,25 @@ fn may_halt(halts: &[Halt], leaving: &Leaving, position: &Position) -> bool
     is_at_first(halts, position) || leaving.at(&turned) > 0
 }
 
-/// Where a car is, its open calls, the halts that it still has to make for them, and how many
-/// persons leave there. After any changes these are the halts of the stop list that is made from
-/// nothing.
+/// Where a car is, and its open calls. Where it is listed, also the halts that it still has to make
+/// for them, and how many persons leave there: after any changes those of the stop list that is
+/// made from nothing.
 #[derive(Drop)]
 pub struct Schedule {
     position: Position,
     rows: ArrayVec<Row, 33>,
+    is_listed: bool,
     halts: ArrayVec<Halt, MOST_HALTS>,
     leaving: Leaving,
+}
+
+/// A schedule's list of halts, and who leaves there.
+#[derive(Drop)]
+pub struct Listed<'s> {
+    /// The halts that the car still has to make, in the order in which it makes them.
+    pub halts: &'s [Halt],
+    /// How many persons leave at each halt.
+    pub leaving: &'s Leaving,
 }
 
 impl Model for Schedule {
@@ -135,7 +142,8 @@ impl Model for Schedule {
 
     ghost view = { λ s. record { position = s.position; rows = s.rows.items } };
 
-    ghost invariant = { λ s. IsPlanned s.position s.rows.items s.halts.items s.leaving };
+    ghost invariant = { λ s. IsPlanned s.position s.rows.items s.is_listed
+        s.halts.items s.leaving };
 }
 
 impl Schedule {
@@ -146,6 +154,7 @@ impl Schedule {
         Schedule {
             position,
             rows: ArrayVec::new(),
+            is_listed: false,
             halts: ArrayVec::new(),
             leaving: Leaving::new(),
         }
@@ -156,8 +165,10 @@ impl Schedule {
         requires { length self.old.rows ≤ 32 }
         ensures { self.new ≡ record self.old { rows = self.old.rows ++ row ∷ [] } }
     {
-        insert_row(&mut self.halts, &self.position, &row);
-        self.leaving.add(pass_of(&row, self.position), &row);
+        if self.is_listed {
+            insert_row(&mut self.halts, &self.position, &row);
+            self.leaving.add(pass_of(&row, self.position), &row);
+        }
         self.rows.push(row);
     }
 
@@ -181,47 +192,72 @@ impl Schedule {
           rows = flat_map (row_after stop.now) self.old.rows;
         } }
     {
-        if !may_halt(&self.halts, &self.leaving, &self.position) {
+        if self.is_listed && !may_halt(&self.halts, &self.leaving, &self.position) {
             return;
         }
-        if !serve_rows(&mut self.rows, &mut self.leaving, stop) {
-            return;
+        if serve_rows(&mut self.rows, stop) {
+            self.is_listed = false;
         }
-        drop_halts(&mut self.halts, &self.rows, &self.position);
     }
 
     /// The car reported where it is. Its calls stay as they are.
     pub fn replace_position(&mut self, position: Position)
         ensures { self.new ≡ record self.old { position = position } }
     {
-        if keeps_passes(&self.halts, &self.position, &position) {
-            self.position = position;
-        } else {
-            self.turn_to(&position);
+        if self.is_listed && !keeps_passes(&self.halts, &self.position, &position) {
+            self.is_listed = false;
         }
+        self.position = position;
     }
 
-    /// The car is at a position from which some of its calls may be made in another pass.
-    fn turn_to(&mut self, position: &Position)
-        ensures { self.new ≡ record self.old { position = position.now } }
+    /// Writes the list of halts and who leaves there, where they aren't those of the calls now. A
+    /// new call is then weighed without a look at the others.
+    pub fn list_halts(&mut self)
+        ensures { self.new ≡ self.old }
     {
-        write_halts(&mut self.halts, &mut self.leaving, &self.rows, position);
-        self.position = *position;
+        if self.is_listed {
+            return;
+        }
+        write_halts(&mut self.halts, &self.rows, &self.position);
+        self.leaving = Leaving::of(&self.rows, &self.position);
+        self.is_listed = true;
+    }
+
+    /// The list of halts and who leaves there, where they are those of the calls now.
+    pub fn listed(&self) -> Option<Listed<'_>>
+        ensures halts { IfSome result
+            (λ listed. listed.halts.now ≡ stop_list self.now.rows self.now.position) }
+        ensures limit { IfSome result (λ listed. length listed.halts.now ≤ 66) }
+        ensures leaving { IfSome result
+            (λ listed. AreLeaving self.now.rows self.now.position listed.leaving.now) }
+    {
+        if !self.is_listed {
+            return None;
+        }
+        Some(Listed {
+            halts: &self.halts,
+            leaving: &self.leaving,
+        })
     }
 
     /// The halts that the car still has to make, in the order in which it makes them.
-    pub fn halts(&self) -> &[Halt]
-        ensures halts { result.now ≡ stop_list self.now.rows self.now.position }
-        ensures limit { length result.now ≤ 66 }
+    pub fn halts(&self) -> ArrayVec<Halt, MOST_HALTS>
+        ensures halts { result.items ≡ stop_list self.now.rows self.now.position }
+        ensures limit { length result.items ≤ 66 }
+        ensures count { length result.items ≤ 2 * length self.now.rows }
         // No halt stands twice.
-        ensures differ { AllDiffer result.now }
+        ensures differ { AllDiffer result.items }
 
         // Wherever the car is, the halts of an open call stand in the list in the order in which
         // its passengers need them.
         ensures in_order { (row : RowValue) → Contains self.now.rows row → row.from ≢ row.to
             → StopsInOrder self.now.rows row }
     {
-        self.halts.as_slice()
+        if self.is_listed {
+            copy_of(&self.halts)
+        } else {
+            stop_list(&self.rows, self.position)
+        }
     }
 
     /// The halts with one call more.
@@ -229,23 +265,19 @@ impl Schedule {
         requires { length self.now.rows ≤ 32 }
         ensures { result.items ≡ stop_list (self.now.rows ++ row.now ∷ []) self.now.position }
     {
-        let mut halts = copy_of(&self.halts);
+        let mut halts = self.halts();
         insert_row(&mut halts, &self.position, row);
         halts
-    }
-
-    /// How many persons leave at each halt.
-    pub fn leaving(&self) -> &Leaving
-        ensures { AreLeaving self.now.rows self.now.position result.now }
-    {
-        &self.leaving
     }
 
     /// The stop that the car makes next.
     pub fn next_stop(&self) -> Option<Stop>
         ensures { result ≡ next_stop self.now.rows self.now.position }
     {
-        let first = self.halts().first()?;
+        if !self.is_listed {
+            return next_stop(&self.rows, self.position);
+        }
+        let first = self.halts.first()?;
         Some(stop_of(*first, self.position))
     }
 

@@ -1,8 +1,6 @@
 use Rattle.std.proofs.Common.{◌≡◌, ◌-◌, ◌≤◌, ◌++◌, length, take, drop}
 use Rattle.std.specs.List.{flat_map}
 use Rattle.lift_base.specs.History.{row_after}
-use Rattle.lift_stops.specs.Leaving.{AreCounted}
-use Rattle.lift_stops.specs.Schedule.{position_after}
 use Rattle.lift_stops.proofs.schedule.serve_rows.Given as goal
 
 abbrev pub invariant-loop-index : goal.invariant-loop-index
@@ -10,8 +8,6 @@ invariant-loop-index l = record {
   still_open : flat_map (row_after l.stop) l.initial.rows.items
       ≡ take l.index l.rows.items ++ flat_map (row_after l.stop) (drop l.index l.rows.items);
   within : l.index ≤ length l.rows.items;
-  counted : AreCounted l.initial.rows.items (position_after l.stop) l.initial.leaving
-      → AreCounted l.rows.items (position_after l.stop) l.leaving;
 }
 
 abbrev pub decreases-loop-index : goal.decreases-loop-index

@@ -2,17 +2,32 @@ use Rattle.std.proofs.Common.{sym, ◌∙◌}
 use Rattle.lift_stops.specs.Schedule.{KeepsPasses}
 use Rattle.lift_stops.proofs.Kept.{same_stops, same_table}
 use Rattle.lift_stops.proofs.schedule.Schedule.replace_position.Goals as goal
+use Rattle.lift_stops.proofs.schedule.Schedule.replace_position.Goals.{then-self+then-not-keeps_passes, else-self, else-self-via-then-self+else-not-keeps_passes, else-self-via-else-self}
 
 pub invariant_of-self : goal.invariant_of-self
 invariant_of-self c =
     let rows = c.self.inside.rows.items in
-    let planned = c.self.invariant in
-    let keeps : KeepsPasses rows c.self.inside.position c.args.position = c.keeps_passes.ensures rows (c.deref.ensures.0 ∙ planned.listed) planned.floors c.if-keeps_passes.true in
-    record {
-      listed = planned.listed ∙ sym (same_stops rows c.self.inside.position c.args.position keeps);
-      short = planned.short;
-      few = planned.few;
-      floors = planned.floors;
-      parties = planned.parties;
-      leaving = same_table rows c.self.inside.position c.args.position _ keeps planned.leaving;
-    }
+    elim c.if-self.branch [
+      | then-self+then-not-keeps_passes w ↦ rw w.self-inside-is (record {
+        few = c.self.invariant.few;
+        listed = λ is. absurd cc;
+      })
+      | else-self w ↦ elim w.else-self.branch [
+        | else-self-via-then-self+else-not-keeps_passes v ↦ rw w.self-inside-is (record {
+          few = c.self.invariant.few;
+          listed = λ is.
+              let listed = c.self.invariant.listed v.if-self.true in
+              let keeps : KeepsPasses rows c.self.inside.position c.args.position = v.keeps_passes.ensures rows (v.deref.ensures.0 ∙ listed.listed) listed.floors v.if-not-keeps_passes.false in
+              record {
+                listed = listed.listed ∙ sym (same_stops rows c.self.inside.position c.args.position keeps);
+                floors = listed.floors;
+                parties = listed.parties;
+                leaving = same_table rows c.self.inside.position c.args.position _ keeps listed.leaving;
+              };
+        })
+        | else-self-via-else-self v ↦ rw w.self-inside-is (record {
+          few = c.self.invariant.few;
+          listed = λ is. let clash = sym v.if-self.false ∙ is in absurd cc;
+        })
+      ]
+    ]
