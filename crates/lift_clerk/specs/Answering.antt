@@ -23,7 +23,7 @@ reply_told is_safe reply = if is_safe then reply else Unknown
 abbrev pub replies_told : Bool → List Answer → List Reply
 replies_told is_safe answers = map (λ (a : Answer). reply_told is_safe a.reply) answers
 
--- an ask is owed at each of these terminals of the desk, and none of them stands twice
+-- each of these terminals of the desk is owed an answer, and none of them stands twice
 abbrev pub AreOwed : List TableId → List ClerkPlace → List ℕ → Type 0
 AreOwed desk places [] = Unit {0}
 AreOwed desk places (t ∷ terminals) = (t < length desk) × Owes (view_at places t)

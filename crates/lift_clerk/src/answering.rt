@@ -10,7 +10,7 @@ use arrayvec::ArrayVec;
 use lift_base::{MOST_ENTRIES, Reply, Terminal};
 use lift_desk::{ClerkSeat, Desk};
 
-/// What a terminal is answered, once it is safe.
+/// What a terminal is to be answered where its batch is safe.
 #[derive(Clone, Copy, Default)]
 pub struct Answer {
     pub terminal: Terminal,
@@ -18,8 +18,7 @@ pub struct Answer {
 }
 
 impl Answer {
-    /// The reply as it is stored: where nothing is safe, it isn't known what becomes of the
-    /// command.
+    /// The reply as it is stored: Unknown where its batch isn't known to be safe.
     fn told(self, is_safe: bool) -> Reply
         ensures { result ≡ reply_told is_safe self.reply }
     {
@@ -27,8 +26,8 @@ impl Answer {
     }
 }
 
-/// Stores these answers, each to the ask that its terminal is owed: its reply where that is safe,
-/// else Unknown.
+/// Stores an answer for each of these terminals, to the last ask that was taken there: all the
+/// replies where the batch is safe, else Unknown for each.
 pub fn answer_all(
     desk: &Desk,
     seat: &mut ClerkSeat,

@@ -170,8 +170,8 @@ impl<D: Disk> Journal<D> {
         }
     }
 
-    /// Adds a batch after those that the journal holds. At `Ok` it is safe: from then on each crash
-    /// leaves an image that has it.
+    /// Adds a batch after those that the journal holds. At `Ok` it is safe: until the next append or
+    /// checkpoint each crash of an honest device leaves an image that has it.
     pub fn append(&mut self, batch: &ArrayVec<Record, MOST_ENTRIES>) -> Result<(), JournalFault>
         requires some { 1 ≤ length batch.now.items }
         requires lawful { All IsLawful batch.now.items }

@@ -166,12 +166,12 @@ impl<'b, D: Disk> Keeper<'b, D> {
         self.decider.decide(terminal, number, body, policy)
     }
 
-    /// Makes the batch safe, and begins another.
+    /// Makes the batch safe, and begins another. Where a call fails the batch stays, and is in doubt.
     pub fn commit(&mut self) -> Result<(), KeeperFault>
         // What a crash may leave at each moment of it, why it fails, and what stays.
         ensures commits { Commits
             D.state self.old.writer self.old.state.batch self.new.writer result }
-        // How many calls the device gets, and what a commit that it failed leaves.
+        // How many calls the device gets, and, where one failed, what the commit leaves.
         ensures calls { CommitCalls
             D.state self.old.writer (length self.old.state.batch) self.new.writer result }
         // What is safe at Ok is what it shows.

@@ -31,7 +31,7 @@ use Rattle.lift_clerk.specs.lemmas.Visiting.{taken-new}
 use Rattle.lift_clerk.specs.lemmas.Words.{asks_both, asks_count, answers_both, answers_long}
 use Rattle.lift_parts.specs.declared.taken.NotedCommand.{NotedCommand}
 use Rattle.lift_parts.specs.Batch.{AreBelow, commands_in}
-use Rattle.lift_parts.specs.Flusher.{Answered, LooksGive, noted_visit, looked_for, answers_in}
+use Rattle.lift_parts.specs.Flusher.{AnswersBatch, LooksGive, noted_visit, looked_for, answers_in}
 use Rattle.lift_parts.specs.lemmas.Settled.{at-each-terminal, length-looked_for, told_after}
 use Rattle.lift_parts.specs.Tie.{held_as}
 
@@ -116,7 +116,7 @@ module _ (is_safe : Bool) (j : ℕ) where
       (subst (λ (x : List Command × List Answer). Grown p.view (told_after is_safe t p.view) (t.command ∷ x.0) (answer_told is_safe t ∷ x.1))
       (λ i. (sym (no_asks j (commands_in batch) others) i, sym (none_told is_safe j batch others) i)) (own t p finds))
 
-pub grows : (is_safe : Bool) (places next : List ClerkPlace) (batch : List NotedCommand) → Answered is_safe places batch next → AreBelow (length places) (commands_in batch) → AreApart (commands_in batch)
+pub grows : (is_safe : Bool) (places next : List ClerkPlace) (batch : List NotedCommand) → AnswersBatch is_safe places batch next → AreBelow (length places) (commands_in batch) → AreApart (commands_in batch)
     → (length next ≡ length places) × ((j : ℕ) → Grown (view_at places j) (view_at next j) (here j batch) (told_here is_safe j batch))
 grows is_safe places next batch all below apart = (
   ap length all.stored ∙ length-answered is_safe (looked_for places batch) (answers_in batch) ∙ length-looked_for places batch,
@@ -178,7 +178,7 @@ module _ where
   as_long true batch = length-map batch (λ (t : NotedCommand). t.reply) ∙ sym (length-map batch (λ (t : NotedCommand). t.command))
   as_long false batch = length-map (commands_in batch) (λ (c : Command). Unknown)
 
-  pub answers_them : (is_safe : Bool) (places next : List ClerkPlace) (batch : List NotedCommand) → AreBelow (length places) (commands_in batch) → AreApart (commands_in batch) → Answered is_safe places batch next
+  pub answers_them : (is_safe : Bool) (places next : List ClerkPlace) (batch : List NotedCommand) → AreBelow (length places) (commands_in batch) → AreApart (commands_in batch) → AnswersBatch is_safe places batch next
       → Answers places next (commands_in batch) (replies_of is_safe batch)
   answers_them is_safe places next batch below apart k =
       let grown = (grows is_safe places next batch k below apart).1 in

@@ -38,7 +38,7 @@ use Rattle.lift_clerk.specs.lemmas.Keeps.{kept_now}
 use Rattle.lift_parts.specs.declared.counts.FlushCounts.{FlushCounts}
 use Rattle.lift_parts.specs.Batch.{BatchState, state_with_entries, AreBelow, commands_in, replies_in, entries_of_batches}
 use Rattle.lift_clerk.specs.lemmas.Asked.{not_both}
-use Rattle.lift_parts.specs.Flusher.{FlusherState, IsFlusher, IsEmptyTurn, IsBatchTurn, Answered}
+use Rattle.lift_parts.specs.Flusher.{FlusherState, IsFlusher, IsEmptyTurn, IsBatchTurn, AnswersBatch}
 use Rattle.lift_parts.specs.Turns.{NoFlush, OneFlush}
 use Rattle.lift_parts.specs.History.{group_after, held_in, Adds, GoesOnTo, FlushStands, FlushesStand, TurnsGoOn, SplitsGoOn, JoinedGoOn}
 use Rattle.lift_parts.specs.Past.{flush_events, FlushLeadsOn, FlushesLeadOn, SplitsKeepPasts, JoinedKeepPasts}
@@ -195,7 +195,7 @@ module _ {D : Type 0} (state : D → DiskState) (crashes : CrashesKeep D) (law :
       answers : (is_safe : Bool) → is_ok answer ≡ is_safe → Answers f.seat g.seat cs (replies_of is_safe batch.commands)
       answers is_safe e =
           answers_them is_safe f.seat g.seat batch.commands (subst (λ (n : ℕ). AreBelow n cs) seats t.at_desk) t.apart
-          (subst (λ (b : Bool). Answered b f.seat batch.commands g.seat) e t.answered)
+          (subst (λ (b : Bool). AnswersBatch b f.seat batch.commands g.seat) e t.answered)
 
       shows : f.writer.is_broken ≡ false → batch.after.register ≡ register_of register batch.entries
       shows whole =

@@ -29,7 +29,7 @@ use Rattle.lift_parts.specs.declared.counts.FlushCounts.{FlushCounts}
 use Rattle.lift_parts.specs.Batch.{BatchState, AreBelow, commands_in, entries_of_batches}
 use Rattle.lift_parts.specs.Line.{ReceivesOne}
 use Rattle.lift_parts.specs.Allocator.{AllocatorState}
-use Rattle.lift_parts.specs.Flusher.{FlusherState, Answered}
+use Rattle.lift_parts.specs.Flusher.{FlusherState, AnswersBatch}
 use Rattle.lift_parts.specs.Laws.{RelayLaws}
 use Rattle.lift_parts.specs.Tie.{held_as, command_of, queued_in, on_way, AreQueued, AreDecided, ShowsBoth, RunsWhole, RunsBroken, IsRelayOf, LeadsOn, ReceivesSent, all_found, Flushes, FlushFails, FlushesBroken, FlushesAreFlushes, FailedFlushesAreFailures, BrokenFlushesAreBroken}
 use Rattle.lift_parts.proofs.Tied.{order, reaches}
@@ -88,7 +88,7 @@ module _ {D P : Type 0} (laws : RelayLaws) (w : World) (a : AllocatorState P) (f
   line_is = sent.1
 
   -- the words, once the commands are answered
-  module _ (is_safe : Bool) (answered : Answered is_safe f.seat batch.commands g.seat) (apart : AreApart (commands_in batch.commands)) (end : World) (asked : end.asked ≡ w.asked) (queue : end.queue ≡ first.qs)
+  module _ (is_safe : Bool) (answered : AnswersBatch is_safe f.seat batch.commands g.seat) (apart : AreApart (commands_in batch.commands)) (end : World) (asked : end.asked ≡ w.asked) (queue : end.queue ≡ first.qs)
       (answers : end.answered ≡ w.answered ++ map (answer_told is_safe) batch.commands) where
     grown : (length g.seat ≡ length f.seat) × ((j : ℕ) → Grown (view_at f.seat j) (view_at g.seat j) (here j batch.commands) (told_here is_safe j batch.commands))
     grown = grows is_safe f.seat g.seat batch.commands answered first.under apart

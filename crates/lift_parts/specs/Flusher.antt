@@ -1,10 +1,10 @@
 -- The part that makes batches safe and answers.
 use Rattle.std.specs.Prelude.{ℕ, ◌≡◌, ◌≢◌, ◌≤◌, Bool, true, false, List, [], ◌∷◌, length, drop, map}
-use Rattle.std.specs.Prelude.{slice_index_or, Some, Result, Ok, Err, is_ok}
+use Rattle.std.specs.Prelude.{slice_index_or, Some, Result, Ok, Err, is_ok, All}
 use Rattle.std.specs.List.{AllByRecursion}
 use Rattle.atomic_table.specs.Seated.{TableId}
 use Rattle.lift_base.specs.declared.history.Entry.{Entry}
-use Rattle.lift_desk.specs.Words.{turn_of, last_of}
+use Rattle.lift_desk.specs.Words.{turn_of, last_of, IsReply}
 use Rattle.lift_desk.specs.Steps.{with_taking}
 use Rattle.lift_desk.specs.Seats.{ClerkPlace, IsClerkOf, no_place, view_at, clerk_with, Owes}
 use Rattle.lift_journal.specs.declared.fault.JournalFault.TheVariants.{Disk, Broken}
@@ -12,7 +12,7 @@ use Rattle.lift_keeper.specs.declared.fault.KeeperFault.{KeeperFault}
 use Rattle.lift_keeper.specs.declared.fault.KeeperFault.TheVariants.{Journal}
 use Rattle.lift_keeper.specs.Writer.{WriterView}
 use Rattle.lift_clerk.specs.declared.answering.Answer.{Answer}
-use Rattle.lift_clerk.specs.Answering.{with_answers}
+use Rattle.lift_clerk.specs.Answering.{with_answers, replies_told}
 use Rattle.lift_clerk.specs.Visits.{Visit, FindsAt}
 use Rattle.lift_parts.specs.declared.taken.NotedCommand.{NotedCommand}
 use Rattle.lift_parts.specs.declared.counts.FlushCounts.{FlushCounts}
@@ -44,7 +44,7 @@ pub record IsFlusher {D : Type 0} (f : FlusherState D) : Type 0 where
   pub safe : f.writer.is_broken ≡ false → f.writer.register ≡ f.end.state.register
   pub all_answered : AllAnsweredBy f.seat f.end.turns
 
--- the look that a command's note asks for: it reads the word that the note says, and gives the
+-- the look that finds a command by its note: it reads the word that the note says, and gives the
 -- command
 abbrev pub noted_visit : NotedCommand → Visit
 noted_visit taken = record { word = taken.note.word; found = Some (ask_of taken.command) }
@@ -65,20 +65,21 @@ abbrev pub answers_in : List NotedCommand → List Answer
 answers_in taken =
     map (λ (t : NotedCommand). record { terminal = t.command.terminal; reply = t.reply }) taken
 
--- The terminal of each command was looked at once, the look read the word that the note says and gave
--- the command, and the command's answer was stored: its reply where that is safe, else Unknown; and
--- nothing else.
-pub record Answered (is_safe : Bool) (places : List ClerkPlace) (batch : List NotedCommand)
+-- Each command's terminal was looked at once; the look read the word that the note says, and gave the
+-- command. Then its answer was stored there: all replies where the batch is safe, else Unknown for
+-- each; and each is one that a word can spell. Nothing else was looked at or stored.
+pub record AnswersBatch (is_safe : Bool) (places : List ClerkPlace) (batch : List NotedCommand)
     (next : List ClerkPlace) : Type 0 where
   pub finds : LooksGive places batch
   pub stored : next ≡ with_answers is_safe (looked_for places batch) (answers_in batch)
+  pub in_range : All IsReply (replies_told is_safe (answers_in batch))
 
 -- what was accepted of the batches that were received from one state of an end to another
 abbrev pub entries_received : ReceiveState → ReceiveState → List Entry
 entries_received old new = entries_of_batches (drop (length old.received) new.received)
 
--- A turn that received no batch. It tried once to, the line was empty at that try, and nothing else
--- changes.
+-- A turn that received no batch. It tried once to, and was refused: at some moment since its last
+-- pop the line was empty. Nothing else changes.
 pub record IsEmptyTurn {D : Type 0} (old new : FlusherState D)
     (result : Result FlushCounts KeeperFault) : Type 0 where
   pub was_empty : WasEmpty old.end
@@ -91,7 +92,7 @@ pub record IsEmptyTurn {D : Type 0} (old new : FlusherState D)
 pub record IsBatchTurn {D : Type 0} (old new : FlusherState D) (batch : BatchState)
     (result : Result FlushCounts KeeperFault) : Type 0 where
   pub receives : ReceivesOne old.end batch new.end
-  pub answered : Answered (is_ok result) old.seat batch.commands new.seat
+  pub answered : AnswersBatch (is_ok result) old.seat batch.commands new.seat
   pub counts : (counts : FlushCounts) → result ≡ Ok counts
       → (counts.batches ≡ 1) × (counts.answers ≡ length batch.commands)
   pub fails : result ≡ Err (Journal Disk)

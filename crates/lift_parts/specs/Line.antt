@@ -116,8 +116,8 @@ pub record ReceivesOne (old : ReceiveState) (batch : BatchState) (new : ReceiveS
   pub later : Begins old.known new.known
   pub tries : new.tries ≡ tried old.tries false
 
--- at one moment four of these batches were in the line, and at least what was received by the last
--- push had left it
+-- at one moment since this end's last push four of these batches were in the line, and at least what
+-- was received by that push had left it
 pub record WasFull (s : SendState) : Type 0 where
   pub items : List BatchState
   pub four : length items ≡ 4
@@ -125,13 +125,12 @@ pub record WasFull (s : SendState) : Type 0 where
   pub all : s.sent ≡ received ++ items
   pub later : Begins s.gone received
 
--- at one moment all that was sent, which is at least what was sent by the last pop, had left the
--- line
+-- at one moment since this end's last pop all that had been sent had left the line
 abbrev pub WasEmpty : ReceiveState → Type 0
 WasEmpty s = Begins s.known s.received
 
--- The end tried once more to send, and was refused, where the line was full: that try alone
--- changes anything.
+-- The end tried once more to send, and was refused: at some moment since its last push the line was
+-- full. That try alone changes anything.
 pub record FindsNoRoom (old new : SendState) : Type 0 where
   pub tries : new ≡ record old { tries = tried old.tries true }
   pub was_full : WasFull old

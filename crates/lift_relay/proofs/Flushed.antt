@@ -1,25 +1,25 @@
 -- What the looks and the answers of a flusher's turn come to.
 use Rattle.std.proofs.Common.{◌≡◌, ◌≢◌, ℕ, zero, suc, ◌+◌, ◌<◌, ◌≤◌, Bool, true, false, List, [], ◌∷◌, ◌++◌, length, get_or, Option, Some, refl, sym, ap, ◌∙◌, subst, arith, length-append}
-use Rattle.std.specs.Prelude.{nat_eq}
+use Rattle.std.specs.Prelude.{nat_eq, All}
 use Rattle.std.proofs.lemmas.Bool.Decides.{nat_tests}
 use Rattle.std.proofs.lemmas.List.{append_cancel_left, get_or-set_same, get_or-set_other, length-map}
 use Rattle.atomic_table.specs.Seated.{TableId}
 use Rattle.lift_desk.specs.declared.view.ClerkView.{ClerkView}
 use Rattle.lift_desk.specs.declared.words.Ask.{Ask}
-use Rattle.lift_desk.specs.Words.{turn_of, last_of, number_of, reply_word}
+use Rattle.lift_desk.specs.Words.{turn_of, last_of, number_of, reply_word, IsReply}
 use Rattle.lift_desk.specs.Steps.{with_taking}
 use Rattle.lift_desk.specs.Seats.{ClerkPlace, IsClerkOf, no_place, view_at, clerk_with, ahead_from, TakesOf, Owes, OwesNothing}
 use Rattle.lift_desk.specs.lemmas.Places.{view_at-here}
 use Rattle.lift_desk.specs.lemmas.WordLists.{last_of-push}
 use Rattle.lift_clerk.specs.declared.answering.Answer.{Answer}
-use Rattle.lift_clerk.specs.Answering.{AreOwed, terminals_in, reply_told, with_answers}
+use Rattle.lift_clerk.specs.Answering.{AreOwed, terminals_in, reply_told, replies_told, with_answers}
 use Rattle.lift_clerk.specs.Answered.{AreApart, AreOthers, ask_of}
 use Rattle.lift_clerk.specs.Visits.{Visit, FindsAt}
 use Rattle.lift_clerk.specs.lemmas.Visiting.{taken-new}
 use Rattle.lift_clerk.specs.lemmas.Looking.{Looked}
 use Rattle.lift_parts.specs.declared.taken.NotedCommand.{NotedCommand}
 use Rattle.lift_parts.specs.Batch.{AreBelow, commands_in, turns_of, turns_with, turns_after, IsNoted, AreNoted}
-use Rattle.lift_parts.specs.Flusher.{Answered, AllAnsweredBy, LooksGive, noted_visit, looked_for, answers_in}
+use Rattle.lift_parts.specs.Flusher.{AnswersBatch, AllAnsweredBy, LooksGive, noted_visit, looked_for, answers_in}
 use Rattle.lift_parts.specs.lemmas.Settled.{at-each-terminal, owed-after, told_after}
 use Rattle.lift_parts.specs.lemmas.Used.{is_below}
 use Rattle.lift_relay.specs.Settler.{AreDue}
@@ -122,7 +122,7 @@ below_seats desk tables places batch is seated below =
     subst (λ (n : ℕ). AreBelow n (commands_in batch)) (ap length (is ∙ sym seated) ∙ length-map places (λ (p : ClerkPlace). p.table)) below
 
 pub settled : (desk : List TableId) (is_safe : Bool) (places next : List ClerkPlace) (turns : List ℕ) (batch : List NotedCommand) → AreBelow (length places) (commands_in batch) → AreApart (commands_in batch)
-    → AreNoted desk turns batch → Answered is_safe places batch next → AllAnsweredBy places turns → AllAnsweredBy next (turns_after turns batch)
+    → AreNoted desk turns batch → AnswersBatch is_safe places batch next → AllAnsweredBy places turns → AllAnsweredBy next (turns_after turns batch)
 settled desk is_safe places next turns batch below apart noted answered was j =
     subst (λ (l : List ClerkPlace). (¬ Owes (view_at l j)) × (turn_of (last_of (view_at l j).taken) ≤ get_or (turns_after turns batch) j 0)) (sym answered.stored)
     (at-each-terminal is_safe j (Rests desk is_safe j) (λ p turns noted rests. rests) (skips desk is_safe j) (answers_own desk is_safe j) places batch below apart answered.finds turns noted (was j))
@@ -136,11 +136,12 @@ module _ (desk : List TableId) (places seat : List ClerkPlace) (batch items : Li
       subst (λ (x : List ClerkPlace × List Answer). AreOwed desk x.0 (terminals_in x.1)) (λ i. (sym looked i, sym told i))
       (owed-after desk places items many (subst (λ (l : List NotedCommand). AreBelow (length desk) (commands_in l)) (sym is) below) (subst (λ (l : List NotedCommand). AreApart (commands_in l)) (sym is) apart) found)
 
-  pub answered_them : (is_safe : Bool) (next : List ClerkPlace) → next ≡ with_answers is_safe seat answers → Answered is_safe places batch next
-  answered_them is_safe next stored = record {
+  pub answered_them : (is_safe : Bool) (next : List ClerkPlace) → next ≡ with_answers is_safe seat answers → All IsReply (replies_told is_safe answers) → AnswersBatch is_safe places batch next
+  answered_them is_safe next stored in_range = record {
     finds = subst (LooksGive places) is found;
     stored = stored ∙ ap (λ (x : List ClerkPlace × List Answer). with_answers is_safe x.0 x.1) (λ i. (looked i, told i))
         ∙ ap (λ (l : List NotedCommand). with_answers is_safe (looked_for places l) (answers_in l)) is;
+    in_range = subst (λ (l : List Answer). All IsReply (replies_told is_safe l)) (told ∙ ap answers_in is) in_range;
   }
 
   pub as_many : length answers ≡ length batch

@@ -11,7 +11,7 @@ use Rattle.lift_parts.specs.declared.counts.FlushCounts.{FlushCounts}
 use Rattle.lift_clerk.specs.Answered.{AreApart, ask_of}
 use Rattle.lift_parts.specs.declared.taken.NotedCommand.{NotedCommand}
 use Rattle.lift_parts.specs.Batch.{BatchState, IsDecided, AreBelow, commands_in, next_turns}
-use Rattle.lift_parts.specs.Flusher.{Answered, AllAnsweredBy}
+use Rattle.lift_parts.specs.Flusher.{AnswersBatch, AllAnsweredBy}
 
 pub record SettlerState (D : Type 0) : Type 0 where
   pub desk : List TableId
@@ -19,8 +19,8 @@ pub record SettlerState (D : Type 0) : Type 0 where
   pub seat : List ClerkPlace
   pub writer : WriterView D
 
--- each command is of a terminal of the desk, and its note says it: an ask there, after all that these
--- seats took
+-- each command is of a terminal of the desk; its note is of that terminal's table, and says the
+-- command's ask, which is later than all that these seats took there
 abbrev pub AreDue : List TableId → List ClerkPlace → List NotedCommand → Type 0
 AreDue desk seat commands = AllByRecursion (λ (t : NotedCommand).
     (t.command.terminal < length desk) × IsNoteOf desk t.command.terminal t.note
@@ -33,7 +33,7 @@ pub record SettlesBatch {D : Type 0} (state : D
     → DiskState) (old : SettlerState D) (batch : BatchState) (new : SettlerState D)
     (answer : Result FlushCounts KeeperFault) : Type 0 where
   pub commits : Commits state old.writer batch.entries new.writer answer
-  pub answered : Answered (is_ok answer) old.seat batch.commands new.seat
+  pub answered : AnswersBatch (is_ok answer) old.seat batch.commands new.seat
   pub counts : (counts : FlushCounts) → answer ≡ Ok counts
       → (counts.batches ≡ 1) × (counts.answers ≡ length batch.commands)
   -- where nothing has failed, what is safe is the register after the batch

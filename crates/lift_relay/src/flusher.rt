@@ -35,8 +35,8 @@ use std::marker::Model;
 use std::sync::Wait;
 
 /// Makes batches safe in the order in which they were sent, and answers them. Contracts see its
-/// desk's tables, its seats there, its writer and its end of the line. What waits has the end alone;
-/// the seats and the writer are its settler's. Only who has a `K` gets back the clerk that it is joined
+/// desk's tables, its seats there, its writer and its end of the line. Its own call, which may wait,
+/// has the end of the line alone; the seats and the writer are its settler's. Only who has a `K` gets back the clerk that it is joined
 /// to.
 #[derive(Drop)]
 pub struct Flusher<'d, 'b, D: Disk, K = Key> {
@@ -173,9 +173,9 @@ impl<'d, 'b, D: Disk, K> Flusher<'d, 'b, D, K> {
     }
 
     /// One turn: receives one batch, makes it safe, then looks once more at each of its commands'
-    /// terminals, and answers each command, which its look gives, with the batch's reply. After a
-    /// device fault it answers Unknown to that batch and all later ones. The witness is notified of
-    /// that fault in the call that never waits, by which the batch is settled.
+    /// terminals, finds just that command there, and answers it with the batch's reply. After a device
+    /// fault it answers Unknown to that batch and all later ones. The witness is notified of that fault
+    /// in the call that never waits, by which the batch is settled.
     ///
     /// `Journal(Disk)` where a call of the device failed, `Journal(Broken)` while it is broken,
     /// also where the line was empty.

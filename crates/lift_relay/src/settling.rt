@@ -52,8 +52,8 @@ impl<'d, 'b, D: Disk, K> Model for Settler<'d, 'b, D, K> {
     ghost invariant = { λ s. IsClerkOf s.desk.now s.seat };
 }
 
-/// Looks once at the terminal of each of these commands, which the look gives, as its note says. The
-/// answers that these looks are owed: each command's reply.
+/// Looks once at the terminal of each of these commands, and finds just that command there, as its
+/// note says. Gives the answers that these terminals are owed: each command's reply.
 fn look_again(
     desk: &Desk,
     seat: &mut ClerkSeat,
@@ -126,9 +126,9 @@ impl<'d, 'b, D: Disk, K> Settler<'d, 'b, D, K> {
         }
     }
 
-    /// Makes a batch safe, then looks once more at each of its commands' terminals, and answers each
-    /// command, which its look gives, with the batch's reply. After a device fault it answers Unknown
-    /// to that batch and all later ones. The witness is notified of that fault here.
+    /// Makes a batch safe, then looks once more at each of its commands' terminals, finds just that
+    /// command there, and answers it with the batch's reply. After a device fault it answers Unknown to
+    /// that batch and all later ones. The witness is notified of that fault here.
     ///
     /// `Journal(Disk)` where a call of the device failed, `Journal(Broken)` while it is broken.
     pub fn settle<V: Witness>(

@@ -17,7 +17,7 @@ use std::sync::atomic::{AtomicBool, AtomicU64, Ordering};
 use std::thread::Parker;
 use std::time::Duration;
 
-/// So many ms after the flusher took a batch in hand the next one is decided, where it isn't done
+/// So many ms after the flusher began on a batch the next one is decided, where it isn't done
 /// with it before.
 const AHEAD_MS: u64 = 1;
 
@@ -248,7 +248,7 @@ impl<'s> Pace<'s> {
             .saturating_add(batches)
     }
 
-    /// Waits until the flusher has one batch in hand at most.
+    /// Waits until the flusher has one batch to do at most.
     fn wait_for_room<R: Wait>(&self, rt: &R, sent: u64) {
         for _ in rt.forever() {
             if self.has_flushed_all_but(sent, 1) || !self.go_on() {
@@ -259,7 +259,7 @@ impl<'s> Pace<'s> {
     }
 
     /// Waits until as many have asked as were in the larger of the last two batches, or the flusher
-    /// has nothing in hand and one has asked, or for a while. A batch that is decided later is
+    /// has none to do and one has asked, or for a while. A batch that is decided later is
     /// fuller, and whoever is in it waits for one batch less.
     fn wait_for_asks<R: Wait>(&self, rt: &R, sent: u64) {
         let asks = &self.bells.asks;

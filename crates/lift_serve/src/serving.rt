@@ -63,7 +63,7 @@ pub struct ServingOutcome<'b, D: Disk + Drop, K: Drop, V: Witness + Drop> {
 }
 
 /// How long the accepting of connections rests where it failed, ms.
-const REST_MS: u64 = 10;
+const ACCEPT_REST_MS: u64 = 10;
 
 /// A connection's thread, after which the connection is counted as ended: it was attended to, or
 /// the shortage at that is noted.
@@ -96,7 +96,7 @@ fn accept_all<'s, 'd: 's, E, R: Threads + Wait + Clock + Sync>(
             if let Some(over) = shared.is_over(rt) {
                 return over;
             }
-            thread::sleep(rt, Duration::from_millis(REST_MS));
+            thread::sleep(rt, Duration::from_millis(ACCEPT_REST_MS));
             continue;
         };
         let (connection, awaited) = match shared.enter(rt, alloc, arrival) {
@@ -254,8 +254,8 @@ fn unserved<'b, D: Disk + Drop, K: Drop, V: Witness + Drop>(
 ///
 /// The keeper is held for whoever has a `K`. So nothing that waits here can call its device, or answer
 /// an ask, but by a turn of its group, each of which returns: whatever a serving waits for, and
-/// whether or not it ever ends, it has had such turns alone. A turn in which the device fails
-/// notifies the witness, and no other: also in a serving that never ends.
+/// whether or not it ever ends, it has had such turns alone. The turn in which the device first
+/// fails notifies the witness, and no other turn does: also in a serving that never ends.
 pub fn serve<'b, R, D, P, K, V>(
     rt: &R,
     alloc: Global,

@@ -22,7 +22,7 @@ pub record KeepsPasses (rows : List Row) (position next : Position) : Type 0 whe
   pub passes : All (λ row. pass_of next row ≡ pass_of position row) rows
 
 -- The halts are the stop list of the calls, and the table tells how many persons leave there. Each
--- leg is a floor that a building may have.
+-- leg is a floor that a building may have, and each party has 1 to 15 persons.
 pub record AreListed (position : Position) (rows : List Row) (halts : List Halt)
     (table : List ℕ) : Type 0 where
   pub listed : halts ≡ stop_list rows position
@@ -30,7 +30,7 @@ pub record AreListed (position : Position) (rows : List Row) (halts : List Halt)
   pub parties : All HasParty rows
   pub leaving : AreLeaving rows position table
 
--- A car has at most 33 calls. Where it is listed, its halts and its table are those of the calls.
+-- A car has at most 33 calls. Where its schedule is listed, halts and table are those of the calls.
 pub record IsPlanned (position : Position) (rows : List Row) (is_listed : Bool) (halts : List Halt)
     (table : List ℕ) : Type 0 where
   pub few : length rows ≤ 33

@@ -1,4 +1,4 @@
-//! The stop list of a car, kept while its position and its calls change.
+//! A car's position and open calls as they change, and the stop list of them where it is listed.
 
 ghost use Rattle.std.specs.Prelude.{◌≡◌, ◌≢◌, ◌+◌, ◌*◌, ◌<◌, ◌≤◌, List, [], ◌∷◌, ◌++◌, length, Contains};
 ghost use Rattle.std.specs.Prelude.{All, IfSome, IsTrue, Some, false, slice_get};
@@ -30,7 +30,8 @@ fn copy_of(halts: &[Halt]) -> ArrayVec<Halt, MOST_HALTS>
 }
 
 /// Takes a stop into the calls of a car that is there: those that are open still stay in their
-/// order. The answer is whether it changes any; the others aren't written.
+/// order. Where the answer is no, it changes none; where it is yes, only those that change are
+/// written.
 fn serve_rows(rows: &mut ArrayVec<Row, 33>, stop: &Stop) -> bool
     ensures rows { rows.new.items ≡ flat_map (row_after stop.now) rows.old.items }
     ensures unchanged { result ≡ false → rows.new.items ≡ rows.old.items }
@@ -66,7 +67,7 @@ fn position_at(stop: &Stop) -> Position
 
 /// Whether a car that goes from one position to another makes each of its calls in the pass in which
 /// it made it before, because it goes on in its direction and leaves no halt of its first pass
-/// after.
+/// behind. No is promised nothing.
 fn keeps_passes(halts: &[Halt], position: &Position, next: &Position) -> bool
     ensures { (rows : List RowValue) → halts.now ≡ stop_list rows position.now
         → All HasFloors rows → IsTrue result → KeepsPasses rows position.now next.now }
@@ -84,7 +85,8 @@ fn keeps_passes(halts: &[Halt], position: &Position, next: &Position) -> bool
     }
 }
 
-/// Whether the first halt is one of the first pass that a car at this position isn't short of.
+/// Whether a car at this position stands at its first halt, or is past it, where that is one of the
+/// first pass. Only a no promises anything.
 fn is_at_first(halts: &[Halt], position: &Position) -> bool
     ensures { result ≡ false → (halt : HaltValue) → slice_get halts.now 0 ≡ Some halt
         → halt.pass ≡ PassValue.First
@@ -114,9 +116,9 @@ fn may_halt(halts: &[Halt], leaving: &Leaving, position: &Position) -> bool
     is_at_first(halts, position) || leaving.at(&turned) > 0
 }
 
-/// Where a car is, and its open calls. Where it is listed, also the halts that it still has to make
-/// for them, and how many persons leave there: after any changes those of the stop list that is
-/// made from nothing.
+/// Where a car is, and its open calls. Where the schedule is listed, also the halts that the car
+/// still has to make for them, and how many persons leave there: after any changes those of the
+/// stop list that is made from nothing.
 #[derive(Drop)]
 pub struct Schedule {
     position: Position,
@@ -211,7 +213,8 @@ impl Schedule {
     }
 
     /// Writes the list of halts and who leaves there, where they aren't those of the calls now. A
-    /// new call is then weighed without a look at the others.
+    /// new call is then weighed without going through the others. (No clause says that it is listed
+    /// then.)
     pub fn list_halts(&mut self)
         ensures { self.new ≡ self.old }
     {
@@ -223,7 +226,7 @@ impl Schedule {
         self.is_listed = true;
     }
 
-    /// The list of halts and who leaves there, where they are those of the calls now.
+    /// The list of halts and who leaves there, where it is listed; none promises nothing.
     pub fn listed(&self) -> Option<Listed<'_>>
         ensures halts { IfSome result
             (λ listed. listed.halts.now ≡ stop_list self.now.rows self.now.position) }

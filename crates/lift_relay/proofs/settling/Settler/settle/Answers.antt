@@ -64,7 +64,7 @@ returns-in-Ok-clause-settles g c =
     let looked = c.look_again-answers.ensures in
     let answers = c.look_again-answers.result.items in
     let items = c.into_commands.result.items in
-    let answered = answered_them s.desk.now s.seat c.look_again-answers.new.seat batch.commands items answers taken.value looked.found looked.looked looked.answers true next c.answer_all.ensures.stored in
+    let answered = answered_them s.desk.now s.seat c.look_again-answers.new.seat batch.commands items answers taken.value looked.found looked.looked looked.answers true next c.answer_all.ensures.stored c.answer_all.ensures.in_range in
     let many = as_many s.desk.now s.seat c.look_again-answers.new.seat batch.commands items answers taken.value looked.found looked.looked looked.answers in
     subst (λ (v : SettlerState g.row.D.Denot). SettlesBatch state v batch new (Ok counts)) c.self.view_is (record {
       commits = made;
@@ -97,7 +97,7 @@ returns-in-Err-clause-settles g c =
     let looked = c.look_again-answers.ensures in
     let answers = c.look_again-answers.result.items in
     let items = c.into_commands.result.items in
-    let answered = answered_them s.desk.now s.seat c.look_again-answers.new.seat batch.commands items answers taken.value looked.found looked.looked looked.answers false next c.answer_all-in-Err.ensures.stored in
+    let answered = answered_them s.desk.now s.seat c.look_again-answers.new.seat batch.commands items answers taken.value looked.found looked.looked looked.answers false next c.answer_all-in-Err.ensures.stored c.answer_all-in-Err.ensures.in_range in
     subst (λ (v : SettlerState g.row.D.Denot). SettlesBatch state v batch new (Err fault)) c.self.view_is (record {
       commits = made;
       answered = answered;
