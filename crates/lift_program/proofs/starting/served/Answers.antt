@@ -1,4 +1,4 @@
-use Rattle.std.proofs.Common.{ℕ, Option, List}
+use Rattle.std.proofs.Common.{ℕ, Option}
 use Rattle.std.specs.declared.net.tcp.TcpListener.{TcpListener as Listener}
 use Rattle.lift_disk.specs.Below.{buffered_state_of}
 use Rattle.lift_disk.specs.Files.{sector_file_state_of}
@@ -24,7 +24,7 @@ returns-in-Ok-clause-end g c =
     let of = c.in-Ok.field-0.prepared in
     let serving = c.serve-serving.result in
     λ input words asks. served_end files gives input words before after (Serve a.image a.building a.port a.sessions a.policy) of.keeper of.listening c.in-Ok.field-0.port of.sessions of.policy serving.fault serving.left serving.end
-        asks c.in-Ok.ensures.ready c.in-Ok.ensures.said c.serve-serving.ensures.served
+    asks c.in-Ok.ensures.ready c.in-Ok.ensures.said c.serve-serving.ensures.served
 
 pub returns-in-Err-clause-end : goal.returns-in-Err-clause-end
 returns-in-Err-clause-end g c =

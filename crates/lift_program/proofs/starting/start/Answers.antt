@@ -1,10 +1,10 @@
-use Rattle.std.proofs.Common.{◌≡◌, ◌∙◌, ◌×◌, ℕ, List, Option, Some, Err, ap, map, subst, sym}
+use Rattle.std.proofs.Common.{◌≡◌, ◌∙◌, ℕ, Option, Some, Err, ap, map, subst, sym}
 use Rattle.std.specs.declared.net.tcp.TcpListener.{TcpListener as Listener}
 use Rattle.lift_base.specs.Output.{OutputState}
 use Rattle.lift_disk.specs.Below.{buffered_state_of}
 use Rattle.lift_disk.specs.Files.{sector_file_state_of}
 use Rattle.lift_program.specs.Images.{CommandFiles, IsTextRead, image_files}
-use Rattle.lift_program.specs.Ends.{EndOver, IsAnswered, IsEndOf, IsPassedOn, IsReportOfEnd, TellsLine, line_at_once, failed_for}
+use Rattle.lift_program.specs.Ends.{IsEndOf, IsPassedOn, IsReportOfEnd, TellsLine, line_at_once, failed_for}
 use Rattle.lift_program.specs.Listening.{local}
 use Rattle.lift_program.specs.Stages.{IsNoText}
 use Rattle.lift_program.specs.Output.{IsFlushed, WriterHasFailed}
