@@ -1,6 +1,6 @@
 -- What words come to.
 use Rattle.std.proofs.Common.{◌≡◌, ◌≢◌, ℕ, Option, List, false, refl, inl, inr, subst}
-use Rattle.std.specs.Prelude.{Result, Ok, Err, IfErr}
+use Rattle.std.specs.Prelude.{Result, Ok, Err, IfErr, IfOk}
 use Rattle.std.specs.declared.net.tcp.TcpListener.{TcpListener as Listener}
 use Rattle.clap.specs.Words.{Text}
 use Rattle.lift_keeper.specs.Keeper.{KeeperView}
@@ -11,7 +11,8 @@ use Rattle.lift_policy.specs.declared.policies.Shipped.{Shipped}
 use Rattle.lift_serve.specs.Open.{ServingEndState}
 use Rattle.lift_serve.specs.lemmas.Opened.{keeps_over}
 use Rattle.lift_program.proofs.Writing.{said_front}
-use Rattle.lift_program.specs.Ends.{AreReadyFor, EndOver, IsEndFor, IsEndOf, IsInputLeft, SaysPrefix, WritesFor}
+use Rattle.std.specs.Io.KnownBytes.{Appends}
+use Rattle.lift_program.specs.Ends.{EndOver, IsEndFor, IsEndOf, IsInputLeft, IsReadyFor, SaysPrefix, WritesFor, serving_text}
 use Rattle.lift_program.specs.Serving.{IsServedOver, IsServing}
 use Rattle.lift_program.specs.declared.fault.Fault.{Fault}
 use Rattle.lift_program.specs.declared.words.Request.TheVariants.{Replay, Format, Show, Serve}
@@ -66,21 +67,21 @@ asked_left files gives remaining words before after request result old new asks 
 }
 
 -- what is ready was read by a keeper that is whole
-pub ready_whole : (files : CommandFiles) (gives : ℕ → Option Listener → Type 0) (words : List Text) (before after : Option (List ℕ)) (keeper : KeeperView files.image.Served) (listener : Listener) (port sessions : ℕ) (policy : Shipped)
-    → AreReadyFor files gives words before after keeper listener port sessions policy → keeper.writer.is_broken ≡ false
-ready_whole files gives words before after keeper listener port sessions policy (Replay, asks, never, said) = absurd never
-ready_whole files gives words before after keeper listener port sessions policy (Format image building half, asks, never, said) = absurd never
-ready_whole files gives words before after keeper listener port sessions policy (Show image building, asks, never, said) = absurd never
-ready_whole files gives words before after keeper listener port sessions policy (Serve image building asked count named, asks, (at, many, by_policy, ready), said) = ready.has.whole
+pub ready_whole : (files : CommandFiles) (gives : ℕ → Option Listener → Type 0) (request : Request) (keeper : KeeperView files.image.Served) (listener : Listener) (port sessions : ℕ) (policy : Shipped)
+    → IsReadyFor files gives request keeper listener port sessions policy → keeper.writer.is_broken ≡ false
+ready_whole files gives Replay keeper listener port sessions policy never = absurd never
+ready_whole files gives (Format image building half) keeper listener port sessions policy never = absurd never
+ready_whole files gives (Show image building) keeper listener port sessions policy never = absurd never
+ready_whole files gives (Serve image building asked count named) keeper listener port sessions policy (at, many, by_policy, ready) = ready.has.whole
 
 -- what was ready was served
-pub served_end : (files : CommandFiles) (gives : ℕ → Option Listener → Type 0) (input : Option (List ℕ)) (words : List Text) (before after : Option (List ℕ)) (keeper : KeeperView files.image.Served) (listener : Listener) (port sessions : ℕ) (policy : Shipped)
-    (fault : Option Fault) (left : files.image.Served) (ending : ServingEndState) → AreReadyFor files gives words before after keeper listener port sessions policy
+pub served_end : (files : CommandFiles) (gives : ℕ → Option Listener → Type 0) (input : Option (List ℕ)) (words : List Text) (before after : Option (List ℕ)) (request : Request) (keeper : KeeperView files.image.Served) (listener : Listener) (port sessions : ℕ) (policy : Shipped)
+    (fault : Option Fault) (left : files.image.Served) (ending : ServingEndState) → AskForRequest words request → IsReadyFor files gives request keeper listener port sessions policy → Appends before after (serving_text port)
     → IsServedOver files.image.served_state policy listener sessions keeper fault left ending → IsEndOf files gives input words before after (Served port fault left ending)
-served_end files gives input words before after keeper listener port sessions policy fault left ending (Replay, asks, never, said) served = absurd never
-served_end files gives input words before after keeper listener port sessions policy fault left ending (Format image building half, asks, never, said) served = absurd never
-served_end files gives input words before after keeper listener port sessions policy fault left ending (Show image building, asks, never, said) served = absurd never
-served_end files gives input words before after keeper listener port sessions policy fault left ending (Serve image building asked count named, asks, (at, many, by_policy, ready), said) served =
+served_end files gives input words before after Replay keeper listener port sessions policy fault left ending asks never said served = absurd never
+served_end files gives input words before after (Format image building half) keeper listener port sessions policy fault left ending asks never said served = absurd never
+served_end files gives input words before after (Show image building) keeper listener port sessions policy fault left ending asks never said served = absurd never
+served_end files gives input words before after (Serve image building asked count named) keeper listener port sessions policy fault left ending asks (at, many, by_policy, ready) said served =
     let serving : IsServing files (gives asked) image.now building.now policy sessions fault left ending = record {
       keeper = keeper;
       listener = listener;
@@ -100,6 +101,16 @@ served_end files gives input words before after keeper listener port sessions po
       ),
       subst (λ (p : ℕ). SaysPrefix p before after) at (said_front port before after said),
     )
+
+-- words ask for what their request is
+pub asked_of : {T U : Type 0} (words : List Text) (request : Request) (result : Result T U) (of : T → Request) → AskForRequest words request → IfOk result (λ t. request ≡ of t) → IfOk result (λ t. AskForRequest words (of t))
+asked_of words request (Ok t) of asks same = subst (AskForRequest words) same asks
+asked_of words request (Err end) of asks same = tt
+
+-- words that ask for something are no other words
+pub no_other : (files : CommandFiles) (gives : ℕ → Option Listener → Type 0) (input : Option (List ℕ)) (words : List Text) (before after : Option (List ℕ)) (request : Request) (end : EndOver files) (unused : files.image.Opener) (P : Type 0) → AskForRequest words request
+    → IsEndOf files gives input words before after end → end ≡ OtherWords unused → P
+no_other files gives input words before after request end unused P asks is same = absurd ((subst (λ (e : EndOver files). IsEndOf files gives input words before after e) same is).0 request asks)
 
 -- what is so of all requests but a replay is so where the words ask for none
 pub no_replay : (words : List Text) (request : Request) (P : Type 0) → AskForRequest words request → (request ≢ Replay → P) → ¬ AskForRequest words Replay → P

@@ -426,16 +426,6 @@ IsEndOf files gives input words before after end =
     ⊎ ((request : Request) × AskForRequest words request × IsEndFor files gives request before after end
     × WritesFor files input request before after)
 
--- The words ask for a building to be served, all that this takes was had, and what was written says
--- that the port is served.
-abbrev pub AreReadyFor : (files : CommandFiles) → (gives : ℕ → Option Listener → Type 0) → List Text
-    → (before after : Option (List ℕ)) → KeeperView files.image.Served → Listener
-    → (port sessions : ℕ) → Shipped → Type 0
-AreReadyFor files gives words before after keeper listener port sessions policy =
-    (request : Request) × AskForRequest words request
-    × IsReadyFor files gives request keeper listener port sessions policy
-    × Appends before after (serving_text port)
-
 -- What was written of a fault: nothing of a building's, an image's, a journal's, or the port's.
 abbrev pub IsReportOfFault : Fault → (before after : Option (List ℕ)) → Type 0
 IsReportOfFault (Building fault) before after = after ≡ before

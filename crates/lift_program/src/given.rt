@@ -1,10 +1,12 @@
 //! What the program is given, and what its words come to before anything is served.
 
-ghost use Rattle.std.specs.Prelude.{◌≡◌, ◌≢◌, None, Some, Err, map, IfOk, IfErr, OnOk};
+ghost use Rattle.std.specs.Prelude.{◌≡◌, ◌≢◌, ℕ, List, Option, None, Some, Err, map, IfOk, IfErr};
+ghost use Rattle.std.specs.Prelude.{OnOk};
 ghost use Rattle.lift_program.specs.declared.fault.Role.TheVariants.{Output};
-ghost use Rattle.lift_program.specs.declared.words.Request.TheVariants.{Replay};
-ghost use Rattle.lift_program.specs.Ends.{AreReadyFor, IsAnswered, IsEndFor, IsEndOf, IsReadyFor};
-ghost use Rattle.lift_program.specs.Ends.{IsInputLeft, IsPassedOn, IsReportOfEnd, IsUncalled, WritesFor};
+ghost use Rattle.lift_program.specs.declared.words.Request.TheVariants.{Replay, Serve};
+ghost use Rattle.lift_program.specs.Ends.{IsAnswered, IsEndFor, IsEndOf, IsReadyFor};
+ghost use Rattle.lift_program.specs.Ends.{IsInputLeft, IsPassedOn, IsReportOfEnd, IsUncalled};
+ghost use Rattle.lift_program.specs.Ends.{SaysPrefix, WritesFor};
 ghost use Rattle.lift_program.specs.Ends.{line_at_once, serving_text, uncalled, failed_for};
 ghost use Rattle.lift_program.specs.Listening.{local};
 ghost use Rattle.lift_program.specs.Output.{IsFlushed, WriterHasFailed};
@@ -26,6 +28,7 @@ use crate::words::{Request, request_of};
 use lift_base::text::Counted;
 use lift_building::Building;
 use lift_disk::{BufferedFile, FileOpener};
+use lift_policy::Shipped;
 use std::alloc::Global;
 use std::convert::AsStr;
 use std::io::{Read, Write};
@@ -44,25 +47,35 @@ pub struct Given<'w, B, I, L, S, R, E> {
     told: PhantomData<E>,
 }
 
-/// Does what a request asks for of an image; but what is to be served is only made ready.
+/// What the words ask to be served, and what opens it, of which nothing was asked yet. It can't be let
+/// go: `made_ready` alone takes it. That a device fails is told to an `E`.
+pub(crate) struct ToServe<'w, B, I, L, E> {
+    openers: Openers<B, I, ForServing<L>>,
+    image: &'w str,
+    building: &'w str,
+    port: u16,
+    sessions: u32,
+    policy: Shipped,
+    told: PhantomData<E>,
+}
+
+/// Does what a request asks for of an image; but of what is to be served nothing is done.
 #[inline(never)]
-fn done<'b, B: TextOpener, I: FileOpener, L: Listens, R: Read + Drop, W: Outflow, E: Write + Drop>(
+#[tactic(auto, using(crate::proofs::Writing::nothing_said))]
+fn done<'w, B: TextOpener, I: FileOpener, L: Listens, R: Read + Drop, W: Outflow, E: Write + Drop>(
     openers: Openers<B, I, ForServing<L>>,
     alloc: Global,
-    place: &'b mut Option<Building>,
-    request: Request<'_>,
+    request: Request<'w>,
     input: &mut Counted<R>,
     writer: &mut W,
-) -> Result<Ready<'b, BufferedFile<I::Told>, E>, EndBy<I, I::Told>>
+) -> Result<ToServe<'w, B, I, L, E>, EndBy<I, I::Told>>
     requires range { IsRequestInRange request }
     requires image { request ≢ Replay }
     requires uncalled { IsUncalled input.old }
-    ensures ready { IfOk result (λ ready. IsReadyFor
-        (⟦<Files<B, I> as FilesView>⟧.view openers.files) (L.gives openers.socket local) request.entry
-        ready.prepared.keeper ready.prepared.listening ready.port ready.prepared.sessions
-        ready.prepared.policy) }
-    ensures said { IfOk result (λ ready.
-        Appends (W.contents writer.old) (W.contents writer.new) (serving_text ready.port)) }
+    ensures to_serve { IfOk result (λ asked. request.entry
+        ≡ Serve asked.image asked.building asked.port asked.sessions asked.policy) }
+    ensures openers { IfOk result (λ asked. asked.openers ≡ openers) }
+    ensures unsaid { OnOk result (writer.new ≡ writer.old) }
     ensures end { IfErr result (IsEndFor (⟦<Files<B, I> as FilesView>⟧.view openers.files)
         (L.gives openers.socket local) request.entry (W.contents writer.old)
         (W.contents writer.new)) }
@@ -71,7 +84,6 @@ fn done<'b, B: TextOpener, I: FileOpener, L: Listens, R: Read + Drop, W: Outflow
         (W.contents writer.new) }
     ensures report { IfErr result (λ end. IsReportOfEnd (R.remaining input.old.reader) end
         (W.contents writer.old) (W.contents writer.new)) }
-    ensures said_on { OnOk result (IsFlushed W.gives W.flushes writer.old writer.new) }
     ensures passed_on { IfErr result (λ end.
         IsPassedOn end (IsFlushed W.gives W.flushes writer.old writer.new)) }
     ensures left { IsInputLeft R.remaining (request.entry ≡ Replay) openers.files.image result
@@ -113,14 +125,69 @@ fn done<'b, B: TextOpener, I: FileOpener, L: Listens, R: Read + Drop, W: Outflow
             port,
             sessions,
             policy,
-        } => match ready_for(
+        } => Ok(ToServe {
+            openers,
+            image,
+            building,
+            port,
+            sessions,
+            policy,
+            told: PhantomData,
+        }),
+    }
+}
+
+impl<'w, B: TextOpener, I: FileOpener, L: Listens, E: Write + Drop> ToServe<'w, B, I, L, E> {
+    /// Has all that the serving takes, over a building that stands in `place`.
+    #[inline(never)]
+    pub(crate) fn made_ready<'b, W: Outflow>(
+        self,
+        alloc: Global,
+        place: &'b mut Option<Building>,
+        writer: &mut W,
+    ) -> Result<Ready<'b, BufferedFile<I::Told>, E>, EndBy<I, I::Told>>
+        ensures ready { IfOk result (λ ready. IsReadyFor
+            (⟦<Files<B, I> as FilesView>⟧.view self.entry.openers.files)
+            (L.gives self.entry.openers.socket local)
+            (Serve self.entry.image self.entry.building self.entry.port self.entry.sessions
+            self.entry.policy) ready.prepared.keeper ready.prepared.listening ready.port
+            ready.prepared.sessions ready.prepared.policy) }
+        ensures said { IfOk result (λ ready.
+            Appends (W.contents writer.old) (W.contents writer.new) (serving_text ready.port)) }
+        ensures end { IfErr result (IsEndFor
+            (⟦<Files<B, I> as FilesView>⟧.view self.entry.openers.files)
+            (L.gives self.entry.openers.socket local)
+            (Serve self.entry.image self.entry.building self.entry.port self.entry.sessions
+            self.entry.policy) (W.contents writer.old) (W.contents writer.new)) }
+        ensures only { SaysPrefix self.entry.port (W.contents writer.old) (W.contents writer.new) }
+        ensures report { IfErr result (λ end. (input : Option (List ℕ))
+            → IsReportOfEnd input end (W.contents writer.old) (W.contents writer.new)) }
+        // That the port is served was passed on, before it is.
+        ensures said_on { OnOk result (IsFlushed W.gives W.flushes writer.old writer.new) }
+        ensures passed_on { IfErr result (λ end.
+            IsPassedOn end (IsFlushed W.gives W.flushes writer.old writer.new)) }
+        // The standard output is the fault only where it failed.
+        ensures unwritten { IfErr result (λ end. failed_for end ≡ Some (Fault.File Output)
+            → WriterHasFailed W.gives W.flushes writer.old writer.new) }
+        ensures quiet { IfErr result (λ end. line_at_once end ≡ None) }
+    {
+        let ToServe {
+            openers,
+            image,
+            building,
+            port,
+            sessions,
+            policy,
+            told: _,
+        } = self;
+        match ready_for(
             openers, alloc, place, image, building, port, sessions, policy, writer,
         ) {
             Ok(ready) => Ok(ready),
             Err(Failure::NoBuilding(fault, unused)) => Err(End::Failed(fault, unused)),
             Err(Failure::NoImage(refused)) => Err(End::NoImage(refused.fault, refused.cause)),
             Err(Failure::Opened(fault, left)) => Err(End::Unserved(fault, left)),
-        },
+        }
     }
 }
 
@@ -149,24 +216,22 @@ impl<'w, B: TextOpener, I: FileOpener, L: Listens, S: AsStr, R: Read + Drop, E: 
         }
     }
 
-    /// Does what the words ask for, and answers how it ended; but what they ask to be served is only
-    /// made ready, over a building that stands in `place`. The input comes back as it was left, which
-    /// nobody reads any more.
+    /// Does what the words ask for, and answers how it ended; but of what they ask to be served
+    /// nothing is done. The input comes back as it was left, which nobody reads any more.
     #[inline(never)]
-    pub(crate) fn prepare<'b, W: Outflow>(
+    pub(crate) fn prepare<W: Outflow>(
         self,
         alloc: Global,
-        place: &'b mut Option<Building>,
         writer: &mut W,
     ) -> (
         Leftover<Counted<R>>,
-        Result<Ready<'b, BufferedFile<I::Told>, E>, EndBy<I, I::Told>>,
+        Result<ToServe<'w, B, I, L, E>, EndBy<I, I::Told>>,
     )
-        ensures ready { IfOk result.1 (λ ready. AreReadyFor
-            (⟦<Files<B, I> as FilesView>⟧.view self.entry.files)
-            (L.gives self.entry.socket local) (map S.text self.entry.words.now) (W.contents writer.old)
-            (W.contents writer.new) ready.prepared.keeper ready.prepared.listening ready.port
-            ready.prepared.sessions ready.prepared.policy) }
+        ensures to_serve { IfOk result.1 (λ asked. AskForRequest (map S.text self.entry.words.now)
+            (Serve asked.image asked.building asked.port asked.sessions asked.policy)) }
+        ensures openers { IfOk result.1 (λ asked. asked.openers
+            ≡ record { files = self.entry.files; socket = self.entry.socket }) }
+        ensures unsaid { OnOk result.1 (writer.new ≡ writer.old) }
         // It ends as the words ask, and nothing is written but a prefix of what they ask for.
         ensures end { IfErr result.1 (IsEndOf (⟦<Files<B, I> as FilesView>⟧.view self.entry.files)
             (L.gives self.entry.socket local) (R.remaining self.entry.reader)
@@ -174,11 +239,9 @@ impl<'w, B: TextOpener, I: FileOpener, L: Listens, S: AsStr, R: Read + Drop, E: 
         // A script's report is that of the input, and a journal's are its open calls.
         ensures report { IfErr result.1 (λ end. IsReportOfEnd (R.remaining self.entry.reader) end
             (W.contents writer.old) (W.contents writer.new)) }
-        // Where all was done it was passed on,
+        // Where all was done it was passed on.
         ensures passed_on { IfErr result.1 (λ end.
             IsPassedOn end (IsFlushed W.gives W.flushes writer.old writer.new)) }
-        // and that a port is served was, before it is.
-        ensures said_on { OnOk result.1 (IsFlushed W.gives W.flushes writer.old writer.new) }
         // Only a replay reads: nothing was read of a group that is to be served.
         ensures left { IsInputLeft R.remaining
             (AskForRequest (map S.text self.entry.words.now) Replay) self.entry.files.image result.1
@@ -212,7 +275,7 @@ impl<'w, B: TextOpener, I: FileOpener, L: Listens, S: AsStr, R: Read + Drop, E: 
                 (Leftover::new(input), Err(end))
             }
             Ok(Some(request)) => {
-                let outcome = done(openers, alloc, place, request, &mut input, writer);
+                let outcome = done(openers, alloc, request, &mut input, writer);
                 (Leftover::new(input), outcome)
             }
             Ok(None) => {

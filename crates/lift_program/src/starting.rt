@@ -1,16 +1,19 @@
 //! From the program's words to its end.
 
-ghost use Rattle.std.specs.Prelude.{◌≡◌, ◌≢◌, Some, map};
+ghost use Rattle.std.specs.Prelude.{◌≡◌, ◌≢◌, ℕ, List, Option, Some, map};
 ghost use Rattle.std.specs.IoError.{error_kind};
 ghost use Rattle.lift_program.specs.Ends.{IsAnswered, IsEndOf, IsReportOfEnd, TellsLine, line_of};
-ghost use Rattle.lift_program.specs.Ends.{IsPassedOn, failed_for};
+ghost use Rattle.lift_program.specs.Ends.{IsPassedOn, failed_for, line_at_once};
 ghost use Rattle.lift_program.specs.Listening.{local};
 ghost use Rattle.lift_program.specs.Output.{IsFlushed, WriterHasFailed};
+ghost use Rattle.lift_program.specs.Words.{AskForRequest};
 ghost use Rattle.lift_program.specs.declared.fault.Role.TheVariants.{Output};
+ghost use Rattle.lift_program.specs.declared.words.Request.TheVariants.{Serve};
+ghost use Rattle.clap.specs.Words.{Text};
 
 use crate::end::{End, EndBy};
 use crate::fault::Fault;
-use crate::given::Given;
+use crate::given::{Given, ToServe};
 use crate::leftover::Leftover;
 use crate::listening::Listens;
 use crate::opening::{Files, FilesView, TextOpener};
@@ -44,6 +47,46 @@ pub fn not_given<E: Write + Drop>(
     };
     end.tell(errors);
     end
+}
+
+/// Serves what the words ask to be served, once all that it takes was had, and answers how that ended.
+#[inline(never)]
+fn served<
+    F: Threads + Wait + Clock + Sync,
+    B: TextOpener,
+    I: FileOpener,
+    L: Listens,
+    W: Outflow,
+    E: Write + Drop,
+>(
+    rt: &F,
+    asked: ToServe<'_, B, I, L, E>,
+    alloc: Global,
+    writer: &mut W,
+    errors: &mut Watched<E>,
+) -> EndBy<I, I::Told>
+    ensures end { (input : Option (List ℕ)) → (words : List Text)
+        → AskForRequest words (Serve asked.entry.image asked.entry.building asked.entry.port
+        asked.entry.sessions asked.entry.policy)
+        → IsEndOf (⟦<Files<B, I> as FilesView>⟧.view asked.entry.openers.files)
+        (L.gives asked.entry.openers.socket local) input words (W.contents writer.old)
+        (W.contents writer.new) result }
+    ensures report { (input : Option (List ℕ))
+        → IsReportOfEnd input result (W.contents writer.old) (W.contents writer.new) }
+    ensures unwritten { failed_for result ≡ Some (Fault.File Output)
+        → WriterHasFailed W.gives W.flushes writer.old writer.new }
+    ensures passed_on { IsPassedOn result (IsFlushed W.gives W.flushes writer.old writer.new) }
+    // The line of a device that failed was written before the end, and no other.
+    ensures at_once { TellsLine E.contents (line_at_once result) errors.old errors.new }
+{
+    let mut place = None;
+    match asked.made_ready(alloc, &mut place, writer) {
+        Ok(Ready { port, prepared }) => {
+            let serving = serve(rt, alloc, prepared, errors);
+            End::Served(port, serving.fault, serving.left, serving.end)
+        }
+        Err(unserved) => unserved,
+    }
 }
 
 /// Does what the words after the program's name ask for, and answers how that ended, whose `status`
@@ -91,14 +134,10 @@ pub fn start<
     // and its line was written, and nothing else.
     ensures told { TellsLine E.contents (line_of result) errors.old errors.new }
 {
-    let mut place = None;
-    let (input, outcome) = given.prepare(alloc, &mut place, writer);
+    let (input, outcome) = given.prepare(alloc, writer);
     drop(input);
     let end = match outcome {
-        Ok(Ready { port, prepared }) => {
-            let serving = serve(rt, alloc, prepared, errors);
-            End::Served(port, serving.fault, serving.left, serving.end)
-        }
+        Ok(asked) => served(rt, asked, alloc, writer, errors),
         Err(end) => end,
     };
     end.tell(errors);

@@ -27,23 +27,8 @@ returns-in-Err-Opened-show-clause-only g c = rw c.in-Show.is c.in-Err-Opened-sho
 pub returns-in-Err-Opened-show-clause-end : goal.returns-in-Err-Opened-show-clause-end
 returns-in-Err-Opened-show-clause-end g c = rw c.in-Show.is (search rules)
 
-pub returns-in-Ok-ready_for-clause-ready : goal.returns-in-Ok-ready_for-clause-ready
-returns-in-Ok-ready_for-clause-ready g c =
-    rw c.in-Serve.is (c.in-Ok-ready_for.ensures.port, c.in-Ok-ready_for.ensures.sessions, c.in-Ok-ready_for.ensures.policy, c.in-Ok-ready_for.ensures.ready)
-
-pub returns-in-Err-Opened-ready_for-clause-end : goal.returns-in-Err-Opened-ready_for-clause-end
-returns-in-Err-Opened-ready_for-clause-end g c =
-    rw c.in-Serve.is (search rules, λ same. c.in-Err-Opened-ready_for.ensures.refused (ap (λ u. fault_in u) c.in-Err-Opened-ready_for.field-0-is ∙ same), search rules)
-
-pub returns-in-Err-Opened-ready_for-clause-unwritten : goal.returns-in-Err-Opened-ready_for-clause-unwritten
-returns-in-Err-Opened-ready_for-clause-unwritten g c =
-    λ is. c.in-Err-Opened-ready_for.ensures.failed (ap (λ u. fault_in u) c.in-Err-Opened-ready_for.field-0-is ∙ ap fault_there is)
-
 pub returns-in-Err-NoBuilding-clause-end : goal.returns-in-Err-NoBuilding-clause-end
 returns-in-Err-NoBuilding-clause-end g c = rw c.in-Format.is (search rules)
 
 pub returns-in-Err-NoBuilding-show-clause-end : goal.returns-in-Err-NoBuilding-show-clause-end
 returns-in-Err-NoBuilding-show-clause-end g c = rw c.in-Show.is (search rules)
-
-pub returns-in-Err-NoBuilding-ready_for-clause-end : goal.returns-in-Err-NoBuilding-ready_for-clause-end
-returns-in-Err-NoBuilding-ready_for-clause-end g c = rw c.in-Serve.is (search rules)

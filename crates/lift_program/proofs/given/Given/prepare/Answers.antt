@@ -9,11 +9,16 @@ use Rattle.lift_program.specs.Listening.{local}
 use Rattle.lift_program.specs.Stages.{IsNoText}
 use Rattle.lift_program.specs.Unwritten.{unwritten_state_of}
 use Rattle.lift_program.specs.Words.{AskForRequest}
-use Rattle.lift_program.specs.declared.words.Request.TheVariants.{Replay}
-use Rattle.lift_program.proofs.Asked.{asked_end, asked_ended, asked_left}
+use Rattle.lift_program.specs.declared.words.Request.TheVariants.{Replay, Serve}
+use Rattle.lift_program.proofs.Asked.{asked_end, asked_ended, asked_left, asked_of}
 use Rattle.lift_program.proofs.Writing.{report_front}
 use Rattle.lift_program.proofs.given.Given.prepare.Goals.{in-Ok, in-Err-replay}
 use Rattle.lift_program.proofs.given.Given.prepare.Goals as goal
+
+pub returns-in-Ok-Some-clause-to_serve : goal.returns-in-Ok-Some-clause-to_serve
+returns-in-Ok-Some-clause-to_serve g c =
+    asked_of (map g.S.AsStr.text c.args.self.words.now) c.in-Ok-Some.request c.done-outcome.result (λ asked. Serve asked.image asked.building asked.port asked.sessions asked.policy)
+    (rw c.in-Ok-Some.field-0-is at c.in-Ok-Some.ensures.asked) c.done-outcome.ensures.to_serve
 
 pub returns-in-Ok-Some-clause-end : goal.returns-in-Ok-Some-clause-end
 returns-in-Ok-Some-clause-end g c =
