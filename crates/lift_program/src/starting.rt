@@ -92,11 +92,11 @@ fn served<
 /// Does what the words after the program's name ask for, and answers how that ended, whose `status`
 /// is the program's: 0 where all was done, 1 for a bad script or a fault, 2 for other words. A
 /// fault writes its line to `errors`, and so do other words; where that fails, only the status says
-/// so. A request for help is answered by how the program is called. What opens the files and the socket is
-/// used up: nothing is opened twice, and no file or socket but these. Only a serving waits, once
-/// it has all that it takes: whatever it waits for, and whether or not it ever ends, nothing was
-/// opened but what the words asked for, and nothing is read of the standard input. One that ends has
-/// kept every letter over power cuts, if its file is an honest device.
+/// so. A request for help is answered by how the program is called. What opens the files and the
+/// socket is used up: nothing is opened twice, and no file or socket but these. Only a serving
+/// waits, once it has all that it takes: whatever it waits for, and whether or not it ever ends,
+/// nothing was opened but what the words asked for, and nothing is read of the standard input. One
+/// that ends has kept every letter over power cuts, if its file is an honest device.
 #[inline(never)]
 pub fn start<
     F: Threads + Wait + Clock + Sync,
