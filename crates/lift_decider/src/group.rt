@@ -83,8 +83,8 @@ impl Group {
         View::new(&self.register, &self.schedules)
     }
 
-    /// Each car's schedule lists its halts, so that a policy weighs a new call by them. (No clause says
-    /// that it does.)
+    /// Each car's schedule lists its halts, so that a policy weighs a new call by them. (No clause
+    /// says that it does.)
     pub fn list_halts(&mut self)
         ensures { self.new ≡ self.old }
     {

@@ -27,9 +27,9 @@ use std::marker::Model;
 use std::sync::Wait;
 
 /// Takes what terminals ask, decides it, and sends it on in batches, ahead of the answers. Its own
-/// call, which may wait, has the end and a batch; what takes and decides is its scanner's.
-/// Contracts see its desk's tables, its seats there, what it decides on, its end of the line, and a
-/// batch that the line had no room for.
+/// call, which may wait, has the end and a batch; what takes and decides is its scanner's. Contracts
+/// see its desk's tables, its seats there, what it decides on, its end of the line, and a batch that
+/// the line had no room for.
 #[derive(Drop)]
 pub struct Allocator<'d, 'b, P: Policy + Drop> {
     scanner: Scanner<'d, 'b, P>,

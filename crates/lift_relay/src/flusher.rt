@@ -36,8 +36,8 @@ use std::sync::Wait;
 
 /// Makes batches safe in the order in which they were sent, and answers them. Contracts see its
 /// desk's tables, its seats there, its writer and its end of the line. Its own call, which may wait,
-/// has the end of the line alone; the seats and the writer are its settler's. Only who has a `K` gets back the clerk that it is joined
-/// to.
+/// has the end of the line alone; the seats and the writer are its settler's. Only who has a `K`
+/// gets back the clerk that it is joined to.
 #[derive(Drop)]
 pub struct Flusher<'d, 'b, D: Disk, K = Key> {
     settler: Settler<'d, 'b, D, K>,
