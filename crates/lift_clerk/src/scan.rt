@@ -9,7 +9,7 @@ ghost use Rattle.lift_clerk.specs.Scanning.{ClerkScans, Decides};
 
 use crate::answering::Answer;
 use arrayvec::ArrayVec;
-use lift_base::{MOST_ENTRIES, Reply, Terminal};
+use lift_base::{MOST_ENTRIES, MOST_TERMINALS, Reply, Terminal};
 use lift_desk::{Ask, ClerkSeat, Desk};
 use lift_disk::Disk;
 use lift_keeper::Keeper;
@@ -40,7 +40,8 @@ pub fn scan_desk<T: Default + Drop, S: DeskScan<T>>(
     ensures { S.has_scanned desk.now scanner.old scanner.new found.new.items (length desk.now) }
 {
     found.clear();
-    for t in 0..desk.len() {
+    // (at most 63, so that the compiled loop tests no terminal's index)
+    for t in 0..desk.len().min(MOST_TERMINALS) {
         let terminal = Terminal::new(t as u8).unwrap();
         if let Some(item) = scanner.visit(desk, terminal) {
             found.push(item);
@@ -72,8 +73,6 @@ impl<'b, D: Disk, P: Policy + Drop> DeskScan<Answer> for ClerkParts<'b, D, P> {
 }
 
 /// Decides an ask by the rules. While the keeper is broken it isn't known what becomes of it.
-// (most terminals of a turn ask nothing: apart from their loop it leaves that its registers)
-#[inline(never)]
 fn decide<D: Disk, P: Policy>(
     keeper: &mut Keeper<'_, D>,
     policy: &P,

@@ -155,6 +155,8 @@ impl<'b> Decider<'b> {
 
     /// Decides a command: one decision of the rules, where this policy names the car of a new call.
     /// A new call or stop joins the batch, which must have room for it.
+    // (in its caller: a copy of a body waits for its bytes, which were just written one by one)
+    #[inline(always)]
     pub fn decide<P: Policy>(
         &mut self,
         terminal: Terminal,
@@ -168,11 +170,24 @@ impl<'b> Decider<'b> {
             body.now result self.new.state }
         ensures grows { length self.new.state.batch ≤ length self.old.state.batch + 1 }
     {
-        let command = &Command {
+        let command = Command {
             terminal,
             number,
             body: *body,
         };
+        self.carry_out(&command, policy)
+    }
+
+    /// One decision of the rules.
+    // (most terminals of a turn ask nothing: apart from their loop it leaves that its registers)
+    #[inline(never)]
+    fn carry_out<P: Policy>(&mut self, command: &Command, policy: &P) -> Reply
+        requires room { length self.old.state.batch < 63 }
+        ensures plan { self.new.plan ≡ self.old.plan }
+        ensures step { Step self.old.plan (P.chooses policy.now) self.old.state command.now.terminal
+            command.now.number command.now.body result self.new.state }
+        ensures grows { length self.new.state.batch ≤ length self.old.state.batch + 1 }
+    {
         match verdict_of(self.building, &self.group, command) {
             Verdict::Refused(reason) => Reply::Refused(reason),
             Verdict::Call(call, eligible) => {
@@ -180,7 +195,7 @@ impl<'b> Decider<'b> {
             }
             Verdict::RepeatedCall(car) => Reply::Car(car),
             Verdict::Stop(car, stop) => {
-                Reply::Stopped(self.group.serve(self.building, number, car, stop))
+                Reply::Stopped(self.group.serve(self.building, command.number, car, stop))
             }
             Verdict::RepeatedStop(car, position) => Reply::Stopped(self.group.stand(car, position)),
             Verdict::Place(car, position) => Reply::Placed(self.group.stand(car, position)),

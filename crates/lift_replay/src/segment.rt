@@ -1,8 +1,9 @@
 //! What a script does between two power cuts.
 
 ghost use Rattle.std.specs.Prelude.{◌≡◌, ◌≢◌, ◌<◌, ◌≤◌, List, ℕ, [], length, string_bytes, OnOk};
-ghost use Rattle.std.specs.Prelude.{OnErr, IfOk, ◌++◌, is_ok, if◌then◌else◌};
+ghost use Rattle.std.specs.Prelude.{OnErr, IfOk, ◌++◌};
 ghost use Rattle.lift_replay.specs.Group.{ScriptGroup, new_terminals};
+ghost use Rattle.lift_replay.specs.Lines.{LineTells};
 ghost use Rattle.lift_replay.specs.Report.{Reports, ReportsPart, cut_text};
 ghost use Rattle.lift_replay.specs.Running.{LinesEnd, SegmentEnds, TellsPart};
 ghost use Rattle.lift_replay.specs.Segment.{IfCut, IsPowerCut};
@@ -33,22 +34,35 @@ pub enum SegmentEnd<'b> {
     Cut(Keeper<'b, FuseDisk>),
 }
 
-/// Adds what a line reports to a piece of the report. Most lines report nothing.
-fn add_line(piece: &mut String, line: &str) -> Result<(), NoMemory>
-    ensures { string_bytes piece.new ≡ (if is_ok result
-        then string_bytes piece.old ++ line.now else string_bytes piece.old) }
+/// Carries out the line with this number, and adds what it reports to a piece of the report. Where
+/// a growth is refused nothing is left in the piece, so that no part of a line is written.
+#[inline(always)]
+fn add_line(
+    piece: &mut String,
+    station: &mut Station,
+    line: &str,
+    number: usize,
+) -> Result<Option<End>, NoMemory>
+    requires ready { AreReady station.old.terminals.seats.items station.old.clerk.seat }
+    ensures tells { IfOk result (λ end. (told : List ℕ)
+        × LineTells station.old.building.now station.old.clerk station.new.clerk
+        station.old.terminals.seats.items station.new.terminals.seats.items line.now number end
+        told
+        × (string_bytes piece.new ≡ string_bytes piece.old ++ told)) }
+    ensures building { station.new.building ≡ station.old.building }
+    ensures emptied { OnErr result (string_bytes piece.new ≡ []) }
 {
-    if line.is_empty() {
-        return Ok(());
+    let end = push_line(piece, station, line, number);
+    if end.is_err() {
+        piece.clear();
     }
-    add(piece, line)
+    end
 }
 
 /// Carries out lines up to a power cut or to the end of the run, and adds what each reports to a
 /// piece of the report, which is written once it is large enough. What is left in the piece is of
 /// whole lines.
 fn add_lines<W: Outlet>(
-    alloc: Global,
     station: &mut Station,
     lines: &mut Lines,
     piece: &mut String,
@@ -79,14 +93,11 @@ fn add_lines<W: Outlet>(
     ensures building { station.new.building ≡ station.old.building }
 {
     decisions_are_computed();
-    let mut report = String::new(alloc);
     for _ in 0..=lines.len() {
         let Some((number, line)) = lines.next() else {
             return Ok(End::Run(Verdict::Good));
         };
-        report.clear();
-        let end = push_line(&mut report, station, line, number)?;
-        add_line(piece, &report)?;
+        let end = add_line(piece, station, line, number)?;
         if let Some(end) = end {
             return Ok(end);
         }
@@ -156,7 +167,7 @@ pub fn add_segment<'b, W: Outlet>(
     let terminals = 16 + usize::from(building.kiosks());
     let DeskParts { desk, seats, clerk } = new_desk(alloc, terminals)?;
     let mut station = Station::new(building, keeper, &desk, seats, clerk);
-    match add_lines(alloc, &mut station, lines, piece, writer)? {
+    match add_lines(&mut station, lines, piece, writer)? {
         End::Run(verdict) => Ok(SegmentEnd::Run(verdict)),
         End::Cut(outcome) => {
             let keeper = station.cut(outcome);

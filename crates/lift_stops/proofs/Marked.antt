@@ -1,18 +1,19 @@
 -- Bits of a set, and the halts that they stand for.
-use Rattle.std.proofs.Common.{All, take, get_or, ◌≡◌, ◌≢◌, ℕ, zero, suc, ◌+◌, ◌-◌, ◌*◌, ◌^◌, ◌/◌, ◌%◌, min, ◌<◌, ◌≤◌, ◌==◌, ◌||◌, Bool, true, false, cond, None, Some, slice_get, List, [], ◌∷◌, ◌++◌, map, filter, length, refl, sym, ap, subst, ◌∙◌, arith, inl, inr}
+use Rattle.std.proofs.Common.{All, take, get_or, ◌⊎◌, ◌≡◌, ◌≢◌, ℕ, zero, suc, ◌+◌, ◌-◌, ◌*◌, ◌^◌, ◌/◌, ◌%◌, min, max, ◌<◌, ◌≤◌, ◌==◌, ◌&&◌, ◌||◌, Bool, true, false, cond, None, Some, slice_get, List, [], ◌∷◌, ◌++◌, map, filter, length, refl, sym, ap, subst, ◌∙◌, arith, inl, inr}
 use Rattle.std.specs.Int.{bit_at, trailing_zeros, w64}
 use Rattle.std.specs.Int.Bits.{bit_xor}
 use Rattle.std.specs.Int.RustNames.{bit_or}
 use lib.Bits.{bit_and}
-use Rattle.std.specs.List.{range_with_len}
+use Rattle.std.specs.List.{list_any, range_with_len}
 use Rattle.std.proofs.Math.Nat.{eq-or-lt_of_le, pow-suc}
 use Rattle.std.proofs.lemmas.Bool.{cases_eq, cases_lt, eq-eqb, ne_eqb}
-use Rattle.std.proofs.lemmas.Nat.Bits.{bit_at-zero, bit_at_set_same, bit_at_set_other, bit_at_lowest, bit_at-suc, bit_at_above, bit_at_and, bit_at_xor, bit_at-trailing_zeros}
+use Rattle.std.proofs.lemmas.Nat.Bits.{bit_at-zero, bit_at_set_same, bit_at_set_other, bit_at_lowest, bit_at-suc, bit_at_above, bit_at_and, bit_at_or, bit_at_xor, bit_at-lt, bit_at-trailing_zeros}
 use Rattle.std.proofs.lemmas.Nat.{leading_top}
 use Rattle.std.specs.Int.Count.{count_leading_zeros}
-use Rattle.std.proofs.lemmas.List.{take_more, take_all, append-nil}
+use Rattle.std.proofs.Math.ListN.{set}
+use Rattle.std.proofs.lemmas.List.{take_more, take_all, append-nil, get_or-set_same, get_or-set_other}
 use Rattle.std.proofs.lemmas.List.Elements.{filter_agree, filter-append}
-use Rattle.lift_base.specs.Travel.{reverse_of}
+use Rattle.lift_base.specs.Travel.{pass_number, reverse_of}
 use Rattle.lift_base.specs.declared.travel.Dir.{Dir}
 use Rattle.lift_base.specs.declared.travel.Dir.TheVariants.{Up, Down}
 use Rattle.lift_base.specs.declared.travel.Pass.{Pass}
@@ -22,10 +23,10 @@ use Rattle.lift_base.specs.declared.travel.Halt.{Halt}
 use Rattle.lift_base.specs.declared.history.Row.{Row}
 use Rattle.lift_stops.specs.declared.marks.Marks.{Marks}
 use Rattle.lift_stops.specs.Insertion.{floor_rank}
-use Rattle.lift_stops.specs.StopList.{HasFloors, legs_of, pass_of, dir_in, is_needed, floors_along, halts_in, stop_list}
+use Rattle.lift_stops.specs.StopList.{HasFloors, legs_of, pass_of, dir_in, is_needed, floors_along, halts_in, same_pass, stop_list}
 use Rattle.lift_stops.specs.Marks.{has_bit, places, marked, halt_on, halts_marked, all_marked, set_in, HasHalts}
 use Rattle.lift_stops.specs.lemmas.Insertion.{IsIn, filter-agree}
-use Rattle.lift_stops.specs.lemmas.Halts.{halt_at, or_false, stop_list-none, stop_list-push, length-put_legs}
+use Rattle.lift_stops.specs.lemmas.Halts.{halt_at, one_more, or_false, stop_list-none, stop_list-push, length-put_legs}
 
 -- ---- the lowest bit of a set
 
@@ -197,6 +198,56 @@ bit_joins set floor place below = elim (cases_eq floor place) [
       bit ∙ or_false (has_bit set place) ∙ ap (λ b. has_bit set place || b) (sym differs)
 ]
 
+-- the bits of two sets together
+pub or_joins : (set legs place : ℕ) → has_bit (bit_or set legs) place ≡ (has_bit set place || has_bit legs place)
+or_joins set legs place = ap (λ (b : ℕ). b == 1) (bit_at_or set legs place) ∙ either (bit_at set place) (bit_at legs place) (bit_at-lt set place) (bit_at-lt legs place)
+  where
+    either : (a b : ℕ) → a < 2 → b < 2 → (max a b == 1) ≡ (a == 1 || b == 1)
+    either zero zero _ _ = refl
+    either zero (suc zero) _ _ = refl
+    either (suc zero) zero _ _ = refl
+    either (suc zero) (suc zero) _ _ = refl
+    either (suc (suc a)) b low _ = absurd (omega (arith, low))
+    either zero (suc (suc b)) _ low = absurd (omega (arith, low))
+    either (suc zero) (suc (suc b)) _ low = absurd (omega (arith, low))
+
+-- two passes are one, or have sets of their own
+one_pass : (a b : Pass) → (a ≡ b × same_pass a b ≡ true) ⊎ (pass_number b - 1 ≢ pass_number a - 1 × same_pass a b ≡ false)
+one_pass First First = inl (refl, refl)
+one_pass Second Second = inl (refl, refl)
+one_pass Third Third = inl (refl, refl)
+one_pass First Second = inr ((λ same. omega (arith, same)), refl)
+one_pass First Third = inr ((λ same. omega (arith, same)), refl)
+one_pass Second First = inr ((λ same. omega (arith, same)), refl)
+one_pass Second Third = inr ((λ same. omega (arith, same)), refl)
+one_pass Third First = inr ((λ same. omega (arith, same)), refl)
+one_pass Third Second = inr ((λ same. omega (arith, same)), refl)
+
+-- what is marked with one call more
+pub one_joins : (rows : List Row) (row : Row) (position : Position) (pass of : Pass) (sets : List ℕ) (place legs floor : ℕ) → pass ≡ pass_of position row → place ≡ pass_number pass - 1 → place < length sets
+    → has_bit (get_or sets (pass_number of - 1) 0) floor ≡ is_needed rows position (halt_at of floor) → has_bit legs floor ≡ list_any (λ leg. leg == floor) (legs_of row)
+    → has_bit (get_or (set sets place (bit_or (get_or sets place 0) legs)) (pass_number of - 1) 0) floor ≡ is_needed (rows ++ row ∷ []) position (halt_at of floor)
+one_joins rows row position pass of sets place legs floor its place-is inside before needs =
+    let halt : Halt = halt_at of floor in
+    let own : Bool = list_any (λ leg. leg == floor) (legs_of row) in
+    let joined : ℕ = bit_or (get_or sets place 0) legs in
+    elim (one_pass pass of) [
+      | inl same ↦
+          let at : pass_number of - 1 ≡ place = ap (λ p. pass_number p - 1) (sym same.0) ∙ sym place-is in
+          let written : get_or (set sets place joined) (pass_number of - 1) 0 ≡ joined = ap (λ p. get_or (set sets place joined) p 0) at ∙ get_or-set_same sets place joined 0 inside in
+          let is : same_pass (pass_of position row) of ≡ true = ap (λ p. same_pass p of) (sym its) ∙ same.1 in
+          ap (λ s. has_bit s floor) written ∙ or_joins (get_or sets place 0) legs floor
+          ∙ ap (λ p. has_bit (get_or sets p 0) floor || has_bit legs floor) (sym at)
+          ∙ ap (λ b. b || has_bit legs floor) before ∙ ap (λ b. is_needed rows position halt || b) (needs ∙ ap (λ b. b && own) (sym is))
+          ∙ one_more rows row position halt
+      | inr other ↦
+          let apart : pass_number of - 1 ≢ place = λ same. other.0 (same ∙ place-is) in
+          let isnt : same_pass (pass_of position row) of ≡ false = ap (λ p. same_pass p of) (sym its) ∙ other.1 in
+          ap (λ s. has_bit s floor) (get_or-set_other sets place (pass_number of - 1) joined 0 apart) ∙ before
+          ∙ or_false (is_needed rows position halt) ∙ ap (λ b. is_needed rows position halt || b) (ap (λ b. b && own) (sym isnt))
+          ∙ one_more rows row position halt
+    ]
+
 -- ---- the halts that are marked
 
 filter_map : {X Y : Type 0} (p : Y → Bool) (f : X → Y) (xs : List X) → filter p (map f xs) ≡ map f (filter (λ x. p (f x)) xs)
@@ -248,26 +299,26 @@ none_of_pass : (pass : Pass) (dir : Dir) (set : ℕ) → set ≡ 0 → halts_mar
 none_of_pass pass dir set none = ap (λ (xs : List ℕ). map (halt_on pass dir) xs) (ap (marked dir) none ∙ marked-none dir)
 
 -- the first halt is one of the first pass that has any
-pub first_of_second : (marks : Marks) (dir : Dir) (halt : Halt) → marks.first ≡ 0
-    → ((others : List Halt) → Some halt ≡ slice_get (halts_marked Second (reverse_of dir) marks.second ++ others) 0) → Some halt ≡ slice_get (all_marked marks dir) 0
+pub first_of_second : (marks : Marks) (dir : Dir) (halt : Halt) → (set_in marks First) ≡ 0
+    → ((others : List Halt) → Some halt ≡ slice_get (halts_marked Second (reverse_of dir) (set_in marks Second) ++ others) 0) → Some halt ≡ slice_get (all_marked marks dir) 0
 first_of_second marks dir halt none first =
-    first (halts_marked Third dir marks.third)
-    ∙ ap (λ (halts : List Halt). slice_get (halts ++ halts_marked Second (reverse_of dir) marks.second ++ halts_marked Third dir marks.third) 0) (sym (none_of_pass First dir marks.first none))
+    first (halts_marked Third dir (set_in marks Third))
+    ∙ ap (λ (halts : List Halt). slice_get (halts ++ halts_marked Second (reverse_of dir) (set_in marks Second) ++ halts_marked Third dir (set_in marks Third)) 0) (sym (none_of_pass First dir (set_in marks First) none))
 
-after_two : (marks : Marks) (dir : Dir) → marks.first ≡ 0 → marks.second ≡ 0 → all_marked marks dir ≡ halts_marked Third dir marks.third
+after_two : (marks : Marks) (dir : Dir) → (set_in marks First) ≡ 0 → (set_in marks Second) ≡ 0 → all_marked marks dir ≡ halts_marked Third dir (set_in marks Third)
 after_two marks dir none no_second =
-    ap (λ (halts : List Halt). halts ++ halts_marked Second (reverse_of dir) marks.second ++ halts_marked Third dir marks.third) (none_of_pass First dir marks.first none)
-    ∙ ap (λ (halts : List Halt). halts ++ halts_marked Third dir marks.third) (none_of_pass Second (reverse_of dir) marks.second no_second)
+    ap (λ (halts : List Halt). halts ++ halts_marked Second (reverse_of dir) (set_in marks Second) ++ halts_marked Third dir (set_in marks Third)) (none_of_pass First dir (set_in marks First) none)
+    ∙ ap (λ (halts : List Halt). halts ++ halts_marked Third dir (set_in marks Third)) (none_of_pass Second (reverse_of dir) (set_in marks Second) no_second)
 
-pub first_of_third : (marks : Marks) (dir : Dir) (halt : Halt) → marks.first ≡ 0 → marks.second ≡ 0
-    → ((others : List Halt) → Some halt ≡ slice_get (halts_marked Third dir marks.third ++ others) 0) → Some halt ≡ slice_get (all_marked marks dir) 0
+pub first_of_third : (marks : Marks) (dir : Dir) (halt : Halt) → (set_in marks First) ≡ 0 → (set_in marks Second) ≡ 0
+    → ((others : List Halt) → Some halt ≡ slice_get (halts_marked Third dir (set_in marks Third) ++ others) 0) → Some halt ≡ slice_get (all_marked marks dir) 0
 first_of_third marks dir halt none no_second first =
     first []
-    ∙ ap (λ (halts : List Halt). slice_get halts 0) (append-nil (halts_marked Third dir marks.third) ∙ sym (after_two marks dir none no_second))
+    ∙ ap (λ (halts : List Halt). slice_get halts 0) (append-nil (halts_marked Third dir (set_in marks Third)) ∙ sym (after_two marks dir none no_second))
 
-pub first_of_none : (marks : Marks) (dir : Dir) → marks.first ≡ 0 → marks.second ≡ 0 → marks.third ≡ 0 → None ≡ slice_get (all_marked marks dir) 0
+pub first_of_none : (marks : Marks) (dir : Dir) → (set_in marks First) ≡ 0 → (set_in marks Second) ≡ 0 → (set_in marks Third) ≡ 0 → None ≡ slice_get (all_marked marks dir) 0
 first_of_none marks dir none no_second no_third =
-    ap (λ (halts : List Halt). slice_get halts 0) (sym (after_two marks dir none no_second ∙ none_of_pass Third dir marks.third no_third))
+    ap (λ (halts : List Halt). slice_get halts 0) (sym (after_two marks dir none no_second ∙ none_of_pass Third dir (set_in marks Third) no_third))
 
 few_legs : (row : Row) → length (legs_of row) ≤ 2
 few_legs row = either row.aboard row.from row.to

@@ -1,8 +1,9 @@
 -- The halts of a car as bits, a number for each pass.
-use Rattle.std.specs.Prelude.{◌≡◌, ℕ, ◌<◌, ◌==◌, Bool, List, ◌++◌, map, filter}
+use Rattle.std.specs.Prelude.{◌≡◌, ℕ, ◌-◌, ◌<◌, ◌==◌, Bool, List, ◌++◌, map, filter}
+use Rattle.std.specs.Prelude.{length, slice_index}
 use Rattle.std.specs.Int.{bit_at}
 use Rattle.std.specs.List.{range_with_len}
-use Rattle.lift_base.specs.Travel.{reverse_of}
+use Rattle.lift_base.specs.Travel.{pass_number, reverse_of}
 use Rattle.lift_base.specs.declared.travel.Dir.{Dir}
 use Rattle.lift_base.specs.declared.travel.Pass.{Pass}
 use Rattle.lift_base.specs.declared.travel.Pass.TheVariants.{First, Second, Third}
@@ -33,20 +34,20 @@ halt_on pass dir place = record { pass = pass; floor = floor_rank dir place }
 abbrev pub halts_marked : Pass → Dir → ℕ → List Halt
 halts_marked pass dir set = map (halt_on pass dir) (marked dir set)
 
+-- the set of a pass
+abbrev pub set_in : Marks → Pass → ℕ
+set_in marks pass = slice_index marks.sets (pass_number pass - 1)
+
 -- the halts of all three passes of a car in this direction
 abbrev pub all_marked : Marks → Dir → List Halt
 all_marked marks dir =
-    halts_marked First dir marks.first
-    ++ halts_marked Second (reverse_of dir) marks.second ++ halts_marked Third dir marks.third
-
--- the set of a pass
-abbrev pub set_in : Marks → Pass → ℕ
-set_in marks First = marks.first
-set_in marks Second = marks.second
-set_in marks Third = marks.third
+    halts_marked First dir (set_in marks First)
+    ++ halts_marked Second (reverse_of dir) (set_in marks Second)
+    ++ halts_marked Third dir (set_in marks Third)
 
 -- Those halts are marked that some call needs.
 pub record HasHalts (rows : List Row) (position : Position) (marks : Marks) : Type 0 where
+  pub size : length marks.sets ≡ 3
   pub needed : (pass : Pass) (floor : ℕ) → floor < 64
       → has_bit (set_in marks pass) floor
       ≡ is_needed rows position (record { pass = pass; floor = floor })

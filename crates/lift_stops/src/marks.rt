@@ -1,26 +1,37 @@
 //! A car's halts made from its open calls, by sets of bits.
 
 ghost use Rattle.std.specs.Prelude.{◌≡◌, ℕ, ◌+◌, ◌*◌, ◌<◌, ◌≤◌, ◌==◌, ◌||◌, List, [], ◌∷◌, ◌++◌, All};
+ghost use Rattle.std.specs.Prelude.{◌-◌};
 ghost use Rattle.std.specs.Prelude.{length, slice_get, Some, true, false};
 ghost use Rattle.std.specs.List.{list_any};
 ghost use Rattle.lift_base.specs.declared.travel.Position.{Position as PositionValue};
 ghost use Rattle.lift_base.specs.declared.travel.Halt.{Halt as HaltValue};
 ghost use Rattle.lift_base.specs.declared.history.Row.{Row as RowValue};
+ghost use Rattle.lift_base.specs.Travel.{pass_number};
 ghost use Rattle.lift_stops.specs.Insertion.{floor_rank};
 ghost use Rattle.lift_stops.specs.StopList.{HasFloors, legs_of, pass_of, stop_list};
 ghost use Rattle.lift_stops.specs.Marks.{HasHalts, has_bit, marked, halts_marked};
 ghost use Rattle.lift_stops.specs.Marks.{all_marked};
+ghost use Rattle.lift_stops.specs.Schedule.{AreListed};
+ghost use Rattle.lift_stops.specs.Leaving.{AreLeaving, HasParty};
 
-use crate::stops::pass_of;
+use crate::leaving::Leaving;
+use crate::stops::{is_ahead, pass_of};
 use arrayvec::ArrayVec;
 use lift_base::{Dir, Floor, Halt, MOST_HALTS, Pass, Position, Row};
 
-/// The halts of a car, a set for each pass. Bit n of a set stands for floor n.
+/// The halts of a car, a set of floors for each pass. Bit n of a set stands for floor n.
 #[derive(Clone, Copy)]
 struct Marks {
-    first: u64,
-    second: u64,
-    third: u64,
+    sets: [u64; 3],
+}
+
+/// Where the set of a pass stands.
+fn place_of(pass: Pass) -> usize
+    ensures value { result ≡ pass_number pass - 1 }
+    ensures limit { result < 3 }
+{
+    usize::from(pass.number() - 1)
 }
 
 /// The halt at this floor in a pass.
@@ -41,17 +52,32 @@ fn mark(set: u64, floor: Floor) -> u64
     set | 1 << u32::from(floor.get())
 }
 
-/// A set of the pass in which a car makes this call, with the floors that the call needs.
-fn mark_legs(set: u64, row: &Row) -> u64
-    ensures bits { (place : ℕ) → place < 64 → has_bit result place ≡ (has_bit set place
-        || list_any (λ leg. leg == place) (legs_of row.now)) }
+/// The floors that a call still needs.
+// (of bits that are there in any case, so that a walk along calls need not branch)
+fn legs_of(row: &Row) -> u64
+    ensures bits { (place : ℕ) → place < 64
+        → has_bit result place ≡ list_any (λ leg. leg == place) (legs_of row.now) }
     ensures floors { HasFloors row.now }
 {
-    let left = mark(set, row.to);
-    if row.aboard {
-        left
+    let left = mark(0, row.to);
+    let both = mark(mark(0, row.from), row.to);
+    if row.aboard { left } else { both }
+}
+
+/// The pass in which a car at this position makes a call, as `pass_of`.
+// (both tests are made in any case: where calls lie at random, a branch costs more than both)
+fn pass_tested(row: &Row, position: &Position) -> Pass
+    ensures { result ≡ pass_of position.now row.now }
+{
+    let first_leg = if row.aboard { row.to } else { row.from };
+    let turns = row.dir() != position.dir;
+    let is_ahead = is_ahead(position.dir, first_leg, position.floor);
+    if turns {
+        Pass::Second
+    } else if is_ahead {
+        Pass::First
     } else {
-        mark(left, row.from)
+        Pass::Third
     }
 }
 
@@ -98,46 +124,30 @@ impl Marks {
     fn new() -> Self
         ensures { (position : PositionValue) → HasHalts [] position result }
     {
-        Marks {
-            first: 0,
-            second: 0,
-            third: 0,
-        }
+        Marks { sets: [0; 3] }
     }
 
-    /// These and the halts of a call that a car makes in this pass.
-    fn with(self, pass: Pass, row: &Row) -> Self
+    /// Marks the halts of a call, which a car makes in this pass.
+    fn insert(&mut self, pass: Pass, row: &Row)
         ensures marks { (rows : List RowValue) (position : PositionValue)
-            → pass ≡ pass_of position row.now → HasHalts rows position self
-            → HasHalts (rows ++ row.now ∷ []) position result }
+            → pass ≡ pass_of position row.now → HasHalts rows position self.old
+            → HasHalts (rows ++ row.now ∷ []) position self.new }
         ensures floors { HasFloors row.now }
     {
-        match pass {
-            Pass::First => Marks {
-                first: mark_legs(self.first, row),
-                ..self
-            },
-            Pass::Second => Marks {
-                second: mark_legs(self.second, row),
-                ..self
-            },
-            Pass::Third => Marks {
-                third: mark_legs(self.third, row),
-                ..self
-            },
-        }
+        self.sets[place_of(pass)] |= legs_of(row);
     }
 
     /// The halt that a car in this direction makes first.
     fn first_halt(&self, dir: Dir) -> Option<Halt>
         ensures { result ≡ slice_get (all_marked self.now dir) 0 }
     {
-        if self.first != 0 {
-            Some(first_in(Pass::First, dir, self.first))
-        } else if self.second != 0 {
-            Some(first_in(Pass::Second, dir.reverse(), self.second))
-        } else if self.third != 0 {
-            Some(first_in(Pass::Third, dir, self.third))
+        let [first, second, third] = self.sets;
+        if first != 0 {
+            Some(first_in(Pass::First, dir, first))
+        } else if second != 0 {
+            Some(first_in(Pass::Second, dir.reverse(), second))
+        } else if third != 0 {
+            Some(first_in(Pass::Third, dir, third))
         } else {
             None
         }
@@ -148,10 +158,11 @@ impl Marks {
         requires { length (all_marked self.now dir) ≤ 66 }
         ensures { halts.new.items ≡ all_marked self.now dir }
     {
+        let [first, second, third] = self.sets;
         halts.clear();
-        push_pass(halts, Pass::First, dir, self.first);
-        push_pass(halts, Pass::Second, dir.reverse(), self.second);
-        push_pass(halts, Pass::Third, dir, self.third);
+        push_pass(halts, Pass::First, dir, first);
+        push_pass(halts, Pass::Second, dir.reverse(), second);
+        push_pass(halts, Pass::Third, dir, third);
     }
 }
 
@@ -162,7 +173,29 @@ fn marks_of(rows: &[Row], position: &Position) -> Marks
 {
     let mut marks = Marks::new();
     for row in rows {
-        marks = marks.with(pass_of(row, *position), row);
+        match pass_of(row, *position) {
+            Pass::First => marks.insert(Pass::First, row),
+            Pass::Second => marks.insert(Pass::Second, row),
+            Pass::Third => marks.insert(Pass::Third, row),
+        }
+    }
+    marks
+}
+
+/// The same. Those who leave at these halts join a table in which nobody leaves.
+fn marks_of_leaving(rows: &[Row], position: &Position, leaving: &mut Leaving) -> Marks
+    requires few { length rows.now ≤ 33 }
+    requires nobody { AreLeaving [] position.now leaving.old }
+    ensures marks { HasHalts rows.now position.now result }
+    ensures floors { All HasFloors rows.now }
+    ensures leaving { AreLeaving rows.now position.now leaving.new }
+    ensures parties { All HasParty rows.now }
+{
+    let mut marks = Marks::new();
+    for row in rows {
+        let pass = pass_tested(row, position);
+        marks.insert(pass, row);
+        leaving.add(pass, row);
     }
     marks
 }
@@ -183,4 +216,18 @@ pub fn write_halts(halts: &mut ArrayVec<Halt, MOST_HALTS>, rows: &[Row], positio
     ensures floors { All HasFloors rows.now }
 {
     marks_of(rows, position).write(halts, position.dir);
+}
+
+/// Writes these halts, and how many persons leave there, by one walk along the calls.
+pub fn write_list(
+    halts: &mut ArrayVec<Halt, MOST_HALTS>,
+    leaving: &mut Leaving,
+    rows: &[Row],
+    position: &Position,
+)
+    requires { length rows.now ≤ 33 }
+    ensures { AreListed position.now rows.now halts.new.items leaving.new }
+{
+    *leaving = Leaving::new();
+    marks_of_leaving(rows, position, leaving).write(halts, position.dir);
 }

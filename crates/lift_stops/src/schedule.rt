@@ -14,7 +14,7 @@ ghost use Rattle.lift_stops.specs.Schedule.{KeepsPasses, position_after};
 ghost use Rattle.lift_stops.specs.Leaving.{AreLeaving, HasParty};
 
 use crate::leaving::Leaving;
-use crate::marks::write_halts;
+use crate::marks::write_list;
 use crate::stops::{insert_row, is_ahead, next_stop, pass_of, stop_list, stop_of};
 use arrayvec::ArrayVec;
 use lift_base::{Halt, MOST_HALTS, Pass, Position, Row, Stop, count_unchanged};
@@ -116,6 +116,9 @@ fn may_halt(halts: &[Halt], leaving: &Leaving, position: &Position) -> bool
     is_at_first(halts, position) || leaving.at(&turned) > 0
 }
 
+/// A walk along so many calls costs less than to write a list of them.
+const FEW_ROWS: usize = 8;
+
 /// Where a car is, and its open calls. Where the schedule is listed, also the halts that the car
 /// still has to make for them, and how many persons leave there: after any changes those of the
 /// stop list that is made from nothing.
@@ -124,6 +127,8 @@ pub struct Schedule {
     position: Position,
     rows: ArrayVec<Row, 33>,
     is_listed: bool,
+    /// Whether a new call was weighed by the list.
+    is_weighed: bool,
     halts: ArrayVec<Halt, MOST_HALTS>,
     leaving: Leaving,
 }
@@ -157,6 +162,7 @@ impl Schedule {
             position,
             rows: ArrayVec::new(),
             is_listed: false,
+            is_weighed: false,
             halts: ArrayVec::new(),
             leaving: Leaving::new(),
         }
@@ -182,8 +188,9 @@ impl Schedule {
           rows = flat_map (row_after stop) self.old.rows;
         } }
     {
-        self.replace_position(position_at(&stop));
+        self.stand_at(position_at(&stop));
         self.exchange(&stop);
+        self.list_again();
     }
 
     /// At the stop where the car is those for this floor leave, and those who wait there for its
@@ -206,23 +213,53 @@ impl Schedule {
     pub fn replace_position(&mut self, position: Position)
         ensures { self.new ≡ record self.old { position = position } }
     {
+        self.stand_at(position);
+        self.list_again();
+    }
+
+    /// The car is there; its list stays only if it is still that of its calls.
+    fn stand_at(&mut self, position: Position)
+        ensures { self.new ≡ record self.old { position = position } }
+    {
         if self.is_listed && !keeps_passes(&self.halts, &self.position, &position) {
             self.is_listed = false;
         }
         self.position = position;
     }
 
-    /// Writes the list of halts and who leaves there, where they aren't those of the calls now. A
-    /// new call is then weighed without going through the others. (No clause says that it is listed
-    /// then.)
+    /// Lists the halts and who leaves there, where they aren't listed. A new call is then weighed
+    /// without going through the others. (No clause says that they are listed then.)
     pub fn list_halts(&mut self)
         ensures { self.new ≡ self.old }
     {
-        if self.is_listed {
-            return;
+        if !self.is_listed {
+            self.write_list();
         }
-        write_halts(&mut self.halts, &self.rows, &self.position);
-        self.leaving = Leaving::of(&self.rows, &self.position);
+        self.is_weighed = true;
+    }
+
+    /// Where a call was weighed since the halts were listed, another one may be weighed after the
+    /// next change: they are listed at once, so that the next stop is the first one of the list. Of
+    /// few calls it is found as soon without one.
+    fn list_again(&mut self)
+        ensures { self.new ≡ self.old }
+    {
+        if self.is_weighed && !self.is_listed && self.rows.len() > FEW_ROWS {
+            self.write_list();
+            self.is_weighed = false;
+        }
+    }
+
+    /// Lists the halts and who leaves there.
+    fn write_list(&mut self)
+        ensures { self.new ≡ self.old }
+    {
+        write_list(
+            &mut self.halts,
+            &mut self.leaving,
+            &self.rows,
+            &self.position,
+        );
         self.is_listed = true;
     }
 
@@ -296,6 +333,6 @@ impl Schedule {
         ensures rows { result.now ≡ self.now.rows }
         ensures limit { length result.now ≤ 33 }
     {
-        &self.rows
+        self.rows.as_slice()
     }
 }

@@ -17,13 +17,9 @@ use lift_base::{Dir, Floor, Halt, MOST_HALTS, Pass, Position, Row, Stop};
 pub fn is_ahead(dir: Dir, floor: Floor, other: Floor) -> bool
     ensures { result ≡ is_ahead dir floor other }
 {
-    if floor == other {
-        return true;
-    }
-    let is_above = other < floor;
     match dir {
-        Dir::Up => is_above,
-        Dir::Down => !is_above,
+        Dir::Up => other <= floor,
+        Dir::Down => floor <= other,
     }
 }
 

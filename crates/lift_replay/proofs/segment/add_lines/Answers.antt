@@ -5,31 +5,41 @@ use Rattle.lift_replay.specs.Lines.{LineTells}
 use Rattle.lift_replay.specs.Source.{lines_in}
 use Rattle.lift_replay.proofs.LineSteps.{line_goes_on, line_ends}
 use Rattle.lift_replay.proofs.Ready.{line_ready}
+use Rattle.std.proofs.KnownBytes.{Appends-nil}
 use Rattle.std.proofs.lemmas.List.{append-nil}
 use Rattle.lift_replay.specs.Running.{TellsLines}
 use Rattle.lift_replay.specs.declared.lines.Verdict.TheVariants.{Good}
 use Rattle.lift_replay.proofs.Told.{end_tells_none}
-use Rattle.lift_replay.proofs.Runs.{reports_kept, reports_put, reports_on}
-use Rattle.lift_replay.proofs.Written.{err_so, tells_kept, tells_more, tells_so_far, tells_torn}
+use Rattle.lift_replay.proofs.Runs.{reports_none, reports_kept, reports_put, reports_on}
+use Rattle.lift_replay.proofs.Written.{err_so, tells_more, tells_torn}
 use Rattle.lift_replay.specs.lemmas.Writes.{fails_more, takes_more, pieces_ok, pieces_memory, pieces_failed}
 use Rattle.lift_replay.proofs.segment.add_lines.Goals as goal
+
+pub loop-init : goal.loop-init
+loop-init g c = record {
+  tells = λ group shows. ([], group, shows, (λ more verdict tells. tells), reports_none _ _);
+  ready = c.requires.ready;
+  small = c.requires.small;
+  called = (0, refl);
+  left = omega arith;
+  building = refl;
+}
 
 pub loop-preserved : goal.loop-preserved
 loop-preserved g c =
     let tells = c.in_ok-end.ensures.tells in
-    let told_is : c.deref.result.now ≡ tells.0 = c.deref.ensures ∙ tells.2 ∙ ap (λ bytes. bytes ++ tells.0) c.clear.ensures.bytes in
-    let piece_is : string_bytes c.add_line.new.piece ≡ string_bytes c.loop.piece ++ tells.0 = c.in_ok-add_line.ensures ∙ ap (λ bytes. string_bytes c.loop.piece ++ bytes) told_is in
+    let piece_is : string_bytes c.add_line.new.piece ≡ string_bytes c.loop.piece ++ tells.0 = tells.2 in
     let same : c.loop.station.building.now ≡ c.args.station.now.building.now = λ i. (c.loop.invariant.building i).now in
     record {
       tells = λ group shows.
           (let before = c.loop.invariant.tells group shows in
           let number = c.next.new.self.count in
           let plan : Plan = c.args.station.now.building.now in
-          let line : LineTells plan c.loop.station.clerk c.push_line.new.station.clerk c.loop.station.terminals.seats.items c.push_line.new.station.terminals.seats.items c.in-Some.line.now number None tells.0 =
-          subst (λ n. LineTells plan c.loop.station.clerk c.push_line.new.station.clerk c.loop.station.terminals.seats.items c.push_line.new.station.terminals.seats.items c.in-Some.line.now n None tells.0) (sym c.in-Some.ensures.counted)
-          (subst (λ p. LineTells p c.loop.station.clerk c.push_line.new.station.clerk c.loop.station.terminals.seats.items c.push_line.new.station.terminals.seats.items c.in-Some.line.now c.in-Some.number None tells.0) same
-          (subst (λ end. LineTells c.loop.station.building.now c.loop.station.clerk c.push_line.new.station.clerk c.loop.station.terminals.seats.items c.push_line.new.station.terminals.seats.items c.in-Some.line.now c.in-Some.number end tells.0) c.in_default-end.is tells.1)) in
-          let more = line_goes_on (c.decisions_are_computed.ensures total_cost_at) plan before.1 c.loop.station.clerk c.push_line.new.station.clerk c.loop.station.terminals.seats.items c.push_line.new.station.terminals.seats.items
+          let line : LineTells plan c.loop.station.clerk c.add_line.new.station.clerk c.loop.station.terminals.seats.items c.add_line.new.station.terminals.seats.items c.in-Some.line.now number None tells.0 =
+          subst (λ n. LineTells plan c.loop.station.clerk c.add_line.new.station.clerk c.loop.station.terminals.seats.items c.add_line.new.station.terminals.seats.items c.in-Some.line.now n None tells.0) (sym c.in-Some.ensures.counted)
+          (subst (λ p. LineTells p c.loop.station.clerk c.add_line.new.station.clerk c.loop.station.terminals.seats.items c.add_line.new.station.terminals.seats.items c.in-Some.line.now c.in-Some.number None tells.0) same
+          (subst (λ end. LineTells c.loop.station.building.now c.loop.station.clerk c.add_line.new.station.clerk c.loop.station.terminals.seats.items c.add_line.new.station.terminals.seats.items c.in-Some.line.now c.in-Some.number end tells.0) c.in_default-end.is tells.1)) in
+          let more = line_goes_on (c.decisions_are_computed.ensures total_cost_at) plan before.1 c.loop.station.clerk c.add_line.new.station.clerk c.loop.station.terminals.seats.items c.add_line.new.station.terminals.seats.items
           before.2 (subst (λ (p : Plan). length c.loop.station.terminals.seats.items ≡ 16 + length p.kiosks) same c.loop.station.count) refl
           c.args.lines.now.count c.loop.lines.count group (lines_in c.args.lines.now.rest.now) (lines_in c.loop.lines.rest.now) (lines_in c.next.new.self.rest.now) c.in-Some.line.now before.0 tells.0 number
           c.in-Some.ensures.first (c.in-Some.ensures.counted ∙ c.in-Some.ensures.number) before.3 line in (
@@ -40,7 +50,7 @@ loop-preserved g c =
             reports_on _ _ _ _ _ _ before.0 tells.0 before.4
                 (reports_put _ _ (string_bytes c.loop.piece) (string_bytes c.add_line.new.piece) _ tells.0 piece_is c.in_ok-put_large_piece.ensures.ok),
           ));
-      ready = line_ready c.loop.station.building.now c.loop.station.clerk c.push_line.new.station.clerk c.loop.station.terminals.seats.items c.push_line.new.station.terminals.seats.items c.in-Some.line.now c.in-Some.number _ tells.0
+      ready = line_ready c.loop.station.building.now c.loop.station.clerk c.add_line.new.station.clerk c.loop.station.terminals.seats.items c.add_line.new.station.terminals.seats.items c.in-Some.line.now c.in-Some.number _ tells.0
           c.loop.station.count c.loop.invariant.ready tells.1;
       small = c.in_ok-put_large_piece.ensures.small;
       called = takes_more g.W.Outlet.gives _ _ _ c.loop.invariant.called c.in_ok-put_large_piece.ensures.each_call;
@@ -51,17 +61,16 @@ loop-preserved g c =
 pub returns-in-Some-end-clause-tells : goal.returns-in-Some-end-clause-tells
 returns-in-Some-end-clause-tells g c = λ group shows.
     let tells = c.in_ok-end.ensures.tells in
-    let told_is : c.deref.result.now ≡ tells.0 = c.deref.ensures ∙ tells.2 ∙ ap (λ bytes. bytes ++ tells.0) c.clear.ensures.bytes in
-    let piece_is : string_bytes c.add_line.new.piece ≡ string_bytes c.loop.piece ++ tells.0 = c.in_ok-add_line.ensures ∙ ap (λ bytes. string_bytes c.loop.piece ++ bytes) told_is in
+    let piece_is : string_bytes c.add_line.new.piece ≡ string_bytes c.loop.piece ++ tells.0 = tells.2 in
     let same : c.loop.station.building.now ≡ c.args.station.now.building.now = λ i. (c.loop.invariant.building i).now in
     (let before = c.loop.invariant.tells group shows in
     let number = c.next.new.self.count in
     let plan : Plan = c.args.station.now.building.now in
-    let line : LineTells plan c.loop.station.clerk c.push_line.new.station.clerk c.loop.station.terminals.seats.items c.push_line.new.station.terminals.seats.items c.in-Some.line.now number (Some c.in-Some-end.end) tells.0 =
-    subst (λ n. LineTells plan c.loop.station.clerk c.push_line.new.station.clerk c.loop.station.terminals.seats.items c.push_line.new.station.terminals.seats.items c.in-Some.line.now n (Some c.in-Some-end.end) tells.0) (sym c.in-Some.ensures.counted)
-    (subst (λ p. LineTells p c.loop.station.clerk c.push_line.new.station.clerk c.loop.station.terminals.seats.items c.push_line.new.station.terminals.seats.items c.in-Some.line.now c.in-Some.number (Some c.in-Some-end.end) tells.0) same
-    (subst (λ end. LineTells c.loop.station.building.now c.loop.station.clerk c.push_line.new.station.clerk c.loop.station.terminals.seats.items c.push_line.new.station.terminals.seats.items c.in-Some.line.now c.in-Some.number end tells.0) c.in-Some-end.is tells.1)) in
-    let more = line_ends (c.decisions_are_computed.ensures total_cost_at) plan before.1 c.loop.station.clerk c.push_line.new.station.clerk c.loop.station.terminals.seats.items c.push_line.new.station.terminals.seats.items
+    let line : LineTells plan c.loop.station.clerk c.add_line.new.station.clerk c.loop.station.terminals.seats.items c.add_line.new.station.terminals.seats.items c.in-Some.line.now number (Some c.in-Some-end.end) tells.0 =
+    subst (λ n. LineTells plan c.loop.station.clerk c.add_line.new.station.clerk c.loop.station.terminals.seats.items c.add_line.new.station.terminals.seats.items c.in-Some.line.now n (Some c.in-Some-end.end) tells.0) (sym c.in-Some.ensures.counted)
+    (subst (λ p. LineTells p c.loop.station.clerk c.add_line.new.station.clerk c.loop.station.terminals.seats.items c.add_line.new.station.terminals.seats.items c.in-Some.line.now c.in-Some.number (Some c.in-Some-end.end) tells.0) same
+    (subst (λ end. LineTells c.loop.station.building.now c.loop.station.clerk c.add_line.new.station.clerk c.loop.station.terminals.seats.items c.add_line.new.station.terminals.seats.items c.in-Some.line.now c.in-Some.number end tells.0) c.in-Some-end.is tells.1)) in
+    let more = line_ends (c.decisions_are_computed.ensures total_cost_at) plan before.1 c.loop.station.clerk c.add_line.new.station.clerk c.loop.station.terminals.seats.items c.add_line.new.station.terminals.seats.items
     before.2 (subst (λ (p : Plan). length c.loop.station.terminals.seats.items ≡ 16 + length p.kiosks) same c.loop.station.count) refl
     c.args.lines.now.count c.loop.lines.count group (lines_in c.args.lines.now.rest.now) (lines_in c.loop.lines.rest.now) (lines_in c.next.new.self.rest.now) c.in-Some.line.now before.0 tells.0 number
     c.in-Some.ensures.first (c.in-Some.ensures.counted ∙ c.in-Some.ensures.number) before.3 c.in-Some-end.end line in (
@@ -73,13 +82,12 @@ returns-in-Some-end-clause-tells g c = λ group shows.
 pub returns-in-Some-end-clause-small : goal.returns-in-Some-end-clause-small
 returns-in-Some-end-clause-small g c = λ other.
     let tells = c.in_ok-end.ensures.tells in
-    let told_is : c.deref.result.now ≡ tells.0 = c.deref.ensures ∙ tells.2 ∙ ap (λ bytes. bytes ++ tells.0) c.clear.ensures.bytes in
-    let none : tells.0 ≡ [] = end_tells_none c.loop.station.building.now c.loop.station.clerk c.push_line.new.station.clerk c.loop.station.terminals.seats.items c.push_line.new.station.terminals.seats.items
+    let none : tells.0 ≡ [] = end_tells_none c.loop.station.building.now c.loop.station.clerk c.add_line.new.station.clerk c.loop.station.terminals.seats.items c.add_line.new.station.terminals.seats.items
     c.in-Some.line.now c.in-Some.number c.in-Some-end.end tells.0
-    (subst (λ end. LineTells c.loop.station.building.now c.loop.station.clerk c.push_line.new.station.clerk c.loop.station.terminals.seats.items c.push_line.new.station.terminals.seats.items c.in-Some.line.now c.in-Some.number end tells.0) c.in-Some-end.is tells.1)
+    (subst (λ end. LineTells c.loop.station.building.now c.loop.station.clerk c.add_line.new.station.clerk c.loop.station.terminals.seats.items c.add_line.new.station.terminals.seats.items c.in-Some.line.now c.in-Some.number end tells.0) c.in-Some-end.is tells.1)
     other in
     let kept : string_bytes c.add_line.new.piece ≡ string_bytes c.loop.piece =
-    c.in_ok-add_line.ensures ∙ ap (λ bytes. string_bytes c.loop.piece ++ bytes) (told_is ∙ none) ∙ append-nil (string_bytes c.loop.piece) in
+    tells.2 ∙ ap (λ bytes. string_bytes c.loop.piece ++ bytes) none ∙ append-nil (string_bytes c.loop.piece) in
     subst (λ bytes. length bytes < 32768) (sym kept) c.loop.invariant.small
 
 pub returns-in_default-clause-tells : goal.returns-in_default-clause-tells
@@ -95,30 +103,24 @@ returns-in_default-clause-tells g c = λ group shows.
 pub returns-in_err-end-clause-front : goal.returns-in_err-end-clause-front
 returns-in_err-end-clause-front g c = err_so c.from_residual.result (λ group shows.
     let before = c.loop.invariant.tells group shows in
-    tells_so_far c.args.station.now.building.now c.args.lines.now.count c.loop.lines.count group before.1 (lines_in c.args.lines.now.rest.now) (lines_in c.loop.lines.rest.now) _ _ _ _ before.0 before.3 before.4)
-
-pub returns-in_err-add_line-clause-front : goal.returns-in_err-add_line-clause-front
-returns-in_err-add_line-clause-front g c = err_so c.from_residual-in_err-add_line.result (λ group shows.
-    let before = c.loop.invariant.tells group shows in
-    let kept : string_bytes c.add_line.new.piece ≡ string_bytes c.loop.piece = c.in_err-add_line.ensures in
-    tells_kept c.args.station.now.building.now c.args.lines.now.count group (lines_in c.args.lines.now.rest.now) _ _ _ (string_bytes c.loop.piece) (string_bytes c.add_line.new.piece) kept
-    (tells_so_far c.args.station.now.building.now c.args.lines.now.count c.loop.lines.count group before.1 (lines_in c.args.lines.now.rest.now) (lines_in c.loop.lines.rest.now) _ _ _ _ before.0 before.3 before.4))
+    let plan : Plan = c.args.station.now.building.now in
+    tells_more plan c.args.lines.now.count c.loop.lines.count group before.1 (lines_in c.args.lines.now.rest.now) (lines_in c.loop.lines.rest.now) _ _ _ _ _ _ before.0 before.3 before.4
+    (tells_torn plan c.loop.lines.count before.1 (lines_in c.loop.lines.rest.now) _ _ 0 (string_bytes c.loop.piece) (string_bytes c.add_line.new.piece) (Appends-nil _) c.in_err-end.ensures.emptied))
 
 pub returns-in_err-put_large_piece-clause-front : goal.returns-in_err-put_large_piece-clause-front
 returns-in_err-put_large_piece-clause-front g c =
     let tells = c.in_ok-end.ensures.tells in
-    let told_is : c.deref.result.now ≡ tells.0 = c.deref.ensures ∙ tells.2 ∙ ap (λ bytes. bytes ++ tells.0) c.clear.ensures.bytes in
-    let piece_is : string_bytes c.add_line.new.piece ≡ string_bytes c.loop.piece ++ tells.0 = c.in_ok-add_line.ensures ∙ ap (λ bytes. string_bytes c.loop.piece ++ bytes) told_is in
+    let piece_is : string_bytes c.add_line.new.piece ≡ string_bytes c.loop.piece ++ tells.0 = tells.2 in
     let same : c.loop.station.building.now ≡ c.args.station.now.building.now = λ i. (c.loop.invariant.building i).now in
     err_so c.from_residual-in_err-put_large_piece.result (λ group shows.
     (let before = c.loop.invariant.tells group shows in
     let number = c.next.new.self.count in
     let plan : Plan = c.args.station.now.building.now in
-    let line : LineTells plan c.loop.station.clerk c.push_line.new.station.clerk c.loop.station.terminals.seats.items c.push_line.new.station.terminals.seats.items c.in-Some.line.now number None tells.0 =
-    subst (λ n. LineTells plan c.loop.station.clerk c.push_line.new.station.clerk c.loop.station.terminals.seats.items c.push_line.new.station.terminals.seats.items c.in-Some.line.now n None tells.0) (sym c.in-Some.ensures.counted)
-    (subst (λ p. LineTells p c.loop.station.clerk c.push_line.new.station.clerk c.loop.station.terminals.seats.items c.push_line.new.station.terminals.seats.items c.in-Some.line.now c.in-Some.number None tells.0) same
-    (subst (λ end. LineTells c.loop.station.building.now c.loop.station.clerk c.push_line.new.station.clerk c.loop.station.terminals.seats.items c.push_line.new.station.terminals.seats.items c.in-Some.line.now c.in-Some.number end tells.0) c.in_default-end.is tells.1)) in
-    let more = line_goes_on (c.decisions_are_computed.ensures total_cost_at) plan before.1 c.loop.station.clerk c.push_line.new.station.clerk c.loop.station.terminals.seats.items c.push_line.new.station.terminals.seats.items
+    let line : LineTells plan c.loop.station.clerk c.add_line.new.station.clerk c.loop.station.terminals.seats.items c.add_line.new.station.terminals.seats.items c.in-Some.line.now number None tells.0 =
+    subst (λ n. LineTells plan c.loop.station.clerk c.add_line.new.station.clerk c.loop.station.terminals.seats.items c.add_line.new.station.terminals.seats.items c.in-Some.line.now n None tells.0) (sym c.in-Some.ensures.counted)
+    (subst (λ p. LineTells p c.loop.station.clerk c.add_line.new.station.clerk c.loop.station.terminals.seats.items c.add_line.new.station.terminals.seats.items c.in-Some.line.now c.in-Some.number None tells.0) same
+    (subst (λ end. LineTells c.loop.station.building.now c.loop.station.clerk c.add_line.new.station.clerk c.loop.station.terminals.seats.items c.add_line.new.station.terminals.seats.items c.in-Some.line.now c.in-Some.number end tells.0) c.in_default-end.is tells.1)) in
+    let more = line_goes_on (c.decisions_are_computed.ensures total_cost_at) plan before.1 c.loop.station.clerk c.add_line.new.station.clerk c.loop.station.terminals.seats.items c.add_line.new.station.terminals.seats.items
     before.2 (subst (λ (p : Plan). length c.loop.station.terminals.seats.items ≡ 16 + length p.kiosks) same c.loop.station.count) refl
     c.args.lines.now.count c.loop.lines.count group (lines_in c.args.lines.now.rest.now) (lines_in c.loop.lines.rest.now) (lines_in c.next.new.self.rest.now) c.in-Some.line.now before.0 tells.0 number
     c.in-Some.ensures.first (c.in-Some.ensures.counted ∙ c.in-Some.ensures.number) before.3 line in
@@ -135,9 +137,6 @@ returns-in-Some-end-clause-writes g c = pieces_ok g.W.Outlet.gives _ _ _ _ c.loo
 
 pub returns-in_err-end-clause-writes : goal.returns-in_err-end-clause-writes
 returns-in_err-end-clause-writes g c = pieces_memory g.W.Outlet.gives _ _ _ c.from_residual.result c.from_residual.ensures.1 c.loop.invariant.called
-
-pub returns-in_err-add_line-clause-writes : goal.returns-in_err-add_line-clause-writes
-returns-in_err-add_line-clause-writes g c = pieces_memory g.W.Outlet.gives _ _ _ c.from_residual-in_err-add_line.result c.from_residual-in_err-add_line.ensures.1 c.loop.invariant.called
 
 pub returns-in_err-put_large_piece-clause-writes : goal.returns-in_err-put_large_piece-clause-writes
 returns-in_err-put_large_piece-clause-writes g c = pieces_failed g.W.Outlet.gives _ _ _ c.from_residual-in_err-put_large_piece.result c.from_residual-in_err-put_large_piece.ensures.1

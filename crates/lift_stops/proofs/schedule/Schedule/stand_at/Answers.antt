@@ -1,8 +1,8 @@
 use Rattle.std.proofs.Common.{sym, ◌∙◌}
 use Rattle.lift_stops.specs.Schedule.{KeepsPasses}
 use Rattle.lift_stops.proofs.Kept.{same_stops, same_table}
-use Rattle.lift_stops.proofs.schedule.Schedule.replace_position.Goals as goal
-use Rattle.lift_stops.proofs.schedule.Schedule.replace_position.Goals.{then-self+then-not-keeps_passes, else-self, else-self-via-then-self+else-not-keeps_passes, else-self-via-else-self}
+use Rattle.lift_stops.proofs.schedule.Schedule.stand_at.Goals as goal
+use Rattle.lift_stops.proofs.schedule.Schedule.stand_at.Goals.{then-self+then-not-keeps_passes, else-self, else-self-via-then-self+else-not-keeps_passes, else-self-via-else-self}
 
 pub invariant_of-self : goal.invariant_of-self
 invariant_of-self c =
