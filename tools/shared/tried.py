@@ -15,7 +15,7 @@ import sys
 
 TOP = pathlib.Path(__file__).resolve().parent.parent.parent
 BUILT = TOP / "crates/liftd/out/liftd"
-RELAY = TOP / "crates/lift_relay_cases/out/lift_relay_cases"
+TRIES = TOP / "crates/lift_cases/out/lift_cases"
 sys.path.append(str(TOP / "tools/judge"))
 
 
@@ -43,13 +43,14 @@ def program(path=BUILT):
 
 
 def relay():
-    """The program that carries out scripts as `liftd replay` does, but drives both parts of a clerk by hand; none where it isn't built."""
-    return str(RELAY) if os.access(RELAY, os.X_OK) else None
+    """The program that carries out scripts as `liftd replay` does, by the word `script`, but drives both parts of a clerk by hand; none where it isn't
+    built."""
+    return str(TRIES) if os.access(TRIES, os.X_OK) else None
 
 
 def in_relay(count):
     """What a last line tells of the scripts that were carried out by both parts too."""
-    return f"{count} scripts by both parts of a clerk too" if relay() else f"none by both parts of a clerk, without {RELAY.relative_to(TOP)}"
+    return f"{count} scripts by both parts of a clerk too" if relay() else f"none by both parts of a clerk, without {TRIES.relative_to(TOP)}"
 
 
 def loaded(path):

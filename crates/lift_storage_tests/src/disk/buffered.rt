@@ -1,7 +1,7 @@
 //! A device that reads ahead and joins writes, over a file and over a device in memory.
 use crate::disk::calls::{Call, all_come, hold, memory, put_each};
 use crate::disk::files::{created, is_good, looked_at};
-use lift_disk::{Buffered, Disk, Outcome};
+use lift_disk::{Buffered, Disk, Outcome, RunDisk};
 use std::fs;
 use std::process::Abort;
 
@@ -31,17 +31,22 @@ fn are_held_back<D: Disk>(disk: &mut D) -> bool {
         & all_come(disk, &WRITTEN)
 }
 
-/// What is held back is read at once, over what was read ahead too; it is in the file once it was
-/// synced.
+/// Whether what a device over a file holds back is read at once, over what was read ahead too, and is
+/// in the file once it was synced. Cut short by another, it fails, because a read asks for the
+/// sectors after it too.
+fn is_read_and_written<D: RunDisk + Drop>(rt: &HostRuntime, path: &str, disk: D) -> bool {
+    let mut disk = Buffered::over(disk);
+    let is_synced = are_held_back(&mut disk) & all_come(&mut disk, &[Call::Sync]);
+    let is_written = is_good(looked_at(rt, path), &WRITTEN) & all_come(&mut disk, &WRITTEN);
+    let is_cut = fs::write(rt, path, [1u8; 1024].as_slice()).is_ok();
+    is_synced & is_written & is_cut & all_come(&mut disk, &[Call::GetFails(1)])
+}
+
 #[test]
 fn what_is_held_back_is_read_and_then_written(rt: HostRuntime) {
     let path = "lift_disk_buffered.image";
-    let mut disk = Buffered::over(created(&rt, path, 40).expect(&rt, "a file"));
-    assert!(rt; are_held_back(&mut disk) & all_come(&mut disk, &[Call::Sync]));
-    assert!(rt; is_good(looked_at(&rt, path), &WRITTEN) & all_come(&mut disk, &WRITTEN));
-    // cut short by another, it fails, because a read asks for the sectors after it too
-    let is_cut = fs::write(&rt, path, [1u8; 1024].as_slice()).is_ok();
-    assert!(rt; is_cut & all_come(&mut disk, &[Call::GetFails(1)]));
+    let disk = created(&rt, path, 40).expect(&rt, "a file");
+    assert!(rt; is_read_and_written(&rt, path, disk));
     assert!(rt; fs::remove_file(&rt, path).is_ok());
 }
 

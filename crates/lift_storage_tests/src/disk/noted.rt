@@ -1,7 +1,7 @@
 //! A device on a file that notes how it is called.
 use crate::disk::calls::{Call, all_come, holds, put_each};
 use crate::disk::notes::{ALL, NotedFile, Notes, READS, SYNCS, WRITTEN_AT, file};
-use lift_disk::{Buffered, Disk, SectorFile, SystemFile, TracedFile};
+use lift_disk::{Buffered, Disk, RunDisk, SectorFile, SystemFile, TracedFile};
 use std::process::Abort;
 
 /// Of how many calls of the file one fails, a call of the device, and what the file has noted then.
@@ -128,6 +128,17 @@ const HELD_BACK: [Step; 6] = [
     (ALL, Call::Get(3, 0), [2, 1, 1, 1]),
 ];
 
+/// The same by a device that reads ahead and joins writes, over this one.
+fn follow_over<D: RunDisk + Drop>(
+    rt: &impl Abort,
+    disk: D,
+    notes: &Notes,
+    from: usize,
+    steps: &[Step],
+) {
+    follow(rt, &mut Buffered::over(disk), notes, from, steps);
+}
+
 #[test]
 fn neighbours_are_moved_at_once(rt: HostRuntime) {
     for (from, steps) in [
@@ -136,8 +147,13 @@ fn neighbours_are_moved_at_once(rt: HostRuntime) {
         (READS, HELD_BACK.as_slice()),
     ] {
         let notes = Notes::new();
-        let mut disk = Buffered::over(device(&rt, &notes, 40, usize::MAX));
-        follow(&rt, &mut disk, &notes, from, steps);
+        follow_over(
+            &rt,
+            device(&rt, &notes, 40, usize::MAX),
+            &notes,
+            from,
+            steps,
+        );
     }
 }
 
@@ -180,18 +196,29 @@ fn are_themselves<D: Disk>(disk: &mut D, leap: u8) -> bool {
     all
 }
 
+/// Whether they do forwards, backwards, and by leaps.
+fn are_read<D: Disk>(disk: &mut D) -> bool {
+    let mut all = true;
+    for leap in [1u8, 39, 7, 17] {
+        all = are_themselves(disk, leap) & all;
+    }
+    all
+}
+
+/// Whether what is written over a device and made safe is read so by another one over it.
+fn are_kept<D: RunDisk + Drop>(disk: D) -> bool {
+    let mut disk = Buffered::over(disk);
+    let all = put_each(&mut disk, 0, 40) & all_come(&mut disk, &[Call::Sync]);
+    all & are_read(&mut Buffered::over(disk.into_inner()))
+}
+
 /// Whatever is written and read at once, also by calls of the file that move a part of it, each
-/// sector is read as it was written: forwards, backwards, and by leaps.
+/// sector is read as it was written.
 #[test]
 fn each_sector_is_read_as_itself(rt: HostRuntime) {
     for piece in [usize::MAX, 1000] {
         let notes = Notes::new();
-        let mut disk = Buffered::over(device(&rt, &notes, 40, piece));
-        assert!(rt; put_each(&mut disk, 0, 40) & all_come(&mut disk, &[Call::Sync]));
-        let mut disk = Buffered::over(disk.into_inner());
-        for leap in [1u8, 39, 7, 17] {
-            assert!(rt; are_themselves(&mut disk, leap));
-        }
+        assert!(rt; are_kept(device(&rt, &notes, 40, piece)), "{piece}");
     }
 }
 

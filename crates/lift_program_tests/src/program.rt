@@ -1,0 +1,4 @@
+//! Tests of `lift_program`.
+
+mod kept;
+mod streams;

@@ -1,0 +1,6 @@
+//! Tests of `lift_replay`.
+
+mod buildings;
+mod first_call;
+mod reading;
+mod streams;

@@ -1,0 +1,90 @@
+//! Serving beside threads that call.
+ghost use Rattle.std.specs.Prelude.{◌≡◌, []};
+ghost use Rattle.std.specs.Thread.{IsSync};
+
+use crate::serve::callers::{address, follow};
+use crate::serve::words::Words;
+use lift_disk::Disk;
+use lift_keeper::Keeper;
+use lift_policy::Policy;
+use lift_serve::{HeardBy, HeldKeeper, Listening, NoWitness, PreparedGroup, serve};
+use std::alloc::Global;
+use std::net::{Net, TcpListener, TcpStream};
+use std::process::Abort;
+use std::sync::Wait;
+use std::sync::atomic::Ordering;
+use std::thread;
+use std::thread::Threads;
+use std::time::{Clock, Duration};
+
+/// How long serving may take, in seconds.
+const LIMIT: u64 = 45;
+
+/// Ends the test where serving has not ended in time, as where nobody is accepted.
+fn watch<R: Clock + Abort>(rt: &R, words: &Words) {
+    for _ in 0..LIMIT * 100 {
+        if words.ended.load(Ordering::SeqCst) == 1 {
+            return;
+        }
+        thread::sleep(rt, Duration::from_millis(10));
+    }
+    panic!(rt; "serving has not ended");
+}
+
+/// What gives back the keeper of a test.
+#[derive(Drop)]
+struct Own {
+    made: (),
+}
+
+impl HeardBy<NoWitness> for Own {}
+
+/// Serves on a socket until this many connections have ended, while a thread follows a script and
+/// another one watches. The keeper after it, where the script was followed; none where there was no
+/// thread for these, or another fault than the device's, or where connections have not ended.
+pub(crate) fn served<
+    'b,
+    R: Threads + Wait + Clock + Abort + Net<Listener = TcpListener, Stream = TcpStream> + Sync,
+    D: Disk + Drop,
+    P: Policy + Drop + Send,
+>(
+    rt: &R,
+    alloc: Global,
+    keeper: Keeper<'b, D>,
+    policy: P,
+    sessions: u32,
+    script: &str,
+    words: &Words,
+) -> Option<Keeper<'b, D>>
+    requires { keeper.state.batch ≡ [] }
+{
+    let listener = TcpListener::bind(rt, address(0)).ok()?;
+    let port = listener.local_addr().ok()?.port();
+    thread::scope(
+        thread::scope_env(),
+        rt,
+        move |scope| -> Option<Keeper<D>>
+            requires sync { IsSync R.row }
+            requires empty_batch { keeper.state.batch ≡ [] }
+        {
+            if scope.spawn(move || watch(rt, words)).is_err() {
+                return None;
+            }
+            if scope
+                .spawn(move || follow(rt, port, words, script))
+                .is_err()
+            {
+                words.ended.store(1, Ordering::SeqCst);
+                return None;
+            }
+            let held = HeldKeeper::new(keeper);
+            let prepared = PreparedGroup::new(Listening::at(listener), sessions, held, policy);
+            let served = serve(rt, alloc, prepared, NoWitness);
+            words.ended.store(1, Ordering::SeqCst);
+            if served.end.fault().is_some() {
+                return None;
+            }
+            Some(served.keeper.release(Own { made: () }))
+        },
+    )
+}
