@@ -33,7 +33,7 @@ use Rattle.lift_clerk.specs.Clerk.{ClerkState}
 use Rattle.lift_clerk.specs.Machine.{LooksAgree, IsMachineOf, IsReached, ShowsWhole, ShowsBroken, WaitsNowhere, kept_after}
 use Rattle.lift_clerk.specs.History.{BeginsOver, ShowsGiven}
 use Rattle.lift_clerk.specs.Laws.{Laws}
-use Rattle.lift_clerk.specs.Answered.{AreApart}
+use Rattle.lift_clerk.specs.TakenAndAnswered.{AreApart}
 use Rattle.lift_clerk.specs.Steps.{DecidesOn, MayAdd}
 use Rattle.lift_clerk.specs.lemmas.Standing.{fresh}
 use Rattle.lift_world.specs.lemmas.Goes.{joined}

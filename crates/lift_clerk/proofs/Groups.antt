@@ -1,5 +1,5 @@
 -- What terminals ask and hear is what the machine's terminals do.
-use Rattle.lift_clerk.specs.Answered.{answer_words, ask_of}
+use Rattle.lift_clerk.specs.TakenAndAnswered.{answer_words, ask_of}
 use Rattle.std.proofs.Common.{◌≡◌, ◌≢◌, ℕ, suc, ◌+◌, ◌<◌, ◌≤◌, Bool, true, false, not, cond, eqb}
 use Rattle.std.proofs.Common.{List, [], ◌∷◌, ◌++◌, map, length, Some, None, refl, sym, ap, ◌∙◌}
 use Rattle.std.proofs.Common.{subst, arith, append_assoc}

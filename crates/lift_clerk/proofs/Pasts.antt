@@ -21,7 +21,7 @@ use Rattle.lift_world.specs.declared.event.Event.TheVariants.{Fault, Cut as CutE
 use Rattle.lift_world.specs.declared.event.Taken.{Taken}
 use Rattle.lift_world.specs.World.{World, start, asks, is_answer_to, safe_list}
 use Rattle.lift_world.specs.Next.{goes}
-use Rattle.lift_clerk.specs.Answered.{Answers, answer_words, ask_of}
+use Rattle.lift_clerk.specs.TakenAndAnswered.{TakesAndAnswers, answer_words, ask_of}
 use Rattle.lift_clerk.specs.Steps.{GroupState, Safe, MayAdd}
 use Rattle.lift_clerk.specs.Machine.{IsReached, IsMachineOf, ShowsWords, LeadsToClerk, WaitsNowhere, waiting_in, IsNewClerk, kept_after}
 use Rattle.lift_clerk.specs.Laws.{Laws}
@@ -138,7 +138,7 @@ module _ {D : Type 0} (laws : Laws) where
   none_safe w own given safe after terminals k = subst (λ (xs : List Entry). LeadsToPast w own after terminals xs given) (sym (append-nil safe)) k
 
   -- what a step takes stands
-  stood : (w : World) (before after : GroupState D) (terminals : Terminals) (cs : List Command) (rs : List Reply) → IsGroup w before terminals → Answers before.seat after.seat cs rs
+  stood : (w : World) (before after : GroupState D) (terminals : Terminals) (cs : List Command) (rs : List Reply) → IsGroup w before terminals → TakesAndAnswers before.seat after.seat cs rs
       → TakesAsks after terminals → Stand w cs
   stood w before after terminals cs rs g answers takes =
       asked_stand w before terminals g (few laws w g.machine.reached) cs answers.apart (taken_asked before after terminals cs rs answers takes)

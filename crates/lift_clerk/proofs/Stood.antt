@@ -17,7 +17,7 @@ use Rattle.lift_policy.specs.declared.command.Command.{Command}
 use Rattle.lift_world.specs.declared.event.Taken.{Taken}
 use Rattle.lift_world.specs.World.{World, asks}
 use Rattle.lift_world.specs.Turns.{with_replies}
-use Rattle.lift_clerk.specs.Answered.{ask_of, AreOthers, AreApart, Answers}
+use Rattle.lift_clerk.specs.TakenAndAnswered.{ask_of, AreOthers, AreApart, TakesAndAnswers}
 use Rattle.lift_clerk.specs.Machine.{waiting_in, LooksAgree, ShowsWords}
 use Rattle.lift_clerk.specs.Steps.{GroupState}
 use Rattle.lift_clerk.specs.Group.{Terminals, ShowsTerminal, IsGroup, TakesAsks, WereAsked}
@@ -124,7 +124,7 @@ module _ {D : Type 0} (w : World) (group : GroupState D) (terminals : Terminals)
   asked_stand cs apart asked = stand_all cs apart asked.in_range asked.front
 
 -- what a step took was asked
-pub taken_asked : {D : Type 0} (before after : GroupState D) (terminals : Terminals) (cs : List Command) (rs : List Reply) → Answers before.seat after.seat cs rs → TakesAsks after terminals
+pub taken_asked : {D : Type 0} (before after : GroupState D) (terminals : Terminals) (cs : List Command) (rs : List Reply) → TakesAndAnswers before.seat after.seat cs rs → TakesAsks after terminals
     → WereAsked before terminals cs
 taken_asked before after terminals cs rs answers takes = record {
   in_range = answers.in_range;

@@ -21,7 +21,7 @@ use Rattle.lift_keeper.specs.Keeper.{KeeperView}
 use Rattle.lift_keeper.specs.Writer.{WriterView}
 use Rattle.lift_keeper.specs.lemmas.Committed.{under_ok, under_err, calls_under_ok, calls_under_err}
 use Rattle.lift_clerk.specs.declared.counts.Counts.{Counts}
-use Rattle.lift_clerk.specs.declared.answering.Answer.{Answer}
+use Rattle.lift_clerk.specs.declared.answering.DueAnswer.{DueAnswer}
 use Rattle.lift_clerk.specs.Visits.{Visit, commands_of, LooksAndAnswers}
 use Rattle.lift_clerk.specs.Clerk.{ClerkState}
 use Rattle.lift_clerk.specs.Answering.{AreOwed, terminals_in, replies_in, replies_told, with_answers}
@@ -32,14 +32,14 @@ use Rattle.lift_clerk.specs.lemmas.Visiting.{nothing_owed}
 use Rattle.lift_clerk.proofs.Answered.{many-commands, told_unknown}
 
 -- what was found can be answered
-pub owes_all : {D : Type 0} (desk : List TableId) (choice : Choice) (places seat : List ClerkPlace) (before after : KeeperView D) (answers : List Answer) → IsClerkOf desk places
+pub owes_all : {D : Type 0} (desk : List TableId) (choice : Choice) (places seat : List ClerkPlace) (before after : KeeperView D) (answers : List DueAnswer) → IsClerkOf desk places
     → ClerkScans choice desk places seat before after answers (length desk) → AreOwed desk seat (terminals_in answers)
 owes_all desk choice places seat before after answers seated all =
     subst (λ (l : List ClerkPlace). AreOwed desk l (terminals_in answers)) (sym all.scans.looked)
     (scan-owed desk places all.scans.visits (terminals_in answers) (sym (length-map places (λ (p : ClerkPlace). p.table)) ∙ ap length seated) all.scans.looks all.scans.found.terminals)
 
 -- each look is answered
-pub serves_all : {D : Type 0} (desk : List TableId) (choice : Choice) (places seat next : List ClerkPlace) (before after : KeeperView D) (answers : List Answer) (is_safe : Bool) → IsClerkOf desk places
+pub serves_all : {D : Type 0} (desk : List TableId) (choice : Choice) (places seat next : List ClerkPlace) (before after : KeeperView D) (answers : List DueAnswer) (is_safe : Bool) → IsClerkOf desk places
     → (all : ClerkScans choice desk places seat before after answers (length desk)) → next ≡ with_answers is_safe seat answers → All IsReply (replies_told is_safe answers)
     → LooksAndAnswers places next all.scans.visits (replies_told is_safe answers)
 serves_all desk choice places seat next before after answers is_safe seated all is in_range = record {
@@ -80,7 +80,7 @@ same_keeper k l states writers = λ i. record { state = states i; writer = write
 pub nothing_waits : (batch : List Entry) (is_broken : Bool) → (batch ≡ []) ⊎ (is_broken ≡ true) → is_broken ≡ false → batch ≡ []
 nothing_waits batch is_broken empty_batch whole = ⊎_elim (λ none. none) (λ broken. absurd (cc)) empty_batch
 
-pub good_turn : {D P : Type 0} (desk : List TableId) (choice : Choice) (old new : ClerkState D P) (seat : List ClerkPlace) (between : KeeperView D) (answers : List Answer) (counts : Counts)
+pub good_turn : {D P : Type 0} (desk : List TableId) (choice : Choice) (old new : ClerkState D P) (seat : List ClerkPlace) (between : KeeperView D) (answers : List DueAnswer) (counts : Counts)
     → IsClerkOf desk old.seat
     → (all : ClerkScans choice desk old.seat seat old.keeper between answers (length desk))
     → new.seat ≡ with_answers true seat answers → All IsReply (replies_told true answers) → new.desk ≡ old.desk
@@ -108,7 +108,7 @@ good_turn desk choice old new seat between answers counts seated all stored in_r
       accepted = accepted;
     }
 
-pub failed_turn : {D P : Type 0} (desk : List TableId) (choice : Choice) (old new : ClerkState D P) (seat : List ClerkPlace) (between : KeeperView D) (answers : List Answer)
+pub failed_turn : {D P : Type 0} (desk : List TableId) (choice : Choice) (old new : ClerkState D P) (seat : List ClerkPlace) (between : KeeperView D) (answers : List DueAnswer)
     → IsClerkOf desk old.seat
     → (all : ClerkScans choice desk old.seat seat old.keeper between answers (length desk))
     → new.seat ≡ with_answers false seat answers → All IsReply (replies_told false answers) → new.desk ≡ old.desk
@@ -136,7 +136,7 @@ failed_turn desk choice old new seat between answers seated all stored in_range 
       register = subst (λ (s : State). s.register ≡ register_of old.keeper.writer.register s.batch) (sym same) register;
     }
 
-pub broken_turn : {D P : Type 0} (desk : List TableId) (choice : Choice) (old new : ClerkState D P) (seat : List ClerkPlace) (between : KeeperView D) (answers : List Answer)
+pub broken_turn : {D P : Type 0} (desk : List TableId) (choice : Choice) (old new : ClerkState D P) (seat : List ClerkPlace) (between : KeeperView D) (answers : List DueAnswer)
     → IsClerkOf desk old.seat
     → (all : ClerkScans choice desk old.seat seat old.keeper between answers (length desk))
     → new.seat ≡ with_answers false seat answers → All IsReply (replies_told false answers) → new.desk ≡ old.desk

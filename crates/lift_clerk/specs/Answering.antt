@@ -8,20 +8,20 @@ use Rattle.lift_desk.specs.declared.view.ClerkView.{ClerkView}
 use Rattle.lift_desk.specs.Words.{number_of, last_of, reply_word}
 use Rattle.lift_desk.specs.Steps.{with_answer}
 use Rattle.lift_desk.specs.Seats.{ClerkPlace, Owes, view_at, clerk_with}
-use Rattle.lift_clerk.specs.declared.answering.Answer.{Answer}
+use Rattle.lift_clerk.specs.declared.answering.DueAnswer.{DueAnswer}
 
-abbrev pub terminals_in : List Answer → List ℕ
-terminals_in answers = map (λ (a : Answer). a.terminal) answers
+abbrev pub terminals_in : List DueAnswer → List ℕ
+terminals_in answers = map (λ (a : DueAnswer). a.terminal) answers
 
-abbrev pub replies_in : List Answer → List Reply
-replies_in answers = map (λ (a : Answer). a.reply) answers
+abbrev pub replies_in : List DueAnswer → List Reply
+replies_in answers = map (λ (a : DueAnswer). a.reply) answers
 
 -- what is answered: what was decided where it is safe, else Unknown
 abbrev pub reply_told : Bool → Reply → Reply
 reply_told is_safe reply = if is_safe then reply else Unknown
 
-abbrev pub replies_told : Bool → List Answer → List Reply
-replies_told is_safe answers = map (λ (a : Answer). reply_told is_safe a.reply) answers
+abbrev pub replies_told : Bool → List DueAnswer → List Reply
+replies_told is_safe answers = map (λ (a : DueAnswer). reply_told is_safe a.reply) answers
 
 -- each of these terminals of the desk is owed an answer, and none of them stands twice
 abbrev pub AreOwed : List TableId → List ClerkPlace → List ℕ → Type 0
@@ -36,7 +36,7 @@ with_reply_to_last view reply =
     with_answer view (reply_word (length view.taken) (number_of (last_of view.taken)) reply)
 
 -- the seats once each of these answers is stored at its own terminal
-abbrev pub with_answers : Bool → List ClerkPlace → List Answer → List ClerkPlace
+abbrev pub with_answers : Bool → List ClerkPlace → List DueAnswer → List ClerkPlace
 with_answers is_safe places [] = places
 with_answers is_safe places (a ∷ answers) = with_answers is_safe (clerk_with places a.terminal
     (with_reply_to_last (view_at places a.terminal) (reply_told is_safe a.reply))) answers

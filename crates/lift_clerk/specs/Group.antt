@@ -11,7 +11,7 @@ use Rattle.lift_desk.specs.Steps.{with_ask, with_hearing, with_look, with_told_a
 use Rattle.lift_desk.specs.Seats.{TerminalSeat, view_at, Waits, HearsOf}
 use Rattle.lift_policy.specs.declared.command.Command.{Command}
 use Rattle.lift_world.specs.World.{World, asks, is_answer_to}
-use Rattle.lift_clerk.specs.Answered.{answer_words, ask_of}
+use Rattle.lift_clerk.specs.TakenAndAnswered.{answer_words, ask_of}
 use Rattle.lift_clerk.specs.Machine.{IsMachineOf}
 use Rattle.lift_clerk.specs.Steps.{GroupState}
 

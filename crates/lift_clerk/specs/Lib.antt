@@ -3,7 +3,7 @@ pub mod Clerk
 pub mod Turn
 pub mod Answering
 pub mod Scanning
-pub mod Answered
+pub mod TakenAndAnswered
 pub mod Steps
 pub mod Machine
 pub mod Once

@@ -24,7 +24,7 @@ use Rattle.lift_world.specs.Next.{next, run, goes}
 use Rattle.lift_world.specs.Beside.{is_of_terminals}
 use Rattle.lift_world.specs.Turns.{IsAtRest, IsBrokenAtRest, with_replies}
 use Rattle.lift_world.specs.Turns.{turn_events, failed_events, broken_events}
-use Rattle.lift_clerk.specs.Answered.{ask_of, answer_words}
+use Rattle.lift_clerk.specs.TakenAndAnswered.{ask_of, answer_words}
 use Rattle.lift_clerk.specs.declared.counts.Counts.{Counts}
 use Rattle.lift_clerk.specs.Clerk.{ClerkState}
 use Rattle.lift_clerk.specs.Turn.{IsTurn, IsFailedTurn, IsBrokenTurn}

@@ -11,7 +11,7 @@ use Rattle.lift_policy.specs.Run.{Run, unknowns}
 use Rattle.lift_keeper.specs.Keeper.{KeeperView}
 use Rattle.lift_world.specs.declared.event.Taken.{Taken}
 use Rattle.lift_world.specs.Turns.{with_replies}
-use Rattle.lift_clerk.specs.Answered.{AreApart, Answers}
+use Rattle.lift_clerk.specs.TakenAndAnswered.{AreApart, TakesAndAnswers}
 use Rattle.lift_clerk.specs.Clerk.{ClerkState}
 use Rattle.lift_clerk.specs.Turn.{without_batch}
 
@@ -42,7 +42,7 @@ pub record TurnMakesSafe {D P : Type 0} (old new : ClerkState D P) : Type 0 wher
   pub decided : State
   pub desk : new.desk ≡ old.desk
   pub decides : DecidesOn old.keeper commands replies decided
-  pub answers : Answers old.seat new.seat commands replies
+  pub answers : TakesAndAnswers old.seat new.seat commands replies
   pub state : new.keeper.state ≡ without_batch decided
   pub safe : new.keeper.writer.register ≡ decided.register
   pub is_whole : new.keeper.writer.is_broken ≡ false
@@ -64,7 +64,7 @@ pub record MayAccept {D : Type 0} (keeper : KeeperView D) (batch : List Entry) :
 pub record LeavesInDoubt {D P : Type 0} (old new : ClerkState D P) : Type 0 where
   pub may : MayAccept old.keeper new.keeper.writer.doubt
   pub desk : new.desk ≡ old.desk
-  pub answers : Answers old.seat new.seat may.commands (unknowns may.commands)
+  pub answers : TakesAndAnswers old.seat new.seat may.commands (unknowns may.commands)
   pub some : 0 < length may.decided.batch
   pub breaks : new.keeper.writer.is_broken ≡ true
   pub same_register : new.keeper.writer.register ≡ old.keeper.writer.register
@@ -74,7 +74,7 @@ pub record LeavesInDoubt {D P : Type 0} (old new : ClerkState D P) : Type 0 wher
 pub record AnswersUnknown {D P : Type 0} (old new : ClerkState D P) : Type 0 where
   pub commands : List Command
   pub desk : new.desk ≡ old.desk
-  pub answers : Answers old.seat new.seat commands (unknowns commands)
+  pub answers : TakesAndAnswers old.seat new.seat commands (unknowns commands)
   pub was_broken : old.keeper.writer.is_broken ≡ true
   pub rests : new.keeper.writer ≡ old.keeper.writer
 

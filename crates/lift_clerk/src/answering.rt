@@ -12,12 +12,12 @@ use lift_desk::{ClerkSeat, Desk};
 
 /// What a terminal is to be answered where its batch is safe.
 #[derive(Clone, Copy, Default)]
-pub struct Answer {
+pub struct DueAnswer {
     pub terminal: Terminal,
     pub reply: Reply,
 }
 
-impl Answer {
+impl DueAnswer {
     /// The reply as it is stored: Unknown where its batch isn't known to be safe.
     fn told(self, is_safe: bool) -> Reply
         ensures { result ≡ reply_told is_safe self.reply }
@@ -31,7 +31,7 @@ impl Answer {
 pub fn answer_all(
     desk: &Desk,
     seat: &mut ClerkSeat,
-    answers: &ArrayVec<Answer, MOST_ENTRIES>,
+    answers: &ArrayVec<DueAnswer, MOST_ENTRIES>,
     is_safe: bool,
 )
     requires seated { IsClerkOf desk.now seat.old }

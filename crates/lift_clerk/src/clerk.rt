@@ -9,7 +9,7 @@ ghost use Rattle.lift_keeper.specs.Prelude.{CommitsTo, CommitCalls, Recovers, Re
 ghost use Rattle.lift_clerk.specs.Clerk.{IsClerk, IsToldAt};
 ghost use Rattle.lift_clerk.specs.Turn.{IsTurn, IsFailedTurn, IsBrokenTurn, batch_size};
 
-use crate::answering::{Answer, answer_all};
+use crate::answering::{DueAnswer, answer_all};
 use crate::counts::Counts;
 use crate::scan::{ClerkParts, scan_desk};
 use arrayvec::ArrayVec;
@@ -28,7 +28,7 @@ pub struct Clerk<'d, 'b, D: Disk, P: Policy + Drop> {
     desk: &'d Desk,
     parts: ClerkParts<'b, D, P>,
     /// Room for the answers of a turn, so that none is made for each.
-    answers: ArrayVec<Answer, MOST_ENTRIES>,
+    answers: ArrayVec<DueAnswer, MOST_ENTRIES>,
 }
 
 impl<'d, 'b, D: Disk, P: Policy + Drop> Model for Clerk<'d, 'b, D, P> {

@@ -7,7 +7,7 @@ ghost use Rattle.atomic_table.specs.Seated.{TableId};
 ghost use Rattle.lift_clerk.specs.Visits.{command_at};
 ghost use Rattle.lift_clerk.specs.Scanning.{ClerkScans, Decides};
 
-use crate::answering::Answer;
+use crate::answering::DueAnswer;
 use arrayvec::ArrayVec;
 use lift_base::{MOST_ENTRIES, MOST_TERMINALS, Reply, Terminal};
 use lift_desk::{Ask, ClerkSeat, Desk};
@@ -57,18 +57,18 @@ pub struct ClerkParts<'b, D: Disk, P: Policy + Drop> {
     pub policy: P,
 }
 
-impl<'b, D: Disk, P: Policy + Drop> DeskScan<Answer> for ClerkParts<'b, D, P> {
+impl<'b, D: Disk, P: Policy + Drop> DeskScan<DueAnswer> for ClerkParts<'b, D, P> {
     ghost has_scanned = { λ desk old new answers n. (new.policy ≡ old.policy)
         × ClerkScans (P.chooses old.policy) desk old.seat new.seat old.keeper new.keeper answers
         n };
 
     // (each turn looks at each terminal)
     #[inline(always)]
-    fn visit(&mut self, desk: &Desk, terminal: Terminal) -> Option<Answer> {
+    fn visit(&mut self, desk: &Desk, terminal: Terminal) -> Option<DueAnswer> {
         decisions_keep(&self.policy);
         let ask = desk.look(&mut self.seat, terminal)?;
         let reply = decide(&mut self.keeper, &self.policy, terminal, ask);
-        Some(Answer { terminal, reply })
+        Some(DueAnswer { terminal, reply })
     }
 }
 

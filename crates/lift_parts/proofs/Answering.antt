@@ -3,9 +3,9 @@ use Rattle.lift_world.specs.Turns.{with_replies}
 use Rattle.lift_policy.specs.Run.{unknowns}
 use Rattle.lift_base.specs.declared.command.Reply.TheVariants.{Unknown}
 use Rattle.std.proofs.lemmas.List.{length-map}
-use Rattle.lift_clerk.specs.Answered.{AreApart, AreOthers, Grows, Answers, answers_to}
+use Rattle.lift_clerk.specs.TakenAndAnswered.{AreApart, AreOthers, Grows, TakesAndAnswers, answers_to}
 use Rattle.lift_parts.specs.Batch.{replies_in}
-use Rattle.lift_clerk.specs.Answered.{answer_words, ask_of}
+use Rattle.lift_clerk.specs.TakenAndAnswered.{answer_words, ask_of}
 use Rattle.std.proofs.Common.{ℕ, suc, ◌≡◌, ◌≢◌, ◌+◌, Bool, true, false, cond, eqb, List, [], ◌∷◌, ◌++◌, length, map, refl, sym, ap, subst, ◌∙◌, arith, append_assoc}
 use Rattle.std.specs.Prelude.{filter, All}
 use Rattle.std.proofs.lemmas.List.Elements.{All-cons, All-nil}
@@ -179,7 +179,7 @@ module _ where
   as_long false batch = length-map (commands_in batch) (λ (c : Command). Unknown)
 
   pub answers_them : (is_safe : Bool) (places next : List ClerkPlace) (batch : List NotedCommand) → AreBelow (length places) (commands_in batch) → AreApart (commands_in batch) → AnswersBatch is_safe places batch next
-      → Answers places next (commands_in batch) (replies_of is_safe batch)
+      → TakesAndAnswers places next (commands_in batch) (replies_of is_safe batch)
   answers_them is_safe places next batch below apart k =
       let grown = (grows is_safe places next batch k below apart).1 in
       record {

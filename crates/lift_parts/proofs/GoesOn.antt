@@ -25,7 +25,7 @@ use Rattle.lift_world.specs.declared.event.Taken.{Taken}
 use Rattle.lift_world.specs.World.{World}
 use Rattle.lift_world.specs.Next.{unknown_to}
 use Rattle.lift_world.specs.Turns.{with_replies}
-use Rattle.lift_clerk.specs.Answered.{Answers}
+use Rattle.lift_clerk.specs.TakenAndAnswered.{TakesAndAnswers}
 use Rattle.lift_clerk.specs.lemmas.Committed.{moment_of}
 use Rattle.lift_clerk.specs.Clerk.{ClerkState}
 use Rattle.lift_clerk.specs.Steps.{group_of, DecidesOn, TurnMakesSafe, LeavesInDoubt, AnswersUnknown, MayAccept, ClerkRests, Safe}
@@ -192,7 +192,7 @@ module _ {D : Type 0} (state : D → DiskState) (crashes : CrashesKeep D) (law :
           ap length (t.receives.next.at_desk ∙ is.at_desk ∙ sym is.seated)
           ∙ length-map f.seat (λ (p : ClerkPlace). p.table)
 
-      answers : (is_safe : Bool) → is_ok answer ≡ is_safe → Answers f.seat g.seat cs (replies_of is_safe batch.commands)
+      answers : (is_safe : Bool) → is_ok answer ≡ is_safe → TakesAndAnswers f.seat g.seat cs (replies_of is_safe batch.commands)
       answers is_safe e =
           answers_them is_safe f.seat g.seat batch.commands (subst (λ (n : ℕ). AreBelow n cs) seats t.at_desk) t.apart
           (subst (λ (b : Bool). AnswersBatch b f.seat batch.commands g.seat) e t.answered)

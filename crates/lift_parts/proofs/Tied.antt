@@ -1,5 +1,5 @@
 -- What the worlds of the two parts show, where nothing happens.
-use Rattle.lift_clerk.specs.Answered.{ask_of}
+use Rattle.lift_clerk.specs.TakenAndAnswered.{ask_of}
 use Rattle.std.proofs.Common.{ℕ, zero, suc, ◌≡◌, Bool, true, false, List, [], ◌∷◌, ◌++◌, length, map, drop, Some, refl, sym, ap, subst, ◌∙◌, arith}
 use Rattle.std.specs.Prelude.{filter}
 use Rattle.lift_parts.specs.Line.{Tries, tried}

@@ -1,6 +1,6 @@
 -- What a flusher's turn leads to.
 use Rattle.lift_parts.proofs.Answering.{Grown, answer_told, here, told_here, grows, as_many, answers_as, unknown_as}
-use Rattle.lift_clerk.specs.Answered.{AreApart, answer_words, ask_of}
+use Rattle.lift_clerk.specs.TakenAndAnswered.{AreApart, answer_words, ask_of}
 use Rattle.std.proofs.Common.{ℕ, suc, ◌≡◌, ◌≢◌, ◌+◌, ◌-◌, ◌<◌, Bool, true, false, List, [], ◌∷◌, ◌++◌, length, map, take, drop, Some, refl, sym, ap, subst, ◌∙◌, arith, append_assoc}
 use Rattle.std.specs.Prelude.{filter}
 use Rattle.std.proofs.Math.Seq.{take-append_seam, drop-append_seam}

@@ -1,5 +1,5 @@
 -- A scan is the machine's.
-use Rattle.lift_clerk.specs.Answered.{AreApart, AreOthers, ask_of}
+use Rattle.lift_clerk.specs.TakenAndAnswered.{AreApart, AreOthers, ask_of}
 use Rattle.std.proofs.Common.{ℕ, zero, suc, ◌≡◌, ◌≢◌, ◌+◌, ◌*◌, ◌^◌, ◌<◌, ◌≤◌, Bool, true, false, cond, eqb, List, [], ◌∷◌, ◌++◌, length, map, Option, Some, None, refl, sym, ap, subst, ◌∙◌, arith, append_assoc}
 use Rattle.std.specs.Prelude.{filter, count_by, All, Contains}
 use Rattle.std.specs.List.{AllByRecursion, flat_map}

@@ -1,5 +1,5 @@
 -- What a scan that took something leads to.
-use Rattle.lift_clerk.specs.Answered.{ask_of}
+use Rattle.lift_clerk.specs.TakenAndAnswered.{ask_of}
 use Rattle.std.proofs.Common.{ℕ, suc, ◌≡◌, ◌≢◌, ◌+◌, ◌-◌, ◌≤◌, Bool, true, false, List, [], ◌∷◌, ◌++◌, length, map, take, drop, Option, Some, refl, sym, ap, subst, ◌∙◌, arith, append_assoc}
 use Rattle.std.specs.Prelude.{filter}
 use Rattle.std.proofs.Math.Seq.{take-length, drop-length}

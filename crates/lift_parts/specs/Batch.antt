@@ -13,7 +13,7 @@ use Rattle.lift_policy.specs.declared.command.Command.{Command}
 use Rattle.lift_policy.specs.Eligible.{any_eligible}
 use Rattle.lift_policy.specs.Step.{State}
 use Rattle.lift_policy.specs.Run.{Run}
-use Rattle.lift_clerk.specs.Answered.{AreApart}
+use Rattle.lift_clerk.specs.TakenAndAnswered.{AreApart}
 use Rattle.lift_parts.specs.declared.taken.NotedCommand.{NotedCommand}
 
 pub record BatchState : Type 0 where

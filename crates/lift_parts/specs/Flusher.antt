@@ -11,12 +11,12 @@ use Rattle.lift_journal.specs.declared.fault.JournalFault.TheVariants.{Disk, Bro
 use Rattle.lift_keeper.specs.declared.fault.KeeperFault.{KeeperFault}
 use Rattle.lift_keeper.specs.declared.fault.KeeperFault.TheVariants.{Journal}
 use Rattle.lift_keeper.specs.Writer.{WriterView}
-use Rattle.lift_clerk.specs.declared.answering.Answer.{Answer}
+use Rattle.lift_clerk.specs.declared.answering.DueAnswer.{DueAnswer}
 use Rattle.lift_clerk.specs.Answering.{with_answers, replies_told}
 use Rattle.lift_clerk.specs.Visits.{Visit, FindsAt}
 use Rattle.lift_parts.specs.declared.taken.NotedCommand.{NotedCommand}
 use Rattle.lift_parts.specs.declared.counts.FlushCounts.{FlushCounts}
-use Rattle.lift_clerk.specs.Answered.{AreApart, ask_of}
+use Rattle.lift_clerk.specs.TakenAndAnswered.{AreApart, ask_of}
 use Rattle.lift_parts.specs.Batch.{BatchState, IsDecided, AreBelow, commands_in}
 use Rattle.lift_parts.specs.Batch.{entries_of_batches}
 use Rattle.lift_parts.specs.Line.{ReceiveState, ReceivesOne, WasEmpty, tried}
@@ -61,7 +61,7 @@ LooksGive places batch = AllByRecursion (λ (t : NotedCommand).
     FindsAt (slice_index_or places t.command.terminal no_place) (noted_visit t)) batch
 
 -- the replies of a batch, each to its command's terminal
-abbrev pub answers_in : List NotedCommand → List Answer
+abbrev pub answers_in : List NotedCommand → List DueAnswer
 answers_in taken =
     map (λ (t : NotedCommand). record { terminal = t.command.terminal; reply = t.reply }) taken
 

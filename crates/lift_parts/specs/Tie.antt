@@ -1,5 +1,5 @@
 -- What the machine of events is while the two parts run, and which of its events their turns are.
-use Rattle.lift_clerk.specs.Answered.{answer_words, ask_of}
+use Rattle.lift_clerk.specs.TakenAndAnswered.{answer_words, ask_of}
 use Rattle.std.specs.Prelude.{ℕ, ◌≡◌, ◌≢◌, ◌≤◌, ◌+◌, Bool, true, false, List, [], ◌∷◌, ◌++◌, length}
 use Rattle.std.specs.Prelude.{map, filter, count_by, All, IsTrue, Some, Option, Result, Ok, Err}
 use Rattle.std.specs.List.{flat_map}

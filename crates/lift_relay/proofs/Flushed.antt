@@ -11,9 +11,9 @@ use Rattle.lift_desk.specs.Steps.{with_taking}
 use Rattle.lift_desk.specs.Seats.{ClerkPlace, IsClerkOf, no_place, view_at, clerk_with, ahead_from, TakesOf, Owes, OwesNothing}
 use Rattle.lift_desk.specs.lemmas.Places.{view_at-here}
 use Rattle.lift_desk.specs.lemmas.WordLists.{last_of-push}
-use Rattle.lift_clerk.specs.declared.answering.Answer.{Answer}
+use Rattle.lift_clerk.specs.declared.answering.DueAnswer.{DueAnswer}
 use Rattle.lift_clerk.specs.Answering.{AreOwed, terminals_in, reply_told, replies_told, with_answers}
-use Rattle.lift_clerk.specs.Answered.{AreApart, AreOthers, ask_of}
+use Rattle.lift_clerk.specs.TakenAndAnswered.{AreApart, AreOthers, ask_of}
 use Rattle.lift_clerk.specs.Visits.{Visit, FindsAt}
 use Rattle.lift_clerk.specs.lemmas.Visiting.{taken-new}
 use Rattle.lift_clerk.specs.lemmas.Looking.{Looked}
@@ -128,20 +128,20 @@ settled desk is_safe places next turns batch below apart noted answered was j =
     (at-each-terminal is_safe j (Rests desk is_safe j) (λ p turns noted rests. rests) (skips desk is_safe j) (answers_own desk is_safe j) places batch below apart answered.finds turns noted (was j))
 
 -- what was looked for is owed its answers, and once they are stored the batch is answered
-module _ (desk : List TableId) (places seat : List ClerkPlace) (batch items : List NotedCommand) (answers : List Answer) (is : items ≡ batch) (found : LooksGive places items)
+module _ (desk : List TableId) (places seat : List ClerkPlace) (batch items : List NotedCommand) (answers : List DueAnswer) (is : items ≡ batch) (found : LooksGive places items)
     (looked : seat ≡ looked_for places items) (told : answers ≡ answers_in items) where
   pub owes_them : IsClerkOf desk places → AreBelow (length desk) (commands_in batch) → AreApart (commands_in batch) → AreOwed desk seat (terminals_in answers)
   owes_them seated below apart =
       let many : length places ≡ length desk = sym (length-map places (λ (p : ClerkPlace). p.table)) ∙ ap length seated in
-      subst (λ (x : List ClerkPlace × List Answer). AreOwed desk x.0 (terminals_in x.1)) (λ i. (sym looked i, sym told i))
+      subst (λ (x : List ClerkPlace × List DueAnswer). AreOwed desk x.0 (terminals_in x.1)) (λ i. (sym looked i, sym told i))
       (owed-after desk places items many (subst (λ (l : List NotedCommand). AreBelow (length desk) (commands_in l)) (sym is) below) (subst (λ (l : List NotedCommand). AreApart (commands_in l)) (sym is) apart) found)
 
   pub answered_them : (is_safe : Bool) (next : List ClerkPlace) → next ≡ with_answers is_safe seat answers → All IsReply (replies_told is_safe answers) → AnswersBatch is_safe places batch next
   answered_them is_safe next stored in_range = record {
     finds = subst (LooksGive places) is found;
-    stored = stored ∙ ap (λ (x : List ClerkPlace × List Answer). with_answers is_safe x.0 x.1) (λ i. (looked i, told i))
+    stored = stored ∙ ap (λ (x : List ClerkPlace × List DueAnswer). with_answers is_safe x.0 x.1) (λ i. (looked i, told i))
         ∙ ap (λ (l : List NotedCommand). with_answers is_safe (looked_for places l) (answers_in l)) is;
-    in_range = subst (λ (l : List Answer). All IsReply (replies_told is_safe l)) (told ∙ ap answers_in is) in_range;
+    in_range = subst (λ (l : List DueAnswer). All IsReply (replies_told is_safe l)) (told ∙ ap answers_in is) in_range;
   }
 
   pub as_many : length answers ≡ length batch

@@ -8,7 +8,7 @@ use Rattle.lift_keeper.specs.Commits.{Commits}
 use Rattle.lift_keeper.specs.Writer.{WriterView}
 use Rattle.lift_keeper.specs.declared.fault.KeeperFault.{KeeperFault}
 use Rattle.lift_parts.specs.declared.counts.FlushCounts.{FlushCounts}
-use Rattle.lift_clerk.specs.Answered.{AreApart, ask_of}
+use Rattle.lift_clerk.specs.TakenAndAnswered.{AreApart, ask_of}
 use Rattle.lift_parts.specs.declared.taken.NotedCommand.{NotedCommand}
 use Rattle.lift_parts.specs.Batch.{BatchState, IsDecided, AreBelow, commands_in, next_turns}
 use Rattle.lift_parts.specs.Flusher.{AnswersBatch, AllAnsweredBy}

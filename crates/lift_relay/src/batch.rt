@@ -1,7 +1,7 @@
 //! A sealed batch: the commands of one scan with their replies, and the entries that they add.
 ghost use Rattle.std.specs.Prelude.{◌≡◌, length};
 ghost use Rattle.lift_register.specs.Fits.{FitFrom};
-ghost use Rattle.lift_clerk.specs.Answered.{AreApart};
+ghost use Rattle.lift_clerk.specs.TakenAndAnswered.{AreApart};
 ghost use Rattle.lift_parts.specs.Batch.{AreBelow, AreNoted, IsDecided, commands_in, turns_of};
 
 use crate::basis::Basis;

@@ -3,7 +3,7 @@
 ghost use Rattle.std.specs.Prelude.{◌≡◌, ◌≤◌, ◌+◌, [], length};
 ghost use Rattle.lift_desk.specs.Seats.{IsClerkOf};
 ghost use Rattle.lift_register.specs.Prelude.{register_of, FitFrom};
-ghost use Rattle.lift_clerk.specs.Answered.{AreApart};
+ghost use Rattle.lift_clerk.specs.TakenAndAnswered.{AreApart};
 ghost use Rattle.lift_parts.specs.Batch.{AreBelow, commands_in};
 ghost use Rattle.lift_parts.specs.Scan.{turns_in};
 ghost use Rattle.lift_relay.specs.Scanner.{TakesAhead};

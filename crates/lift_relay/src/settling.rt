@@ -6,7 +6,7 @@ ghost use Rattle.lift_desk.specs.Seats.{IsClerkOf, IsSeatOf, OwesNothing, view_a
 ghost use Rattle.lift_desk.specs.Seats.{seat_with, clerk_with};
 ghost use Rattle.lift_desk.specs.Steps.{with_told_answers, with_told_asks, lists_of};
 ghost use Rattle.lift_keeper.specs.Prelude.{Commits, CommitCalls};
-ghost use Rattle.lift_clerk.specs.Answered.{AreApart};
+ghost use Rattle.lift_clerk.specs.TakenAndAnswered.{AreApart};
 ghost use Rattle.lift_parts.specs.Batch.{commands_in};
 ghost use Rattle.lift_parts.specs.Flusher.{AllAnsweredBy, LooksGive, answers_in, looked_for};
 ghost use Rattle.lift_relay.specs.Heard.{FailureHeard};
@@ -17,7 +17,7 @@ use crate::held::HeldClerk;
 use crate::witness::{HeardBy, Witness, tell_of};
 use arrayvec::ArrayVec;
 use lift_base::{MOST_ENTRIES, Terminal};
-use lift_clerk::{Answer, Clerk, answer_all};
+use lift_clerk::{Clerk, DueAnswer, answer_all};
 use lift_decider::Decider;
 use lift_desk::{ClerkSeat, Desk, Seat, TakeSeat};
 use lift_disk::Disk;
@@ -58,7 +58,7 @@ fn look_again(
     desk: &Desk,
     seat: &mut ClerkSeat,
     commands: ArrayVec<NotedCommand, MOST_ENTRIES>,
-) -> ArrayVec<Answer, MOST_ENTRIES>
+) -> ArrayVec<DueAnswer, MOST_ENTRIES>
     requires seated { IsClerkOf desk.now seat.old }
     requires due { AreDue desk.now seat.old commands.items }
     requires apart { AreApart (commands_in commands.items) }
@@ -77,7 +77,7 @@ fn look_again(
         } = taken;
         let terminal = command.terminal;
         let _found = desk.look_for(seat, terminal, note);
-        answers.push(Answer { terminal, reply });
+        answers.push(DueAnswer { terminal, reply });
     }
     answers
 }

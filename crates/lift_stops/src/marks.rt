@@ -1,8 +1,7 @@
 //! A car's halts made from its open calls, by sets of bits.
 
-ghost use Rattle.std.specs.Prelude.{◌≡◌, ℕ, ◌+◌, ◌*◌, ◌<◌, ◌≤◌, ◌==◌, ◌||◌, List, [], ◌∷◌, ◌++◌, All};
-ghost use Rattle.std.specs.Prelude.{◌-◌};
-ghost use Rattle.std.specs.Prelude.{length, slice_get, Some, true, false};
+ghost use Rattle.std.specs.Prelude.{◌≡◌, ℕ, ◌+◌, ◌-◌, ◌*◌, ◌<◌, ◌≤◌, ◌==◌, ◌||◌, List, [], ◌∷◌};
+ghost use Rattle.std.specs.Prelude.{◌++◌, All, length, slice_get, Some, true, false};
 ghost use Rattle.std.specs.List.{list_any};
 ghost use Rattle.lift_base.specs.declared.travel.Position.{Position as PositionValue};
 ghost use Rattle.lift_base.specs.declared.travel.Halt.{Halt as HaltValue};
@@ -173,6 +172,7 @@ fn marks_of(rows: &[Row], position: &Position) -> Marks
 {
     let mut marks = Marks::new();
     for row in rows {
+        // (an insert for each pass by its name keeps the three sets in registers)
         match pass_of(row, *position) {
             Pass::First => marks.insert(Pass::First, row),
             Pass::Second => marks.insert(Pass::Second, row),

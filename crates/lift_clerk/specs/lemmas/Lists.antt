@@ -5,7 +5,7 @@ use Rattle.std.proofs.lemmas.Bool.{ne_eqb}
 use Rattle.lift_base.specs.declared.command.Reply.{Reply}
 use Rattle.lift_policy.specs.declared.command.Command.{Command}
 use Rattle.lift_world.specs.World.{asks, is_answer_to}
-use Rattle.lift_clerk.specs.Answered.{AreOthers, answers_to}
+use Rattle.lift_clerk.specs.TakenAndAnswered.{AreOthers, answers_to}
 
 -- of other terminals' commands, and of the answers to them, there is none to a terminal
 pub no_asks : (t : ℕ) (cs : List Command) → AreOthers t cs → filter (asks t) cs ≡ []

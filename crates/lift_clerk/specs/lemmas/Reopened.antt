@@ -1,5 +1,5 @@
 -- Reopenings, openings, and what terminals do between calls.
-use Rattle.lift_clerk.specs.Answered.{answer_words}
+use Rattle.lift_clerk.specs.TakenAndAnswered.{answer_words}
 use Rattle.std.proofs.Common.{ℕ, suc, zero, ◌≡◌, ◌-◌, ◌⊎◌, inl, inr, Bool, true, false, List, []}
 use Rattle.std.proofs.Common.{◌∷◌, ◌++◌, take, drop, Some, refl, sym, ap, subst, ◌∙◌, arith}
 use Rattle.std.specs.Prelude.{IsTrue, filter, option_and_then, count_by}

@@ -22,7 +22,7 @@ use Rattle.lift_policy.specs.Run.{unknowns}
 use Rattle.lift_policy.specs.Step.{State}
 use Rattle.lift_keeper.specs.Keeper.{KeeperView}
 use Rattle.lift_keeper.specs.Writer.{WriterView}
-use Rattle.lift_clerk.specs.declared.answering.Answer.{Answer}
+use Rattle.lift_clerk.specs.declared.answering.DueAnswer.{DueAnswer}
 use Rattle.lift_clerk.specs.Visits.{Visit, FindsAt, command_at, commands_of}
 use Rattle.lift_clerk.specs.Answering.{terminals_in, replies_in}
 use Rattle.lift_clerk.specs.Scanning.{ClerkScans, Decides, terminals_of}
@@ -82,7 +82,7 @@ decides-nothing false plan choice state = refl
 -- a clerk's scan that comes one terminal further
 pub scans-more : {D : Type 0} (choice : Choice) (desk : List TableId)
     (places seat next : List ClerkPlace) (before mid after : KeeperView D)
-    (answers others : List Answer) (n : ℕ) (found : Option Ask)
+    (answers others : List DueAnswer) (n : ℕ) (found : Option Ask)
     → RunsJoin choice → n < length desk
     → ClerkScans choice desk places seat before mid answers n
     → LooksOnce TakesOf seat n next found → LookTells (view_at seat n) (view_at next n) found
@@ -109,7 +109,7 @@ scans-more {D} choice desk places seat next before mid after answers others n fo
           let commands : commands_of 0 (visits ++ v ∷ []) ≡ commands_of 0 visits ++ command_at n found =
           commands-more 0 n visits v (omega (arith, count)) in
           record {
-            terminals = map-append (λ (a : Answer). a.terminal) answers others ∙ ap (λ l.
+            terminals = map-append (λ (a : DueAnswer). a.terminal) answers others ∙ ap (λ l.
                 l ++ terminals_in others) was.terminals ∙ ap (λ l.
                 terminals_of (commands_of 0 visits) ++ l) same
                 ∙ sym (map-append (λ (c : Command).
@@ -119,7 +119,7 @@ scans-more {D} choice desk places seat next before mid after answers others n fo
                 (replies_in (answers ++ others)) after.state) (sym commands)
                 (subst (λ rs. Decides is_broken plan choice before.state
                 (commands_of 0 visits ++ command_at n found) rs after.state)
-                (sym (map-append (λ (a : Answer). a.reply) answers others))
+                (sym (map-append (λ (a : DueAnswer). a.reply) answers others))
                 (decides-more is_broken plan choice before.state mid.state after.state
                 (commands_of 0 visits) (command_at n found) (replies_in answers)
                 (replies_in others) join was.decides decided));

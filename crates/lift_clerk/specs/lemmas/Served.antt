@@ -1,5 +1,5 @@
 -- What a turn changes in the words of one terminal.
-use Rattle.lift_clerk.specs.Answered.{AreOthers, AreApart, answers_to, ask_of, Grows, Answers}
+use Rattle.lift_clerk.specs.TakenAndAnswered.{AreOthers, AreApart, answers_to, ask_of, Grows, TakesAndAnswers}
 use Rattle.std.proofs.Common.{ℕ, zero, suc, ◌≡◌, ◌≢◌, ◌+◌, ◌≤◌, Bool, true, false, cond, List, []}
 use Rattle.std.proofs.Common.{◌∷◌, ◌++◌, length, Option, Some, None, refl, sym, ap, subst, ◌∙◌}
 use Rattle.std.proofs.Common.{arith, map}
@@ -208,7 +208,7 @@ spelled (place ∷ places) (visit ∷ visits) first finds =
 
 -- what a scan takes and answers
 pub answers_of : (old new : List ClerkPlace) (visits : List Visit) (replies : List Reply)
-    → LooksAndAnswers old new visits replies → Answers old new (commands_of 0 visits) replies
+    → LooksAndAnswers old new visits replies → TakesAndAnswers old new (commands_of 0 visits) replies
 answers_of old new visits replies serves = record {
   one_each = serves.one_reply_each;
   apart = all_apart 0 visits;

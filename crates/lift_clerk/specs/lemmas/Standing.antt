@@ -1,5 +1,5 @@
 -- What a turn found at the desk, its terminals ask in the machine too.
-use Rattle.lift_clerk.specs.Answered.{AreApart, AreOthers}
+use Rattle.lift_clerk.specs.TakenAndAnswered.{AreApart, AreOthers}
 use Rattle.std.proofs.Common.{ℕ, ◌≡◌, ◌≢◌, ◌≤◌, ◌⊎◌, inl, inr, Bool, true, false, cond, eqb, List}
 use Rattle.std.proofs.Common.{[], ◌∷◌, ◌++◌, length, drop, Option, Some, None, refl, sym, ap, subst}
 use Rattle.std.proofs.Common.{◌∙◌, arith}

@@ -12,10 +12,10 @@ use Rattle.lift_desk.specs.Seats.{ClerkPlace, no_place, view_at, clerk_with, pla
 use Rattle.lift_desk.specs.lemmas.Places.{view_at-else}
 use Rattle.lift_desk.specs.lemmas.WordLists.{last_of-push}
 use Rattle.lift_policy.specs.declared.command.Command.{Command}
-use Rattle.lift_clerk.specs.declared.answering.Answer.{Answer}
+use Rattle.lift_clerk.specs.declared.answering.DueAnswer.{DueAnswer}
 use Rattle.lift_clerk.specs.Answering.{AreOwed, terminals_in, reply_told, replies_told}
 use Rattle.lift_clerk.specs.Answering.{with_answers, with_reply_to_last}
-use Rattle.lift_clerk.specs.Answered.{AreOthers}
+use Rattle.lift_clerk.specs.TakenAndAnswered.{AreOthers}
 use Rattle.lift_clerk.specs.Scanning.{terminals_of}
 use Rattle.lift_clerk.specs.Visits.{Visit, FindsAt, Finds, commands_of, command_at, looked_at, served}
 use Rattle.lift_clerk.specs.lemmas.Served.{behind}
@@ -35,7 +35,7 @@ owed-else desk places t v (u ∷ terminals) apart owed = (
 )
 
 -- what is known at other terminals stays
-pub answered-else : (is_safe : Bool) (places : List ClerkPlace) (answers : List Answer) (j : ℕ)
+pub answered-else : (is_safe : Bool) (places : List ClerkPlace) (answers : List DueAnswer) (j : ℕ)
     → AllByRecursion (λ (other : ℕ). other ≢ j) (terminals_in answers)
     → view_at (with_answers is_safe places answers) j ≡ view_at places j
 answered-else is_safe places [] j apart = refl
@@ -44,7 +44,7 @@ answered-else is_safe places (a ∷ answers) j apart =
     answered-else is_safe (clerk_with places a.terminal view) answers j apart.1
     ∙ view_at-else places a.terminal j view (λ e. apart.0 (sym e))
 
-pub length-answered : (is_safe : Bool) (places : List ClerkPlace) (answers : List Answer)
+pub length-answered : (is_safe : Bool) (places : List ClerkPlace) (answers : List DueAnswer)
     → length (with_answers is_safe places answers) ≡ length places
 length-answered is_safe places [] = refl
 length-answered is_safe places (a ∷ answers) =
@@ -85,7 +85,7 @@ owes-taken p word ask finds =
 
 -- its answer is the first
 module _ (is_safe : Bool) (front : List ClerkPlace) (p : ClerkPlace) (word : ℕ) (ask : Ask)
-    (a : Answer) (places : List ClerkPlace) where
+    (a : DueAnswer) (places : List ClerkPlace) where
   abbrev looked : ClerkView
   looked = with_taking p.view word
 
@@ -111,7 +111,7 @@ module _ (is_safe : Bool) (front : List ClerkPlace) (p : ClerkPlace) (word : ℕ
 
 -- the answers to what these looks found are each stored at its place
 abbrev Stores : Bool → ℕ → List ClerkPlace → List Visit → Type 0
-Stores is_safe first places visits = (front : List ClerkPlace) (answers : List Answer)
+Stores is_safe first places visits = (front : List ClerkPlace) (answers : List DueAnswer)
     → length front ≡ first → terminals_in answers ≡ terminals_of (commands_of first visits)
     → with_answers is_safe (front ++ looked_at places visits) answers
     ≡ front ++ served places visits (replies_told is_safe answers)
@@ -119,7 +119,7 @@ Stores is_safe first places visits = (front : List ClerkPlace) (answers : List A
 stored-case : (is_safe : Bool) (first : ℕ) (p : ClerkPlace) (places : List ClerkPlace) (word : ℕ)
     (found : Option Ask) (visits : List Visit)
     → FindsAt p (record { word = word; found = found }) → Stores is_safe (suc first) places visits
-    → (front : List ClerkPlace) (answers : List Answer) → length front ≡ first
+    → (front : List ClerkPlace) (answers : List DueAnswer) → length front ≡ first
     → terminals_in answers ≡ terminals_of (command_at first found ++ commands_of (suc first) visits)
     → with_answers is_safe (front ++ placed_at p.table (with_taking p.view word)
     ∷ looked_at places visits) answers
@@ -159,7 +159,7 @@ stored-after is_safe first (p ∷ places) (u ∷ visits) finds front answers man
     (stored-after is_safe (suc first) places visits finds.1) front answers many is
 
 pub scan-answered : (is_safe : Bool) (places : List ClerkPlace) (visits : List Visit)
-    (answers : List Answer) → Finds places visits
+    (answers : List DueAnswer) → Finds places visits
     → terminals_in answers ≡ terminals_of (commands_of 0 visits)
     → with_answers is_safe (looked_at places visits) answers
     ≡ served places visits (replies_told is_safe answers)

@@ -25,7 +25,7 @@ use Rattle.lift_world.specs.Policies.{RunsAreAny}
 use Rattle.lift_world.specs.Turns.{IsAtRest, with_replies, world_after_turn, turn_events}
 use Rattle.lift_clerk.specs.Clerk.{ClerkState}
 use Rattle.lift_clerk.specs.Visits.{commands_of}
-use Rattle.lift_clerk.specs.Answered.{Answers}
+use Rattle.lift_clerk.specs.TakenAndAnswered.{TakesAndAnswers}
 use Rattle.lift_clerk.specs.Steps.{DecidesOn, TurnMakesSafe}
 use Rattle.lift_clerk.specs.declared.counts.Counts.{Counts}
 use Rattle.lift_building.specs.Plan.{Plan}
@@ -55,7 +55,7 @@ module _ {D P : Type 0} (laws : Laws) (w : World) (before after : ClerkState D P
     pub alone : fresh w commands ≡ [] → (first ≡ []) × (end.heard ≡ w.heard)
 
   module _ (found : List Command) (rs : List Reply)
-      (answers : Answers before.seat after.seat found rs) (agree : LooksAgree w found)
+      (answers : TakesAndAnswers before.seat after.seat found rs) (agree : LooksAgree w found)
       (same_plan : after.keeper.writer.plan ≡ before.keeper.writer.plan) where
     module _ (own : List Event) (end : World) (k : Leads own found rs end) (safe : List Entry)
         (same_safe : safe_list end ≡ safe) where

@@ -2,8 +2,8 @@ use Rattle.std.proofs.Common.{◌≡◌, ◌<◌, ◌≤◌, List, [], ◌∷◌
 use Rattle.std.proofs.lemmas.List.{length-map}
 use Rattle.lift_desk.specs.Steps.{with_taking}
 use Rattle.lift_desk.specs.Seats.{ClerkPlace, IsNoteOf, Says, view_at}
-use Rattle.lift_clerk.specs.declared.answering.Answer.{Answer}
-use Rattle.lift_clerk.specs.Answered.{AreApart, ask_of}
+use Rattle.lift_clerk.specs.declared.answering.DueAnswer.{DueAnswer}
+use Rattle.lift_clerk.specs.TakenAndAnswered.{AreApart, ask_of}
 use Rattle.lift_clerk.specs.Visits.{FindsAt}
 use Rattle.lift_clerk.specs.lemmas.Scanned.{looked-at}
 use Rattle.lift_parts.specs.declared.taken.NotedCommand.{NotedCommand}
@@ -19,7 +19,7 @@ many : (commands : List NotedCommand) → length (answers_in commands) ≡ lengt
 many commands = length-map commands (λ (t : NotedCommand). record { terminal = t.command.terminal; reply = t.reply })
 
 -- there is room for one more
-room : (answers : List Answer) (left rest commands : List NotedCommand) (taken : NotedCommand) → left ≡ taken ∷ rest → answers ++ answers_in left ≡ answers_in commands → length commands ≤ 63 → length answers < 63
+room : (answers : List DueAnswer) (left rest commands : List NotedCommand) (taken : NotedCommand) → left ≡ taken ∷ rest → answers ++ answers_in left ≡ answers_in commands → length commands ≤ 63 → length answers < 63
 room answers left rest commands taken is all few =
     omega (arith, ap length all, ap length is, length-append answers (answers_in left), many left, many commands)
 
@@ -51,7 +51,7 @@ loop-taken-preserved c =
     let one = finds_one now next t l.looked.0 c.look_for-found.result inside look gives.0 gives.1 in
     let view = with_taking (view_at now k) t.note.word in
     let old = c.loop-taken.answers.items in
-    let a : Answer = record { terminal = k; reply = t.reply } in
+    let a : DueAnswer = record { terminal = k; reply = t.reply } in
     record {
       can_next = tt;
       is_finite = tt;
@@ -61,7 +61,7 @@ loop-taken-preserved c =
       found = λ all. i.found (subst (LooksGive now) (sym is)
           (one.0, all-before (λ (u : NotedCommand) (p : ClerkPlace). FindsAt p (noted_visit u)) now k view rest apart.0 (subst (λ (s : List ClerkPlace). LooksGive s rest) one.1 all)));
       looked = ap (λ (s : List ClerkPlace). looked_for s rest) one.1 ∙ ap (looked_for now) (sym is) ∙ i.looked;
-      answers = ap (λ (xs : List Answer). xs ++ answers_in rest) c.push.ensures.items ∙ append_assoc old (a ∷ []) (answers_in rest)
+      answers = ap (λ (xs : List DueAnswer). xs ++ answers_in rest) c.push.ensures.items ∙ append_assoc old (a ∷ []) (answers_in rest)
           ∙ ap (λ (cs : List NotedCommand). old ++ answers_in cs) (sym is) ∙ i.answers;
       seated = l.stays;
     }

@@ -1,6 +1,6 @@
 use Rattle.std.proofs.Common.{◌≡◌, ◌++◌}
 use Rattle.lift_desk.specs.Seats.{IsClerkOf}
-use Rattle.lift_clerk.specs.Answered.{AreApart}
+use Rattle.lift_clerk.specs.TakenAndAnswered.{AreApart}
 use Rattle.lift_parts.specs.Batch.{commands_in}
 use Rattle.lift_parts.specs.Flusher.{LooksGive, answers_in, looked_for}
 use Rattle.lift_relay.specs.Settler.{AreDue}

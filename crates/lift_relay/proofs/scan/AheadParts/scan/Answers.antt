@@ -1,7 +1,7 @@
 use Rattle.std.proofs.Common.{length, refl, sym, ap, subst, arith}
 use Rattle.std.proofs.lemmas.List.{length-map}
 use Rattle.lift_keeper.specs.lemmas.Keepers.{nothing_more}
-use Rattle.lift_clerk.specs.Answered.{AreApart}
+use Rattle.lift_clerk.specs.TakenAndAnswered.{AreApart}
 use Rattle.lift_clerk.specs.lemmas.Served.{all_apart}
 use Rattle.lift_parts.specs.declared.taken.NotedCommand.{NotedCommand}
 use Rattle.lift_parts.specs.Batch.{AreBelow, commands_in, replies_in}

@@ -2,7 +2,7 @@ use Rattle.std.proofs.Common.{◌≡◌, true, false, List, length, refl, sym, a
 use Rattle.std.specs.Prelude.{Ok, Err}
 use Rattle.atomic_table.specs.Seated.{TableId}
 use Rattle.lift_base.specs.declared.history.Entry.{Entry}
-use Rattle.lift_clerk.specs.Answered.{AreApart}
+use Rattle.lift_clerk.specs.TakenAndAnswered.{AreApart}
 use Rattle.lift_keeper.specs.Prelude.{Commits, CommitCalls}
 use Rattle.lift_keeper.specs.lemmas.Committed.{under_ok, under_err, calls_under_ok, calls_under_err}
 use Rattle.lift_parts.specs.declared.counts.FlushCounts.{FlushCounts}

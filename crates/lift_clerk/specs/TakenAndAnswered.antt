@@ -43,7 +43,7 @@ pub record Grows (before after : ClerkView) (cs : List Command)
   pub same : length cs ≡ length answers
 
 -- These commands were taken, at most one of each terminal, and answered so, and nothing else was.
-pub record Answers (old new : List ClerkPlace) (commands : List Command)
+pub record TakesAndAnswers (old new : List ClerkPlace) (commands : List Command)
     (replies : List Reply) : Type 0 where
   pub one_each : length replies ≡ length commands
   pub apart : AreApart commands
