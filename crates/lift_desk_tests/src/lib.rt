@@ -1,4 +1,4 @@
-//! Callers of the desk, written as the layers above it are, and its tests.
+//! Callers of the desk, written as the layers above it are.
 #![tactic(auto)]
 
 mod alone;
@@ -10,6 +10,3 @@ pub use alone::{answer_and_hear, ask_and_take};
 pub use clerk::scan;
 pub use relay::{relay_once, take_asked};
 pub use terminal::{Answer, ask_and_hear};
-
-#[cfg(test)]
-mod tests;

@@ -1,9 +1,11 @@
-//! Tests of the sessions of kiosks and cars, and of drives, over a desk whose clerk is played while
-//! the port rests.
+//! Tests of the desk, and of the sessions of kiosks and cars, and of drives, over a desk whose clerk
+//! is played while the port rests.
 #![tactic(auto)]
 
 #[cfg(test)]
 mod cars;
+#[cfg(test)]
+mod desk;
 #[cfg(test)]
 mod drives;
 #[cfg(test)]

@@ -2,7 +2,7 @@ use Rattle.std.proofs.Common.{◌≡◌, ◌-◌, ◌<◌, get_or, Some, sym, ap
 use Rattle.std.specs.Prelude.{vec_len}
 use Rattle.std.proofs.lemmas.List.Elements.{All-take}
 use Rattle.lift_desk.specs.Seats.{TerminalSeat, AreSeatsOf, IsSeatOf}
-use Rattle.lift_desk_tests.proofs.tests.last_seat.Goals as goal
+use Rattle.lift_sessions_tests.proofs.desk.last_seat.Goals as goal
 
 pub returns-clause-seat : goal.returns-clause-seat
 returns-clause-seat c =

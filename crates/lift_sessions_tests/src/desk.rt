@@ -2,11 +2,11 @@
 ghost use Rattle.std.specs.Prelude.{◌≡◌, ◌+◌, ◌<◌, ◌≤◌, length, vec_len, IfOk};
 ghost use Rattle.lift_desk.specs.Seats.{IsSeatOf, IsClerkOf, AreSeatsOf};
 
-use super::*;
 use lift_base::{Body, Dir, Floor, Letter, Number, Party, Reason, Reply, Stop, Terminal};
 use lift_desk::{
     Ask, AskRefusal, ClerkSeat, Desk, DeskParts, Seat, ask_word, read_ask, read_reply, reply_word,
 };
+use lift_desk_tests::{Answer, ask_and_hear, relay_once, scan};
 use std::alloc::{AllocError, Global};
 use std::process::Abort;
 use std::test::Fail;
