@@ -12,7 +12,7 @@ piece_is : (text : List ℕ) (k : ℕ) → take 16 (drop (16 + 16 * k) text) ≡
 piece_is text k = ap (take 16) (sym (drop-drop (16 * k) 16 text))
 
 pub loop-k-init : goal.loop-k-init
-loop-k-init c = subst (IsRecordsIn c.args.version (drop 16 c.args.text.now) 0) (sym c.requires.empty) (records_none c.args.version (drop 16 c.args.text.now))
+loop-k-init c = subst (IsRecordsIn c.args.version (drop 16 c.args.text.now) 0) (sym c.clear.ensures) (records_none c.args.version (drop 16 c.args.text.now))
 
 pub loop-k-preserved : goal.loop-k-preserved
 loop-k-preserved c =

@@ -12,21 +12,21 @@ returns-then-bodies-end-clause-seen g c honest synced is =
     no_next image c.args.gate c.args.end c.args.header.number c.args.first.now is c.told-first (omega (arith, whole, c.requires.inside)) c.args.header c.requires.header refl
     (omega (arith, c.if-bodies-end.true, c.body_count-bodies.ensures, c.requires.below))
 
-pub returns-in-Some-clause-seen : goal.returns-in-Some-clause-seen
-returns-in-Some-clause-seen g c honest synced is =
+pub returns-clause-seen : goal.returns-clause-seen
+returns-clause-seen g c honest synced is =
     let image = (g.D.Disk.state c.args.disk.now).image in
     let whole : length image ≡ (g.D.Disk.state c.args.disk.now).size = g.met.D.Disk.whole c.args.disk.now honest in
     let few = c.body_count-bodies.ensures in
-    let batch : Batch = record { version = c.args.header.version; records = c.in-Some.records.items } in
+    let batch : Batch = record { version = c.args.header.version; records = c.parse.new.records.items } in
     batch_there image c.args.gate c.args.end c.args.header.number c.args.first.now is c.told-first (omega (arith, whole, c.requires.inside)) c.args.header c.requires.header refl
     c.in_ok-second.second c.in_ok-second.ensures.length
     (λ two. c.in_ok-second.ensures.gives (ap (λ k. nat_eq k 2) (few ∙ two)) honest synced)
     (λ one. c.in_ok-second.ensures.zeros (ap (λ k. nat_eq k 2) (few ∙ one)))
     (omega (arith, c.if-bodies-end.false, few, c.requires.below))
-    batch refl c.in-Some.ensures.some.0 c.in-Some.ensures.some.1
+    batch refl (c.parse.ensures.some c.if-not-parse.false).0 (c.parse.ensures.some c.if-not-parse.false).1
 
-pub returns-in-None-clause-seen : goal.returns-in-None-clause-seen
-returns-in-None-clause-seen g c honest synced is =
+pub returns-then-not-parse-clause-seen : goal.returns-then-not-parse-clause-seen
+returns-then-not-parse-clause-seen g c honest synced is =
     let image = (g.D.Disk.state c.args.disk.now).image in
     let whole : length image ≡ (g.D.Disk.state c.args.disk.now).size = g.met.D.Disk.whole c.args.disk.now honest in
     let few = c.body_count-bodies.ensures in
@@ -35,7 +35,7 @@ returns-in-None-clause-seen g c honest synced is =
     (λ two. c.in_ok-second.ensures.gives (ap (λ k. nat_eq k 2) (few ∙ two)) honest synced)
     (λ one. c.in_ok-second.ensures.zeros (ap (λ k. nat_eq k 2) (few ∙ one)))
     (omega (arith, c.if-bodies-end.false, few, c.requires.below))
-    c.in-None.ensures.none
+    (c.parse.ensures.none c.if-not-parse.true)
 
 pub returns-in_err-second-clause-unfinished : goal.returns-in_err-second-clause-unfinished
 returns-in_err-second-clause-unfinished g c =
