@@ -36,64 +36,74 @@ pub fn sync_device<D: Disk>(disk: &mut D) -> Result<(), DiskFault>
 }
 
 /// Reads a sector of a synced device.
-pub fn read_sector<D: Disk>(disk: &mut D, sector: u32) -> Result<[u8; 512], DiskFault>
+pub fn read_sector<D: Disk>(
+    disk: &mut D,
+    sector: u32,
+    buffer: &mut [u8; 512],
+) -> Result<(), DiskFault>
     requires { sector < (D.state disk.old).size }
     ensures looks { Looks result (D.state disk.old) (D.state disk.new) }
-    ensures length { IfOk result (λ bytes. length bytes ≡ 512) }
-    ensures gives { IfOk result (λ bytes. (D.state disk.old).is_honest → IsSynced (D.state disk.old)
-        → sector_at (D.state disk.old).image sector ≡ bytes) }
+    ensures length { length buffer.new ≡ 512 }
+    ensures gives { OnOk result ((D.state disk.old).is_honest → IsSynced (D.state disk.old)
+        → sector_at (D.state disk.old).image sector ≡ buffer.new) }
     ensures read { OnOk result ((D.state disk.new).trace ≡ (D.state disk.old).trace
         ++ reads_from sector 1) }
     ensures unread { OnErr result ((D.state disk.new).trace ≡ (D.state disk.old).trace) }
 {
-    let mut buffer = [0; 512];
-    disk.read(sector, &mut buffer)?;
-    Ok(buffer)
+    disk.read(sector, buffer)
 }
 
-/// Reads a sector if it is wanted; else zeros stand for it.
-fn read_second<D: Disk>(disk: &mut D, sector: u32, is_wanted: bool) -> Result<[u8; 512], DiskFault>
+/// Reads a sector if it is wanted; else the buffer stays as it is.
+fn read_second<D: Disk>(
+    disk: &mut D,
+    sector: u32,
+    is_wanted: bool,
+    buffer: &mut [u8; 512],
+) -> Result<(), DiskFault>
     requires { is_wanted ≡ true → sector < (D.state disk.old).size }
     ensures looks { Looks result (D.state disk.old) (D.state disk.new) }
-    ensures length { IfOk result (λ bytes. length bytes ≡ 512) }
-    ensures gives { IfOk result (λ bytes. is_wanted ≡ true → (D.state disk.old).is_honest
+    ensures length { length buffer.new ≡ 512 }
+    ensures gives { OnOk result (is_wanted ≡ true → (D.state disk.old).is_honest
         → IsSynced (D.state disk.old)
-        → sector_at (D.state disk.old).image sector ≡ bytes) }
-    ensures zeros { IfOk result (λ bytes. is_wanted ≡ false → bytes ≡ zeros) }
+        → sector_at (D.state disk.old).image sector ≡ buffer.new) }
+    ensures stays { OnOk result (is_wanted ≡ false → buffer.new ≡ buffer.old) }
     ensures read { OnOk result ((D.state disk.new).trace ≡ (D.state disk.old).trace
         ++ reads_from sector (if is_wanted then 1 else 0)) }
     ensures unread { OnErr result ((D.state disk.new).trace ≡ (D.state disk.old).trace) }
     ensures wanted { OnErr result (is_wanted ≡ true) }
 {
     if !is_wanted {
-        return Ok([0; 512]);
+        return Ok(());
     }
-    read_sector(disk, sector)
+    read_sector(disk, sector, buffer)
 }
 
 /// What stands at an open gate, after which this header is read: the second body sector is read,
-/// if it has one. A batch is left in `stored`.
+/// if it has one; else zeros stand for it. A batch is left in `stored`.
 fn read_rest<D: Disk>(
     disk: &mut D,
     gate: u32,
     end: u32,
     header: Header,
-    first: &[u8; 512],
+    body: &mut [[u8; 512]; 2],
     stored: &mut Stored,
 ) -> Result<AtGate, DiskFault>
     requires below { gate + 2 < end }
     requires inside { end ≤ (D.state disk.old).size }
-    requires header { IsHeaderSpelling (take 16 first.now) header }
+    requires header { IsHeaderSpelling (take 16 (sector_at body.old 0)) header }
+    requires whole { length (sector_at body.old 0) ≡ 512 }
+    requires blank { sector_at body.old 1 ≡ zeros }
     ensures looks { Looks result (D.state disk.old) (D.state disk.new) }
     ensures unclosed { IfOk result (λ at. at ≢ AtGate.Closed) }
     ensures fits { IfOk result (λ at. at ≡ AtGate.Batch → FitsBelow gate end stored.new) }
     ensures seen { IfOk result (λ at. (D.state disk.old).is_honest → IsSynced (D.state disk.old)
-        → sector_at (D.state disk.old).image (gate + 1) ≡ first.now
+        → sector_at (D.state disk.old).image (gate + 1) ≡ sector_at body.old 0
         → ShowsBody (D.state disk.old).image gate end header.number at stored.new) }
     ensures row { OnOk result (HasRead (gate + 2) 1 end (D.state disk.old) (D.state disk.new)) }
     ensures unread { OnErr result (HasRead (gate + 2) 0 end (D.state disk.old) (D.state disk.new)) }
     ensures unfinished { OnErr result ((D.state disk.old).is_honest → IsSynced (D.state disk.old)
-        → sector_at (D.state disk.old).image (gate + 1) ≡ first.now → (batch : BatchValue)
+        → sector_at (D.state disk.old).image (gate + 1) ≡ sector_at body.old 0
+        → (batch : BatchValue)
         → IsBatchAt (D.state disk.old).image gate end header.number batch → size_of batch ≡ 2) }
     ensures whole { IfOk result (λ at. at ≡ AtGate.Batch
         → (D.state disk.new).trace ≡ (D.state disk.old).trace
@@ -104,9 +114,10 @@ fn read_rest<D: Disk>(
     if bodies >= end - gate - 1 {
         return Ok(AtGate::Damaged);
     }
-    let second = read_second(disk, gate + 2, bodies == 2)?;
+    read_second(disk, gate + 2, bodies == 2, &mut body[1])?;
     stored.version = header.version;
-    if !parse(header.version, count, first, &second, &mut stored.records) {
+    let text = body.as_flattened();
+    if !parse(header.version, text, count, &mut stored.records) {
         return Ok(AtGate::Damaged);
     }
     Ok(AtGate::Batch)
@@ -141,9 +152,10 @@ fn read_body<D: Disk>(
     if end - gate <= 2 {
         return Ok(AtGate::Damaged);
     }
-    let first = read_sector(disk, gate + 1)?;
-    match header_of(&first, number) {
-        Some(header) => read_rest(disk, gate, end, header, &first, stored),
+    let mut body = [[0; 512]; 2];
+    read_sector(disk, gate + 1, &mut body[0])?;
+    match header_of(&body[0], number) {
+        Some(header) => read_rest(disk, gate, end, header, &mut body, stored),
         None => Ok(AtGate::Damaged),
     }
 }

@@ -24,7 +24,7 @@ loop-k-preserved c =
     subst (IsRecordsIn c.args.version (drop 16 text) (c.loop-k.k + 1)) (sym pushed.2)
     (records_more c.args.version (drop 16 text) c.loop-k.k c.loop-k.records.items pushed.0 c.loop-k.invariant
     (record { is_record = (spells.typed, spells.lawful); sayable = spells.sayable })
-    (omega (arith, length-drop 16 text, c.told-text, c.loop-k-test.true, c.requires.few)) same)
+    (omega (arith, length-drop 16 text, c.requires.whole, c.loop-k-test.true, c.requires.few)) same)
 
 pub returns-then-not-push_next-clause-none : goal.returns-then-not-push_next-clause-none
 returns-then-not-push_next-clause-none c _ records there =
