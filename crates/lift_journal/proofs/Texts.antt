@@ -1,6 +1,6 @@
 -- The bytes of a batch.
-use Rattle.std.proofs.Common.{◌≡◌, ◌≤◌, ◌<◌, ◌+◌, ◌-◌, ◌*◌, ℕ, suc, List, [], ◌∷◌, ◌++◌, length, take, drop, get_or, replicate, All, refl, sym, ◌∙◌, ap, arith, length-append, length-drop, append_assoc, take-append-drop, zero, Bool, true, false, cond, nat_lt}
-use Rattle.std.proofs.lemmas.List.{take_at, drop_at, drop_all, drop-drop, drop-replicate, flat_map_more, append-nil, take-replicate, length-replicate, replicate-append-replicate, take-append-le, take-take, drop-take, drop_more}
+use Rattle.std.proofs.Common.{◌≡◌, ◌≤◌, ◌<◌, ◌+◌, ◌-◌, ◌*◌, ℕ, suc, List, [], ◌∷◌, ◌++◌, slice_set, length, take, drop, get_or, replicate, All, refl, sym, ◌∙◌, ap, arith, length-append, append_assoc, take-append-drop, zero, Bool, true, false, cond, nat_lt}
+use Rattle.std.proofs.lemmas.List.{take_at, drop_at, drop-drop, drop-replicate, flat_map_more, append-nil, take-replicate, replicate-append-replicate, take-append-le, take-take, drop-take, drop_more}
 use Rattle.std.proofs.lemmas.Option.{unwrap_or-slice_get}
 use Rattle.std.proofs.lemmas.List.Elements.{All-nil, All-append, All-from_recursion}
 use Rattle.std.specs.List.{flat_map, concat}
@@ -205,19 +205,12 @@ records_more version text k records next so_far lawful room is =
           ∙ ap (λ (l : List ℕ). take (16 * k) text ++ l) (sym is) ∙ sym (take-add (16 * k) 16 text) ∙ ap (λ n. take n text) (sym twice);
     }
 
--- two pieces put into a blank text fill it
-pub joined_is : (first second mid text : List ℕ) → length first ≡ 512 → length second ≡ 512
-    → mid ≡ take 0 (replicate 1024 0) ++ (first ++ drop (0 + length first) (replicate 1024 0))
-    → text ≡ take 512 mid ++ (second ++ drop (512 + length second) mid) → text ≡ first ++ second
-joined_is first second mid text one two is also =
-    let zeros : List ℕ = replicate 1024 0 in
-    let rest = drop (0 + length first) zeros in
-    let size : length rest ≡ 512 = omega (arith, length-drop (0 + length first) zeros, length-replicate {A = ℕ} 1024 0, one) in
-    let front : take 512 mid ≡ first = ap (take 512) is ∙ take_at first rest 512 one in
-    let none : drop (512 + length second) mid ≡ [] =
-    ap (drop (512 + length second)) is ∙ drop_all (512 + length second) (first ++ rest) (omega (arith, length-append first rest, size, one, two)) in
-    also ∙ ap (λ (l : List ℕ). l ++ (second ++ drop (512 + length second) mid)) front
-    ∙ ap (λ (l : List ℕ). first ++ (second ++ l)) none ∙ ap (λ (l : List ℕ). first ++ l) (append-nil second)
+-- the text of a body whose second sector is this one
+pub text_of_sectors : (body : Image) (second : List ℕ) → length body ≡ 2 → flat_map (λ sector. sector) (slice_set body 1 second) ≡ sector_at body 0 ++ second
+text_of_sectors [] second two = absurd (cc two)
+text_of_sectors (first ∷ []) second two = absurd (cc two)
+text_of_sectors (first ∷ blank ∷ []) second two = ap (λ (l : List ℕ). first ++ l) (append-nil second)
+text_of_sectors (first ∷ blank ∷ more ∷ rest) second two = absurd (cc two)
 
 -- what stands after the header, as records and zeros
 pub tail_split : (version : Version) (count : ℕ) (records : List Record) (text : List ℕ) → length text ≡ 1024 → count ≤ 63 → IsRecordsIn version (drop 16 text) count records

@@ -182,9 +182,9 @@ front_same (batch ∷ batches) number (gate ∷ rest) (first ∷ others) front s
     (subst IsOpen (sym gate_same) front.0, subst (IsBody number batch) (sym body_same) front.1, front_same batches (number + 1) (drop n rest) (drop n others) front.2 next_same)
 
 -- what a look has shown, of the image at the start
-pub seen_at : (first mid : Image) (gate end number : ℕ) (at found : AtGate) → mid ≡ first → at ≡ found → ShowsAt mid gate end number at → ShowsAt first gate end number found
-seen_at first mid gate end number at found same is shows =
-    subst (λ (l : Image). ShowsAt l gate end number found) same (subst (λ (a : AtGate). ShowsAt mid gate end number a) is shows)
+pub seen_at : (first mid : Image) (gate end number : ℕ) (at found : AtGate) (stored : Stored) → mid ≡ first → at ≡ found → ShowsAt mid gate end number at stored → ShowsAt first gate end number found stored
+seen_at first mid gate end number at found stored same is shows =
+    subst (λ (l : Image). ShowsAt l gate end number found stored) same (subst (λ (a : AtGate). ShowsAt mid gate end number a stored) is shows)
 
 pub walk_begins : {V : Type 0} (takes : V → List Record → V → Type 0) (visitor : V) (disk : DiskState) (start end : ℕ) (front : Front) → LeavesNoOther disk → 1 ≤ start → start < end
     → front ≡ record { gate = start; number = 1; version = One; last = None } → Walking takes visitor visitor disk disk start end front

@@ -39,16 +39,17 @@ pub record FitsBelow (gate end : ℕ) (stored : Stored) : Type 0 where
   pub few : length stored.records.items ≤ 63
   pub below : gate + 1 + body_size (length stored.records.items) < end
 
--- this stands after an open gate
-abbrev pub ShowsBody : Image → ℕ → ℕ → ℕ → AtGate → Type 0
-ShowsBody image gate end number Closed = ⊥
-ShowsBody image gate end number (BatchAt stored) = IsBatchAt image gate end number (batch_of stored)
-ShowsBody image gate end number Damaged = (batch : Batch) → ¬ IsBatchAt image gate end number batch
+-- this stands after an open gate, where a batch is one that was read
+abbrev pub ShowsBody : Image → ℕ → ℕ → ℕ → AtGate → Stored → Type 0
+ShowsBody image gate end number Closed stored = ⊥
+ShowsBody image gate end number BatchAt stored = IsBatchAt image gate end number (batch_of stored)
+ShowsBody image gate end number Damaged stored =
+    (batch : Batch) → ¬ IsBatchAt image gate end number batch
 
--- this stands at a gate
-abbrev pub ShowsAt : Image → ℕ → ℕ → ℕ → AtGate → Type 0
-ShowsAt image gate end number Closed = IsClosed (sector_at image gate)
-ShowsAt image gate end number (BatchAt stored) = IsOpen (sector_at image gate)
+-- this stands at a gate, where a batch is one that was read
+abbrev pub ShowsAt : Image → ℕ → ℕ → ℕ → AtGate → Stored → Type 0
+ShowsAt image gate end number Closed stored = IsClosed (sector_at image gate)
+ShowsAt image gate end number BatchAt stored = IsOpen (sector_at image gate)
     × IsBatchAt image gate end number (batch_of stored)
-ShowsAt image gate end number Damaged = IsOpen (sector_at image gate)
+ShowsAt image gate end number Damaged stored = IsOpen (sector_at image gate)
     × ((batch : Batch) → ¬ IsBatchAt image gate end number batch)

@@ -1,4 +1,6 @@
 //! A batch as it was read.
+ghost use Rattle.std.specs.Prelude.{◌≡◌, []};
+
 use arrayvec::ArrayVec;
 use lift_base::{MOST_ENTRIES, Record};
 use lift_record::Version;
@@ -11,4 +13,16 @@ pub type RecordList = ArrayVec<Record, MOST_ENTRIES>;
 pub struct Stored {
     pub version: Version,
     pub records: RecordList,
+}
+
+impl Stored {
+    /// No batch yet.
+    pub fn empty() -> Self
+        ensures { result.records.items ≡ [] }
+    {
+        Stored {
+            version: Version::One,
+            records: ArrayVec::new(),
+        }
+    }
 }

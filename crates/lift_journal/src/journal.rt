@@ -18,6 +18,7 @@ ghost use Rattle.lift_journal.specs.Becomes.{Becomes, MovesOnOk, RefusesForRoom}
 ghost use Rattle.lift_journal.specs.Next.{GivesNext, MovesCursor, NextCalls};
 ghost use Rattle.lift_journal.specs.Visits.{TakesAll, HasTaken, ShownBefore};
 
+use crate::batch::Stored;
 use crate::body::{body_count, put_body, sectors_of};
 use crate::checkpoint::{batches_for, other_half, write_checkpoint};
 use crate::device::write_batch;
@@ -309,11 +310,13 @@ impl<D: Disk> Journal<D> {
             return Ok(None);
         }
         let gate = self.place.start + cursor.skipped;
+        let mut stored = Stored::empty();
         match look(
             &mut self.device,
             gate,
             self.place.start + self.place.shape.half,
             cursor.given + 1,
+            &mut stored,
         ) {
             Err(DiskFault) => {
                 self.is_broken = true;
@@ -321,7 +324,7 @@ impl<D: Disk> Journal<D> {
             }
             Ok(AtGate::Damaged) => Err(JournalFault::Damaged(gate)),
             Ok(AtGate::Closed) => Err(JournalFault::Damaged(gate)),
-            Ok(AtGate::Batch(stored)) => {
+            Ok(AtGate::Batch) => {
                 cursor.skipped += 1 + body_count(stored.records.len()) as u32;
                 cursor.given += 1;
                 Ok(Some(stored.records))

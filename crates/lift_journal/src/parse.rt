@@ -1,5 +1,5 @@
 //! The reading of a batch.
-ghost use Rattle.std.specs.Prelude.{◌≡◌, ◌≤◌, ◌-◌, ◌+◌, ◌++◌, ◌↔◌, IsTrue, IfSome, IfNone, Some};
+ghost use Rattle.std.specs.Prelude.{◌≡◌, ◌≤◌, ◌-◌, ◌+◌, ◌++◌, ◌↔◌, IsTrue, IfSome, Some};
 ghost use Rattle.std.specs.Prelude.{List, IsFalse, [], ◌∷◌, ◌<◌, length, take, drop, replicate};
 ghost use Rattle.lift_base.specs.declared.history.Record.{Record as RecordValue};
 ghost use Rattle.lift_record.specs.Header.{IsHeaderSpelling};
@@ -8,8 +8,7 @@ ghost use Rattle.lift_record.specs.declared.version.Version.{Version as VersionV
 ghost use Rattle.lift_journal.specs.Seen.{IsRecordsIn, IsTailOf};
 
 use crate::batch::RecordList;
-use crate::bytes::{put, sixteen};
-use arrayvec::ArrayVec;
+use crate::bytes::sixteen;
 use lift_base::{Dir, Entry, Floor, Letter, Number, Record, push_some};
 use lift_record::{Header, Version, decode, decode_header};
 
@@ -93,8 +92,8 @@ fn push_decoded(version: Version, bytes: &[u8; 16], records: &mut RecordList) ->
 
 /// Adds the record that the text spells at this place, if one is spelled there. A stop takes fewer
 /// steps.
-fn push_next(version: Version, text: &[u8; 1024], at: usize, records: &mut RecordList) -> bool
-    requires whole { at + 16 ≤ 1024 }
+fn push_next(version: Version, text: &[u8], at: usize, records: &mut RecordList) -> bool
+    requires whole { at + 16 ≤ length text.now }
     requires room { length records.old.items < 63 }
     ensures pushed { IsTrue result → (content : RecordValue)
         × IsSpellingOf version (take 16 (drop at text.now)) content
@@ -110,16 +109,17 @@ fn push_next(version: Version, text: &[u8; 1024], at: usize, records: &mut Recor
     true
 }
 
-/// Puts this many records after the header of this text into a list, if they are spelled there.
+/// Fills a list with this many records after the header of this text, if they are spelled there.
 #[inline(never)]
-fn read_records(version: Version, text: &[u8; 1024], count: usize, records: &mut RecordList) -> bool
+fn read_records(version: Version, text: &[u8], count: usize, records: &mut RecordList) -> bool
+    requires whole { length text.now ≡ 1024 }
     requires few { count ≤ 63 }
-    requires empty { records.old.items ≡ [] }
     ensures some { IsTrue result
         → IsRecordsIn version (drop 16 text.now) count records.new.items }
     ensures none { IsFalse result → (others : List RecordValue)
         → ¬ IsRecordsIn version (drop 16 text.now) count others }
 {
+    records.clear();
     for k in 0..count {
         if !push_next(version, text, 16 + 16 * k, records) {
             return false;
@@ -132,36 +132,27 @@ fn read_records(version: Version, text: &[u8; 1024], count: usize, records: &mut
 static ZEROS: [u8; 1024] = [0; 1024];
 
 /// Whether all bytes from this place on are zero.
-fn is_zero_from(text: &[u8; 1024], at: usize) -> bool
-    requires { at ≤ 1024 }
+fn is_zero_from(text: &[u8], at: usize) -> bool
+    requires whole { length text.now ≡ 1024 }
+    requires inside { at ≤ 1024 }
     ensures { IsTrue result ↔ (drop at text.now ≡ replicate (1024 - at) 0) }
 {
     let rest: &[u8] = &text[at..];
     rest == &ZEROS[at..]
 }
 
-/// The records after the header of a body of two sectors, if they and zeros stand there.
-pub fn parse(
-    version: Version,
-    count: usize,
-    first: &[u8; 512],
-    second: &[u8; 512],
-) -> Option<RecordList>
-    requires { count ≤ 63 }
-    ensures some { IfSome result (λ records. (length records.items ≡ count)
-        × IsTailOf version records.items (drop 16 (first.now ++ second.now))) }
-    ensures none { IfNone result ((records : List RecordValue) → length records ≡ count
-        → ¬ IsTailOf version records (drop 16 (first.now ++ second.now))) }
+/// Fills a list with the records after the header of a text of two sectors, if they and zeros stand
+/// there.
+pub fn parse(version: Version, text: &[u8], count: usize, records: &mut RecordList) -> bool
+    requires whole { length text.now ≡ 1024 }
+    requires few { count ≤ 63 }
+    ensures some { IsTrue result → (length records.new.items ≡ count)
+        × IsTailOf version records.new.items (drop 16 text.now) }
+    ensures none { IsFalse result → (others : List RecordValue) → length others ≡ count
+        → ¬ IsTailOf version others (drop 16 text.now) }
 {
-    let mut text = [0; 1024];
-    put(&mut text, 0, first);
-    put(&mut text, 512, second);
-    if !is_zero_from(&text, 16 + 16 * count) {
-        return None;
+    if !is_zero_from(text, 16 + 16 * count) {
+        return false;
     }
-    let mut records = ArrayVec::new();
-    if !read_records(version, &text, count, &mut records) {
-        return None;
-    }
-    Some(records)
+    read_records(version, text, count, records)
 }

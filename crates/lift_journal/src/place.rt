@@ -55,7 +55,8 @@ fn read_shape<D: Disk>(disk: &mut D) -> Result<Shape, JournalFault>
     if disk.sectors() < 2 {
         return Err(JournalFault::NotFormatted);
     }
-    let Ok(stamp) = read_sector(disk, 1) else {
+    let mut stamp = [0; 512];
+    let Ok(()) = read_sector(disk, 1, &mut stamp) else {
         return Err(JournalFault::Disk);
     };
     match read_stamp(&stamp) {

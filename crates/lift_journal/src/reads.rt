@@ -21,7 +21,7 @@ use lift_record::Header;
 #[derive(Drop)]
 pub enum AtGate {
     Closed,
-    Batch(Stored),
+    Batch,
     /// The gate is open, and no batch of this number stands after it.
     Damaged,
 }
@@ -36,111 +36,126 @@ pub fn sync_device<D: Disk>(disk: &mut D) -> Result<(), DiskFault>
 }
 
 /// Reads a sector of a synced device.
-pub fn read_sector<D: Disk>(disk: &mut D, sector: u32) -> Result<[u8; 512], DiskFault>
+pub fn read_sector<D: Disk>(
+    disk: &mut D,
+    sector: u32,
+    buffer: &mut [u8; 512],
+) -> Result<(), DiskFault>
     requires { sector < (D.state disk.old).size }
     ensures looks { Looks result (D.state disk.old) (D.state disk.new) }
-    ensures length { IfOk result (λ bytes. length bytes ≡ 512) }
-    ensures gives { IfOk result (λ bytes. (D.state disk.old).is_honest → IsSynced (D.state disk.old)
-        → sector_at (D.state disk.old).image sector ≡ bytes) }
+    ensures length { length buffer.new ≡ 512 }
+    ensures gives { OnOk result ((D.state disk.old).is_honest → IsSynced (D.state disk.old)
+        → sector_at (D.state disk.old).image sector ≡ buffer.new) }
     ensures read { OnOk result ((D.state disk.new).trace ≡ (D.state disk.old).trace
         ++ reads_from sector 1) }
     ensures unread { OnErr result ((D.state disk.new).trace ≡ (D.state disk.old).trace) }
 {
-    let mut buffer = [0; 512];
-    disk.read(sector, &mut buffer)?;
-    Ok(buffer)
+    disk.read(sector, buffer)
 }
 
-/// Reads a sector if it is wanted; else zeros stand for it.
-fn read_second<D: Disk>(disk: &mut D, sector: u32, is_wanted: bool) -> Result<[u8; 512], DiskFault>
+/// Reads a sector if it is wanted; else the buffer stays as it is.
+fn read_second<D: Disk>(
+    disk: &mut D,
+    sector: u32,
+    is_wanted: bool,
+    buffer: &mut [u8; 512],
+) -> Result<(), DiskFault>
     requires { is_wanted ≡ true → sector < (D.state disk.old).size }
     ensures looks { Looks result (D.state disk.old) (D.state disk.new) }
-    ensures length { IfOk result (λ bytes. length bytes ≡ 512) }
-    ensures gives { IfOk result (λ bytes. is_wanted ≡ true → (D.state disk.old).is_honest
+    ensures length { length buffer.new ≡ 512 }
+    ensures gives { OnOk result (is_wanted ≡ true → (D.state disk.old).is_honest
         → IsSynced (D.state disk.old)
-        → sector_at (D.state disk.old).image sector ≡ bytes) }
-    ensures zeros { IfOk result (λ bytes. is_wanted ≡ false → bytes ≡ zeros) }
+        → sector_at (D.state disk.old).image sector ≡ buffer.new) }
+    ensures stays { OnOk result (is_wanted ≡ false → buffer.new ≡ buffer.old) }
     ensures read { OnOk result ((D.state disk.new).trace ≡ (D.state disk.old).trace
         ++ reads_from sector (if is_wanted then 1 else 0)) }
     ensures unread { OnErr result ((D.state disk.new).trace ≡ (D.state disk.old).trace) }
     ensures wanted { OnErr result (is_wanted ≡ true) }
 {
     if !is_wanted {
-        return Ok([0; 512]);
+        return Ok(());
     }
-    read_sector(disk, sector)
+    read_sector(disk, sector, buffer)
 }
 
 /// What stands at an open gate, after which this header is read: the second body sector is read,
-/// if it has one.
+/// if it has one; else zeros stand for it. A batch is left in `stored`.
 fn read_rest<D: Disk>(
     disk: &mut D,
     gate: u32,
     end: u32,
     header: Header,
-    first: &[u8; 512],
+    body: &mut [[u8; 512]; 2],
+    stored: &mut Stored,
 ) -> Result<AtGate, DiskFault>
     requires below { gate + 2 < end }
     requires inside { end ≤ (D.state disk.old).size }
-    requires header { IsHeaderSpelling (take 16 first.now) header }
+    requires header { IsHeaderSpelling (take 16 (sector_at body.old 0)) header }
+    requires whole { length (sector_at body.old 0) ≡ 512 }
+    requires blank { sector_at body.old 1 ≡ zeros }
     ensures looks { Looks result (D.state disk.old) (D.state disk.new) }
     ensures unclosed { IfOk result (λ at. at ≢ AtGate.Closed) }
-    ensures fits { IfOk result (λ at. (stored : _) → at ≡ AtGate.Batch stored
-        → FitsBelow gate end stored) }
+    ensures fits { IfOk result (λ at. at ≡ AtGate.Batch → FitsBelow gate end stored.new) }
     ensures seen { IfOk result (λ at. (D.state disk.old).is_honest → IsSynced (D.state disk.old)
-        → sector_at (D.state disk.old).image (gate + 1) ≡ first.now
-        → ShowsBody (D.state disk.old).image gate end header.number at) }
+        → sector_at (D.state disk.old).image (gate + 1) ≡ sector_at body.old 0
+        → ShowsBody (D.state disk.old).image gate end header.number at stored.new) }
     ensures row { OnOk result (HasRead (gate + 2) 1 end (D.state disk.old) (D.state disk.new)) }
     ensures unread { OnErr result (HasRead (gate + 2) 0 end (D.state disk.old) (D.state disk.new)) }
     ensures unfinished { OnErr result ((D.state disk.old).is_honest → IsSynced (D.state disk.old)
-        → sector_at (D.state disk.old).image (gate + 1) ≡ first.now → (batch : BatchValue)
+        → sector_at (D.state disk.old).image (gate + 1) ≡ sector_at body.old 0
+        → (batch : BatchValue)
         → IsBatchAt (D.state disk.old).image gate end header.number batch → size_of batch ≡ 2) }
-    ensures whole { IfOk result (λ at. (stored : _) → at ≡ AtGate.Batch stored
+    ensures whole { IfOk result (λ at. at ≡ AtGate.Batch
         → (D.state disk.new).trace ≡ (D.state disk.old).trace
-        ++ reads_from (gate + 2) (body_size (length stored.records.items) - 1)) }
+        ++ reads_from (gate + 2) (body_size (length stored.new.records.items) - 1)) }
 {
     let count = header.count as usize;
     let bodies = body_count(count) as u32;
     if bodies >= end - gate - 1 {
         return Ok(AtGate::Damaged);
     }
-    let second = read_second(disk, gate + 2, bodies == 2)?;
-    match parse(header.version, count, first, &second) {
-        Some(records) => Ok(AtGate::Batch(Stored {
-            version: header.version,
-            records,
-        })),
-        None => Ok(AtGate::Damaged),
+    read_second(disk, gate + 2, bodies == 2, &mut body[1])?;
+    stored.version = header.version;
+    let text = body.as_flattened();
+    if !parse(header.version, text, count, &mut stored.records) {
+        return Ok(AtGate::Damaged);
     }
+    Ok(AtGate::Batch)
 }
 
 /// What stands at an open gate: the batch of this number, if one is there whose next gate stands
-/// below the end.
-fn read_body<D: Disk>(disk: &mut D, gate: u32, end: u32, number: u32) -> Result<AtGate, DiskFault>
+/// below the end. A batch is left in `stored`.
+fn read_body<D: Disk>(
+    disk: &mut D,
+    gate: u32,
+    end: u32,
+    number: u32,
+    stored: &mut Stored,
+) -> Result<AtGate, DiskFault>
     requires below { gate < end }
     requires inside { end ≤ (D.state disk.old).size }
     requires numbered { 1 ≤ number }
     ensures looks { Looks result (D.state disk.old) (D.state disk.new) }
     ensures unclosed { IfOk result (λ at. at ≢ AtGate.Closed) }
-    ensures fits { IfOk result (λ at. (stored : _) → at ≡ AtGate.Batch stored
-        → FitsBelow gate end stored) }
+    ensures fits { IfOk result (λ at. at ≡ AtGate.Batch → FitsBelow gate end stored.new) }
     ensures seen { IfOk result (λ at. (D.state disk.old).is_honest → IsSynced (D.state disk.old)
-        → ShowsBody (D.state disk.old).image gate end number at) }
+        → ShowsBody (D.state disk.old).image gate end number at stored.new) }
     ensures row { OnOk result (HasRead (gate + 1) 2 end (D.state disk.old) (D.state disk.new)) }
     ensures unread { OnErr result (HasRead (gate + 1) 1 end (D.state disk.old) (D.state disk.new)) }
     ensures unfinished { OnErr result ((D.state disk.old).is_honest → IsSynced (D.state disk.old)
         → (batch : BatchValue) → IsBatchAt (D.state disk.old).image gate end number batch
         → HasRead (gate + 1) (size_of batch - 1) end (D.state disk.old) (D.state disk.new)) }
-    ensures whole { IfOk result (λ at. (stored : _) → at ≡ AtGate.Batch stored
+    ensures whole { IfOk result (λ at. at ≡ AtGate.Batch
         → (D.state disk.new).trace ≡ (D.state disk.old).trace
-        ++ reads_from (gate + 1) (body_size (length stored.records.items))) }
+        ++ reads_from (gate + 1) (body_size (length stored.new.records.items))) }
 {
     if end - gate <= 2 {
         return Ok(AtGate::Damaged);
     }
-    let first = read_sector(disk, gate + 1)?;
-    match header_of(&first, number) {
-        Some(header) => read_rest(disk, gate, end, header, &first),
+    let mut body = [[0; 512]; 2];
+    read_sector(disk, gate + 1, &mut body[0])?;
+    match header_of(&body[0], number) {
+        Some(header) => read_rest(disk, gate, end, header, &mut body, stored),
         None => Ok(AtGate::Damaged),
     }
 }
@@ -167,16 +182,21 @@ pub fn read_mark<D: Disk>(disk: &mut D, sector: u32) -> Result<bool, DiskFault>
     Ok(has_mark(&buffer))
 }
 
-/// What stands at this gate, by at most three reads.
-pub fn look<D: Disk>(disk: &mut D, gate: u32, end: u32, number: u32) -> Result<AtGate, DiskFault>
+/// What stands at this gate, by at most three reads. A batch is left in `stored`.
+pub fn look<D: Disk>(
+    disk: &mut D,
+    gate: u32,
+    end: u32,
+    number: u32,
+    stored: &mut Stored,
+) -> Result<AtGate, DiskFault>
     requires below { gate < end }
     requires inside { end ≤ (D.state disk.old).size }
     requires numbered { 1 ≤ number }
     ensures looks { Looks result (D.state disk.old) (D.state disk.new) }
-    ensures fits { IfOk result (λ at. (stored : _) → at ≡ AtGate.Batch stored
-        → FitsBelow gate end stored) }
+    ensures fits { IfOk result (λ at. at ≡ AtGate.Batch → FitsBelow gate end stored.new) }
     ensures seen { IfOk result (λ at. (D.state disk.old).is_honest → IsSynced (D.state disk.old)
-        → ShowsAt (D.state disk.old).image gate end number at) }
+        → ShowsAt (D.state disk.old).image gate end number at stored.new) }
     ensures damaged { IfOk result (λ at. at ≡ AtGate.Damaged
         → HasReadAt gate end (D.state disk.old) (D.state disk.new)) }
     ensures unread { OnErr result (HasRead gate 2 end (D.state disk.old) (D.state disk.new)) }
@@ -184,14 +204,14 @@ pub fn look<D: Disk>(disk: &mut D, gate: u32, end: u32, number: u32) -> Result<A
     ensures unfinished { OnErr result ((D.state disk.old).is_honest → IsSynced (D.state disk.old)
         → (batch : BatchValue) → IsBatchAt (D.state disk.old).image gate end number batch
         → HasRead gate (size_of batch) end (D.state disk.old) (D.state disk.new)) }
-    ensures whole { IfOk result (λ at. (stored : _) → at ≡ AtGate.Batch stored
+    ensures whole { IfOk result (λ at. at ≡ AtGate.Batch
         → (D.state disk.new).trace ≡ (D.state disk.old).trace
-        ++ reads_from gate (1 + body_size (length stored.records.items))) }
+        ++ reads_from gate (1 + body_size (length stored.new.records.items))) }
     ensures closed { IfOk result (λ at. at ≡ AtGate.Closed
         → (D.state disk.new).trace ≡ (D.state disk.old).trace ++ reads_from gate 1) }
 {
     if !read_mark(disk, gate)? {
         return Ok(AtGate::Closed);
     }
-    read_body(disk, gate, end, number)
+    read_body(disk, gate, end, number, stored)
 }

@@ -102,8 +102,9 @@ pub fn walk<D: Disk, V: Visitor>(
         (D.state disk.new) visitor.old visitor.new) }
 {
     let mut front = Front::at(start);
+    let mut stored = Stored::empty();
     loop {
-        match look(disk, front.gate, end, front.number) {
+        match look(disk, front.gate, end, front.number, &mut stored) {
             Err(DiskFault) => return Err(JournalFault::Disk),
             Ok(AtGate::Damaged) => return Err(JournalFault::Damaged(front.gate)),
             Ok(AtGate::Closed) => {
@@ -112,7 +113,7 @@ pub fn walk<D: Disk, V: Visitor>(
                 }
                 return Err(JournalFault::Damaged(front.gate));
             }
-            Ok(AtGate::Batch(stored)) => {
+            Ok(AtGate::Batch) => {
                 let gate = front.gate;
                 if !front.pass(&stored) {
                     return Err(JournalFault::Damaged(gate));

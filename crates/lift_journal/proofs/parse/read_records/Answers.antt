@@ -12,7 +12,7 @@ piece_is : (text : List ℕ) (k : ℕ) → take 16 (drop (16 + 16 * k) text) ≡
 piece_is text k = ap (take 16) (sym (drop-drop (16 * k) 16 text))
 
 pub loop-k-init : goal.loop-k-init
-loop-k-init c = subst (IsRecordsIn c.args.version (drop 16 c.args.text.now) 0) (sym c.requires.empty) (records_none c.args.version (drop 16 c.args.text.now))
+loop-k-init c = subst (IsRecordsIn c.args.version (drop 16 c.args.text.now) 0) (sym c.clear.ensures) (records_none c.args.version (drop 16 c.args.text.now))
 
 pub loop-k-preserved : goal.loop-k-preserved
 loop-k-preserved c =
@@ -24,7 +24,7 @@ loop-k-preserved c =
     subst (IsRecordsIn c.args.version (drop 16 text) (c.loop-k.k + 1)) (sym pushed.2)
     (records_more c.args.version (drop 16 text) c.loop-k.k c.loop-k.records.items pushed.0 c.loop-k.invariant
     (record { is_record = (spells.typed, spells.lawful); sayable = spells.sayable })
-    (omega (arith, length-drop 16 text, c.told-text, c.loop-k-test.true, c.requires.few)) same)
+    (omega (arith, length-drop 16 text, c.requires.whole, c.loop-k-test.true, c.requires.few)) same)
 
 pub returns-then-not-push_next-clause-none : goal.returns-then-not-push_next-clause-none
 returns-then-not-push_next-clause-none c _ records there =

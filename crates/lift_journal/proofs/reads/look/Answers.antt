@@ -1,6 +1,7 @@
 use Rattle.std.proofs.Common.{◌+◌, ◌-◌, ◌∙◌, length, sym, subst, arith, Result, Ok, Err, OnOk, ℕ}
 use Rattle.std.specs.Prelude.{IfOk}
 use Rattle.lift_disk.specs.Disk.{Image}
+use Rattle.lift_journal.specs.declared.batch.Stored.{Stored}
 use Rattle.lift_journal.specs.declared.reads.AtGate.{AtGate}
 use Rattle.lift_journal.specs.declared.reads.AtGate.TheVariants.{Closed, Batch, Damaged}
 use Rattle.lift_journal.specs.Layout.{IsOpen, sector_at, body_size, size_of}
@@ -20,11 +21,11 @@ on_ok (Ok x) P Q then is = then x is
 on_ok (Err e) P Q then is = tt
 
 -- the gate is open, and this stands after it
-shows_at : (image : Image) (gate end number : ℕ) (at : AtGate) → IsOpen (sector_at image gate)
-    → ShowsBody image gate end number at → ShowsAt image gate end number at
-shows_at image gate end number Closed opened shows = absurd shows
-shows_at image gate end number (Batch stored) opened shows = (opened, shows)
-shows_at image gate end number Damaged opened shows = (opened, shows)
+shows_at : (image : Image) (gate end number : ℕ) (at : AtGate) (stored : Stored) → IsOpen (sector_at image gate)
+    → ShowsBody image gate end number at stored → ShowsAt image gate end number at stored
+shows_at image gate end number Closed stored opened shows = absurd shows
+shows_at image gate end number Batch stored opened shows = (opened, shows)
+shows_at image gate end number Damaged stored opened shows = (opened, shows)
 
 pub returns-clause-looks : goal.returns-clause-looks
 returns-clause-looks g c =
@@ -35,11 +36,12 @@ pub returns-clause-seen : goal.returns-clause-seen
 returns-clause-seen g c =
     let old = g.D.Disk.state c.args.disk.now in
     let mid = g.D.Disk.state c.read_mark.new.disk in
+    let stored = c.read_body.new.stored in
     if_ok c.read_body.result _ _ (λ at shows honest synced.
     (let kept = c.in_ok-read_mark.ensures.looks.ok.kept honest synced in
     let opened : IsOpen (sector_at old.image c.args.gate) = c.in_ok-read_mark.ensures.gives honest synced ∙ c.if-not-branch.false in
-    shows_at old.image c.args.gate c.args.end c.args.number at opened
-    (subst (λ (l : Image). ShowsBody l c.args.gate c.args.end c.args.number at) kept.same
+    shows_at old.image c.args.gate c.args.end c.args.number at stored opened
+    (subst (λ (l : Image). ShowsBody l c.args.gate c.args.end c.args.number at stored) kept.same
     (shows (c.read_mark.ensures.looks.only.runs.honest.1 honest) kept.synced)))) c.read_body.ensures.seen
 
 pub returns-clause-damaged : goal.returns-clause-damaged
@@ -72,9 +74,9 @@ returns-clause-unfinished g c =
 
 pub returns-clause-whole : goal.returns-clause-whole
 returns-clause-whole g c =
-    if_ok c.read_body.result _ _ (λ at whole stored is.
-    rows_then (g.D.Disk.state c.args.disk.now) (g.D.Disk.state c.read_mark.new.disk) (g.D.Disk.state c.read_body.new.disk) c.args.gate 1 (body_size (length stored.records.items)) (c.args.gate + 1) (omega arith)
-    c.in_ok-read_mark.ensures.read (whole stored is)) c.read_body.ensures.whole
+    if_ok c.read_body.result _ _ (λ at whole is.
+    rows_then (g.D.Disk.state c.args.disk.now) (g.D.Disk.state c.read_mark.new.disk) (g.D.Disk.state c.read_body.new.disk) c.args.gate 1 (body_size (length c.read_body.new.stored.records.items)) (c.args.gate + 1) (omega arith)
+    c.in_ok-read_mark.ensures.read (whole is)) c.read_body.ensures.whole
 
 pub returns-clause-closed : goal.returns-clause-closed
 returns-clause-closed g c =

@@ -15,24 +15,24 @@ pub returns-in-None-clause-seen : goal.returns-in-None-clause-seen
 returns-in-None-clause-seen g c honest synced =
     let image = (g.D.Disk.state c.args.disk.now).image in
     let whole : length image ≡ (g.D.Disk.state c.args.disk.now).size = g.met.D.Disk.whole c.args.disk.now honest in
-    no_header image c.args.gate c.args.end c.args.number c.in_ok-first.first (c.in_ok-first.ensures.gives honest synced) c.in_ok-first.ensures.length
+    no_header image c.args.gate c.args.end c.args.number c.read_sector.new.buffer (c.in_ok-read_sector.ensures.gives honest synced) c.read_sector.ensures.length
     (omega (arith, whole, c.requires.inside)) c.requires.numbered (omega arith)
     (λ header spelled numbered. absurd (cc ((c.in-None.ensures header).1 (spelled, numbered))))
 
 pub returns-in-Some-clause-looks : goal.returns-in-Some-clause-looks
 returns-in-Some-clause-looks g c =
     looks_then c.read_rest.result (g.D.Disk.state c.args.disk.now) (g.D.Disk.state c.read_sector.new.disk) (g.D.Disk.state c.read_rest.new.disk)
-    c.read_sector.ensures.looks.only c.in_ok-first.ensures.looks.ok c.read_rest.ensures.looks
+    c.read_sector.ensures.looks.only c.in_ok-read_sector.ensures.looks.ok c.read_rest.ensures.looks
 
 pub returns-in-Some-clause-row : goal.returns-in-Some-clause-row
 returns-in-Some-clause-row g c =
     ok_weaker c.read_rest.result _ _ (λ row. row_then (g.D.Disk.state c.args.disk.now) (g.D.Disk.state c.read_sector.new.disk) (g.D.Disk.state c.read_rest.new.disk)
-    (c.args.gate + 1) 1 (c.args.gate + 2) 1 c.args.end (omega arith) c.in_ok-first.ensures.read row) c.read_rest.ensures.row
+    (c.args.gate + 1) 1 (c.args.gate + 2) 1 c.args.end (omega arith) c.in_ok-read_sector.ensures.read row) c.read_rest.ensures.row
 
 pub returns-in-Some-clause-unread : goal.returns-in-Some-clause-unread
 returns-in-Some-clause-unread g c =
     err_weaker c.read_rest.result _ _ (λ row. row_then (g.D.Disk.state c.args.disk.now) (g.D.Disk.state c.read_sector.new.disk) (g.D.Disk.state c.read_rest.new.disk)
-    (c.args.gate + 1) 1 (c.args.gate + 2) 0 c.args.end (omega arith) c.in_ok-first.ensures.read row) c.read_rest.ensures.unread
+    (c.args.gate + 1) 1 (c.args.gate + 2) 0 c.args.end (omega arith) c.in_ok-read_sector.ensures.read row) c.read_rest.ensures.unread
 
 pub returns-in-Some-clause-unfinished : goal.returns-in-Some-clause-unfinished
 returns-in-Some-clause-unfinished g c =
@@ -42,11 +42,11 @@ returns-in-Some-clause-unfinished g c =
     let gate = c.args.gate in
     let end = c.args.end in
     err_weaker c.read_rest.result _ _ (λ both honest synced batch there.
-    (let kept = c.in_ok-first.ensures.looks.ok.kept honest synced in
+    (let kept = c.in_ok-read_sector.ensures.looks.ok.kept honest synced in
     let numbered = ((c.in-Some.ensures c.in-Some.header).0 refl).1 in
-    let here = subst (λ (l : Image). sector_at l (gate + 1) ≡ c.in_ok-first.first) (sym kept.same) (c.in_ok-first.ensures.gives honest synced) in
+    let here = subst (λ (l : Image). sector_at l (gate + 1) ≡ c.read_sector.new.buffer) (sym kept.same) (c.in_ok-read_sector.ensures.gives honest synced) in
     let there_now = subst (λ (l : Image). IsBatchAt l gate end c.in-Some.header.number batch) (sym kept.same) (subst (λ n. IsBatchAt old.image gate end n batch) (sym numbered) there) in
     let two = both.1 (c.read_sector.ensures.looks.only.runs.honest.1 honest) kept.synced here batch there_now in
     let one : 1 + 0 ≡ size_of batch - 1 = omega (arith, two) in
-    subst (λ n. HasRead (gate + 1) n end old new) one (row_then old mid new (gate + 1) 1 (gate + 2) 0 end (omega arith) c.in_ok-first.ensures.read both.0)))
+    subst (λ n. HasRead (gate + 1) n end old new) one (row_then old mid new (gate + 1) 1 (gate + 2) 0 end (omega arith) c.in_ok-read_sector.ensures.read both.0)))
     (both_on_err c.read_rest.result _ _ c.read_rest.ensures.unread c.read_rest.ensures.unfinished)

@@ -17,8 +17,8 @@ use Rattle.lift_journal.proofs.walk.walk.Goals as goal
 
 pub pass-requires-clause-room : goal.pass-requires-clause-room
 pass-requires-clause-room g c =
-    let fits = c.in-Ok-Batch.ensures.fits c.in-Ok-Batch.stored c.in-Ok-Batch.field-0-is in
-    omega (arith, fits.below, bodies_few (length c.in-Ok-Batch.stored.records.items))
+    let fits = c.in-Ok-Batch.ensures.fits c.in-Ok-Batch.field-0-is in
+    omega (arith, fits.below, bodies_few (length c.look.new.stored.records.items))
 
 pub loop-front-init : goal.loop-front-init
 loop-front-init g c =
@@ -31,8 +31,8 @@ loop-front-preserved g c =
     let new = g.D.Disk.state c.look.new.disk in
     let inv = c.loop-front.invariant in
     let front = c.loop-front.front in
-    let stored = c.in-Ok-Batch.stored in
-    let fits = c.in-Ok-Batch.ensures.fits stored c.in-Ok-Batch.field-0-is in
+    let stored = c.look.new.stored in
+    let fits = c.in-Ok-Batch.ensures.fits c.in-Ok-Batch.field-0-is in
     let is = c.pass.ensures.passed c.if-not-pass.false in
     let gate = ap (λ (f : Front). f.gate) is in
     let number = ap (λ (f : Front). f.number) is in
@@ -49,13 +49,13 @@ loop-front-preserved g c =
           let more = 1 + body_size (length stored.records.items) in
           let place : (front.gate - c.args.start) + more ≡ (front.gate + more) - c.args.start = omega (arith, inv.low) in
           subst (λ (f : Front). new.trace ≡ old.trace ++ reads_from c.args.start (f.gate - c.args.start)) (sym is)
-          (rows_then old mid new c.args.start (front.gate - c.args.start) more front.gate (omega (arith, inv.low)) inv.trace (c.in-Ok-Batch.ensures.whole stored c.in-Ok-Batch.field-0-is)
+          (rows_then old mid new c.args.start (front.gate - c.args.start) more front.gate (omega (arith, inv.low)) inv.trace (c.in-Ok-Batch.ensures.whole c.in-Ok-Batch.field-0-is)
           ∙ ap (λ n. old.trace ++ reads_from c.args.start n) place);
       batches = inv.batches ++ batch_of stored ∷ [];
       shown = more_shown g.V.Visitor.takes c.args.visitor.now c.loop-front.visitor c.visit.new.self c.args.start front next inv.batches stored inv.shown (fits.some, fits.few) passes c.visit.ensures is;
       at = λ honest synced.
           let before = inv.well.kept honest synced in
-          let shows = seen_at old.image mid.image front.gate c.args.end front.number c.in-Ok-Batch.field-0 (Batch stored) before.same c.in-Ok-Batch.field-0-is
+          let shows = seen_at old.image mid.image front.gate c.args.end front.number c.in-Ok-Batch.field-0 Batch c.look.new.stored before.same c.in-Ok-Batch.field-0-is
           (c.in-Ok-Batch.ensures.seen (inv.only.runs.honest.1 honest) before.synced) in
           let whole : c.args.end ≤ length old.image = omega (arith, c.requires.inside, g.met.D.Disk.whole c.args.disk.now honest) in
           goes_on old.image c.args.start c.args.end front inv.batches (inv.at honest synced) inv.below whole next stored shows.0 shows.1 passes is;
@@ -95,7 +95,7 @@ returns-in-Ok-Damaged-clause-damaged g c s is honest synced =
     let inv = c.loop-front.invariant in
     let front = c.loop-front.front in
     let before = inv.well.kept honest synced in
-    let shows = seen_at old.image mid.image front.gate c.args.end front.number c.in-Ok-Damaged.field-0 Damaged before.same c.in-Ok-Damaged.field-0-is
+    let shows = seen_at old.image mid.image front.gate c.args.end front.number c.in-Ok-Damaged.field-0 Damaged c.look.new.stored before.same c.in-Ok-Damaged.field-0-is
     (c.in-Ok-Damaged.ensures.seen (inv.only.runs.honest.1 honest) before.synced) in
     let whole : c.args.end ≤ length old.image = omega (arith, c.requires.inside, g.met.D.Disk.whole c.args.disk.now honest) in
     let here : front.gate ≡ s = cc is in
@@ -121,7 +121,7 @@ returns-in-Ok-Closed-clause-damaged g c s is honest synced =
     let inv = c.loop-front.invariant in
     let front = c.loop-front.front in
     let before = inv.well.kept honest synced in
-    let shows = seen_at old.image mid.image front.gate c.args.end front.number c.in-Ok-Closed.field-0 Closed before.same c.in-Ok-Closed.field-0-is
+    let shows = seen_at old.image mid.image front.gate c.args.end front.number c.in-Ok-Closed.field-0 Closed c.look.new.stored before.same c.in-Ok-Closed.field-0-is
     (c.in-Ok-Closed.ensures.seen (inv.only.runs.honest.1 honest) before.synced) in
     let whole : c.args.end ≤ length old.image = omega (arith, c.requires.inside, g.met.D.Disk.whole c.args.disk.now honest) in
     let here : front.gate ≡ s = cc is in
@@ -147,7 +147,7 @@ returns-then-may_end-clause-found g c honest synced =
     let inv = c.loop-front.invariant in
     let front = c.loop-front.front in
     let before = inv.well.kept honest synced in
-    let shows = seen_at old.image mid.image front.gate c.args.end front.number c.in-Ok-Closed.field-0 Closed before.same c.in-Ok-Closed.field-0-is
+    let shows = seen_at old.image mid.image front.gate c.args.end front.number c.in-Ok-Closed.field-0 Closed c.look.new.stored before.same c.in-Ok-Closed.field-0-is
     (c.in-Ok-Closed.ensures.seen (inv.only.runs.honest.1 honest) before.synced) in
     let whole : c.args.end ≤ length old.image = omega (arith, c.requires.inside, g.met.D.Disk.whole c.args.disk.now honest) in
     ends old.image c.args.start c.args.end front inv.batches (inv.at honest synced) inv.below whole shows (c.may_end.ensures.0 c.if-may_end.true)
@@ -170,9 +170,9 @@ returns-then-not-pass-clause-damaged g c s is honest synced =
     let mid = g.D.Disk.state c.loop-front.disk in
     let inv = c.loop-front.invariant in
     let front = c.loop-front.front in
-    let stored = c.in-Ok-Batch.stored in
+    let stored = c.look.new.stored in
     let before = inv.well.kept honest synced in
-    let shows = seen_at old.image mid.image front.gate c.args.end front.number c.in-Ok-Batch.field-0 (Batch stored) before.same c.in-Ok-Batch.field-0-is
+    let shows = seen_at old.image mid.image front.gate c.args.end front.number c.in-Ok-Batch.field-0 Batch c.look.new.stored before.same c.in-Ok-Batch.field-0-is
     (c.in-Ok-Batch.ensures.seen (inv.only.runs.honest.1 honest) before.synced) in
     let whole : c.args.end ≤ length old.image = omega (arith, c.requires.inside, g.met.D.Disk.whole c.args.disk.now honest) in
     let here : front.gate ≡ s = cc is in
@@ -228,8 +228,8 @@ pub returns-then-not-pass-clause-behind : goal.returns-then-not-pass-clause-behi
 returns-then-not-pass-clause-behind g c =
     let inv = c.loop-front.invariant in
     let front = c.loop-front.front in
-    let stored = c.in-Ok-Batch.stored in
-    let fits = c.in-Ok-Batch.ensures.fits stored c.in-Ok-Batch.field-0-is in
+    let stored = c.look.new.stored in
+    let fits = c.in-Ok-Batch.ensures.fits c.in-Ok-Batch.field-0-is in
     let few = bodies_few (length stored.records.items) in
     record {
       more = body_size (length stored.records.items);
@@ -237,7 +237,7 @@ returns-then-not-pass-clause-behind g c =
       few = omega (arith, few);
       inside = omega (arith, fits.below);
       made = rows_then (g.D.Disk.state c.args.disk.now) (g.D.Disk.state c.loop-front.disk) (g.D.Disk.state c.look.new.disk) c.args.start (front.gate - c.args.start) (1 + body_size (length stored.records.items)) front.gate
-          (omega (arith, inv.low)) inv.trace (c.in-Ok-Batch.ensures.whole stored c.in-Ok-Batch.field-0-is);
+          (omega (arith, inv.low)) inv.trace (c.in-Ok-Batch.ensures.whole c.in-Ok-Batch.field-0-is);
       damaged = λ known. returns-then-not-pass-clause-damaged g c front.gate refl known.0 known.1;
     }
 
@@ -254,7 +254,7 @@ returns-then-may_end-clause-shown g c honest synced batches chain =
     let inv = c.loop-front.invariant in
     let front = c.loop-front.front in
     let before = inv.well.kept honest synced in
-    let shows = seen_at old.image mid.image front.gate c.args.end front.number c.in-Ok-Closed.field-0 Closed before.same c.in-Ok-Closed.field-0-is
+    let shows = seen_at old.image mid.image front.gate c.args.end front.number c.in-Ok-Closed.field-0 Closed c.look.new.stored before.same c.in-Ok-Closed.field-0-is
     (c.in-Ok-Closed.ensures.seen (inv.only.runs.honest.1 honest) before.synced) in
     let whole : c.args.end ≤ length old.image = omega (arith, c.requires.inside, g.met.D.Disk.whole c.args.disk.now honest) in
     let found = reaches_end old.image c.args.start c.args.end front.gate inv.batches (inv.at honest synced).reached inv.below whole shows in

@@ -35,14 +35,14 @@ returns-in-Ok-Batch-clause-gives g c honest batches holds within =
     let j = c.self.inside in
     let image = (g.D.Disk.state j.device).image in
     let cursor : CursorView = record { skipped = c.cursor.inside.skipped; given = c.cursor.inside.given } in
-    let stored = c.in-Ok-Batch.stored in
+    let stored = c.look.new.stored in
     let behind : CursorView = record { skipped = c.cursor.inside.skipped + (1 + c.body_count.result); given = c.cursor.inside.given + 1 } in
     let made : (g.D.Disk.state j.device).is_honest → (batches : List Batch) → Holds j.place.shape batches image → IsCursorIn batches cursor → IsNext batches cursor behind (Some stored.records.items) =
     λ honest batches holds within.
     (let stands = c.self.invariant.stands c.if-self.false honest in
     let same = ap used (holds_unique j.place.shape stands.batches batches image stands.holds holds) in
     let lt = some_next batches cursor within (omega (arith, c.if-cursor-self.false, stands.at, stands.starts, same)) in
-    let shows = seen_at image image (j.place.start + cursor.skipped) (j.place.start + j.place.shape.half) (cursor.given + 1) c.in-Ok-Batch.field-0 (BatchAt stored) refl c.in-Ok-Batch.field-0-is
+    let shows = seen_at image image (j.place.start + cursor.skipped) (j.place.start + j.place.shape.half) (cursor.given + 1) c.in-Ok-Batch.field-0 BatchAt c.look.new.stored refl c.in-Ok-Batch.field-0-is
     (c.in-Ok-Batch.ensures.seen honest stands.synced) in
     let size : c.body_count.result ≡ size_of (batch_of stored) = c.body_count.ensures ∙ ap body_size c.len.ensures.value in
     next_is j.place.shape batches image j.place.start cursor behind (batch_of stored) holds stands.starts within lt shows.1 (omega (arith, size)) refl) in
@@ -62,7 +62,7 @@ returns-in-Ok-Damaged-clause-gives g c honest batches holds within =
     (let stands = c.self.invariant.stands c.if-self.false honest in
     let same = ap used (holds_unique j.place.shape stands.batches batches image stands.holds holds) in
     let lt = some_next batches cursor within (omega (arith, c.if-cursor-self.false, stands.at, stands.starts, same)) in
-    let shows = seen_at image image (j.place.start + cursor.skipped) (j.place.start + j.place.shape.half) (cursor.given + 1) c.in-Ok-Damaged.field-0 Damaged refl c.in-Ok-Damaged.field-0-is
+    let shows = seen_at image image (j.place.start + cursor.skipped) (j.place.start + j.place.shape.half) (cursor.given + 1) c.in-Ok-Damaged.field-0 Damaged c.look.new.stored refl c.in-Ok-Damaged.field-0-is
     (c.in-Ok-Damaged.ensures.seen honest stands.synced) in
     not_missing j.place.shape batches image j.place.start cursor holds stands.starts within lt shows.1) in
     let never = subst (λ (v : JournalView g.row.D.Denot). (g.D.Disk.state v.device).is_honest → (batches : List Batch) → Holds v.shape batches (g.D.Disk.state v.device).image
@@ -80,7 +80,7 @@ returns-in-Ok-Closed-clause-gives g c honest batches holds within =
     (let stands = c.self.invariant.stands c.if-self.false honest in
     let same = ap used (holds_unique j.place.shape stands.batches batches image stands.holds holds) in
     let lt = some_next batches cursor within (omega (arith, c.if-cursor-self.false, stands.at, stands.starts, same)) in
-    let shows = seen_at image image (j.place.start + cursor.skipped) (j.place.start + j.place.shape.half) (cursor.given + 1) c.in-Ok-Closed.field-0 Closed refl c.in-Ok-Closed.field-0-is
+    let shows = seen_at image image (j.place.start + cursor.skipped) (j.place.start + j.place.shape.half) (cursor.given + 1) c.in-Ok-Closed.field-0 Closed c.look.new.stored refl c.in-Ok-Closed.field-0-is
     (c.in-Ok-Closed.ensures.seen honest stands.synced) in
     not_closed j.place.shape batches image j.place.start cursor holds stands.starts within lt shows) in
     let never = subst (λ (v : JournalView g.row.D.Denot). (g.D.Disk.state v.device).is_honest → (batches : List Batch) → Holds v.shape batches (g.D.Disk.state v.device).image
@@ -115,11 +115,11 @@ returns-in-Ok-Batch-clause-calls g c =
     let j = c.self.inside in
     let place = c.self.invariant.place in
     let new = g.D.Disk.state c.look.new.disk in
-    let more = 1 + body_size (length c.in-Ok-Batch.stored.records.items) in
+    let more = 1 + body_size (length c.look.new.stored.records.items) in
     let gate : half_start (nat_lt 2 j.place.start) j.place.shape.half ≡ j.place.start = begins_at j.place.shape.half j.place.start (omega (arith, place.within.half.0)) place.halves in
     let made = subst (λ (v : JournalView g.row.D.Denot). new.trace ≡ (g.D.Disk.state v.device).trace ++ reads_from (half_start v.is_in_second_half v.shape.half + c.args.cursor.now.skipped) more) c.self.view_is
     (subst (λ (w : CursorView). new.trace ≡ (g.D.Disk.state j.device).trace ++ reads_from (half_start (nat_lt 2 j.place.start) j.place.shape.half + w.skipped) more) c.cursor.view_is
-    (c.in-Ok-Batch.ensures.whole c.in-Ok-Batch.stored c.in-Ok-Batch.field-0-is ∙ ap (λ n. (g.D.Disk.state j.device).trace ++ reads_from (n + c.cursor.inside.skipped) more) (sym gate))) in
+    (c.in-Ok-Batch.ensures.whole c.in-Ok-Batch.field-0-is ∙ ap (λ n. (g.D.Disk.state j.device).trace ++ reads_from (n + c.cursor.inside.skipped) more) (sym gate))) in
     record {
       reads = subst (λ (v : JournalView g.row.D.Denot). ReadsOnly (g.D.Disk.state v.device) (g.D.Disk.state c.look.new.disk)) c.self.view_is c.in-Ok-Batch.ensures.looks.only;
       told = record { ok = subst (λ (v : JournalView g.row.D.Denot). NoneFails (g.D.Disk.state v.device) (g.D.Disk.state c.look.new.disk)) c.self.view_is c.in-Ok-Batch.ensures.looks.ok.told; err = tt };
