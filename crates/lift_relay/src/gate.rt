@@ -1,8 +1,9 @@
 //! What says whether a run goes on, and an allocator that turns only where it said so.
 //!
-//! Each stage is a type of its own, with what may be done there and no more: so a thread that has one
-//! can't have a turn after the gate's no before all that was sent was received, also where it never
-//! returns.
+//! Each stage is a type of its own, with what may be done there and no more, and each answer of the
+//! gate is used up by what it allows: so a thread that has an allocator can't have a turn after the
+//! gate's no before all that was sent was received, also where it never returns. A turn is had in
+//! place, and copies nothing of the allocator.
 
 ghost use Rattle.std.specs.Prelude.{◌≡◌, [], length, true, false, IfOk, IfErr};
 ghost use Rattle.lift_clerk.specs.declared.counts.Counts.{Counts};
@@ -59,9 +60,9 @@ pub(crate) struct AskingAllocator<'d, 'b, P: Policy + Drop> {
     allocator: Allocator<'d, 'b, P>,
 }
 
-/// An allocator whose gate has said to go on, for one turn.
+/// An allocator that has one turn for each yes of its gate.
 #[derive(Drop)]
-pub(crate) struct Opened<'d, 'b, P: Policy + Drop> {
+pub(crate) struct TurningAllocator<'d, 'b, P: Policy + Drop> {
     allocator: Allocator<'d, 'b, P>,
 }
 
@@ -69,6 +70,25 @@ pub(crate) struct Opened<'d, 'b, P: Policy + Drop> {
 #[derive(Drop)]
 pub(crate) struct Closed<'d, 'b, P: Policy + Drop> {
     allocator: Allocator<'d, 'b, P>,
+}
+
+/// A question to the gate, to be asked once. One comes with an allocator that begins, and one from
+/// each turn.
+#[derive(Drop)]
+pub(crate) struct Question {
+    made: (),
+}
+
+/// That the gate has said to go on, for one turn.
+#[derive(Drop)]
+pub(crate) struct Yes {
+    made: (),
+}
+
+/// That the gate has said not to go on.
+#[derive(Drop)]
+pub(crate) struct No {
+    made: (),
 }
 
 impl<'d, 'b, P: Policy + Drop> Model for AskingAllocator<'d, 'b, P> {
@@ -79,7 +99,7 @@ impl<'d, 'b, P: Policy + Drop> Model for AskingAllocator<'d, 'b, P> {
     ghost view = { λ s. s.allocator };
 }
 
-impl<'d, 'b, P: Policy + Drop> Model for Opened<'d, 'b, P> {
+impl<'d, 'b, P: Policy + Drop> Model for TurningAllocator<'d, 'b, P> {
     ghost use Rattle.lift_parts.specs.Allocator.{AllocatorState};
 
     ghost Value = { AllocatorState P };
@@ -102,27 +122,12 @@ impl<'d, 'b, P: Policy + Drop> AskingAllocator<'d, 'b, P> {
         AskingAllocator { allocator }
     }
 
-    /// Asks the gate.
-    pub(crate) fn ask<G: Gate>(self, gate: &G) -> Result<Opened<'d, 'b, P>, Closed<'d, 'b, P>>
-        ensures goes { IfOk result (λ goes. (goes ≡ self.entry) × G.opened gate.now) }
-        ensures closes { IfErr result (λ closed. (closed ≡ self.entry) × G.closed gate.now) }
+    /// It, to turn in place, and the first question to its gate.
+    pub(crate) fn begin(self) -> (TurningAllocator<'d, 'b, P>, Question)
+        ensures { result.0 ≡ self.entry }
     {
-        if gate.go_on() {
-            Ok(Opened {
-                allocator: self.allocator,
-            })
-        } else {
-            Err(Closed {
-                allocator: self.allocator,
-            })
-        }
-    }
-
-    /// The allocator, to be read.
-    pub(crate) fn allocator(&self) -> &Allocator<'d, 'b, P>
-        ensures { result.now ≡ self.now }
-    {
-        &self.allocator
+        let allocator = self.allocator;
+        (TurningAllocator { allocator }, Question { made: () })
     }
 
     /// The allocator, where no thread could be made for it.
@@ -133,22 +138,44 @@ impl<'d, 'b, P: Policy + Drop> AskingAllocator<'d, 'b, P> {
     }
 }
 
-impl<'d, 'b, P: Policy + Drop> Opened<'d, 'b, P> {
-    /// How many batches were sent.
-    pub(crate) fn sent(&self) -> u64
-        ensures { result ≡ length self.now.end.sent }
+impl Question {
+    /// Asks the gate.
+    pub(crate) fn ask<G: Gate>(self, gate: &G) -> Result<Yes, No>
+        ensures goes { IfOk result (λ _. G.opened gate.now) }
+        ensures closes { IfErr result (λ _. G.closed gate.now) }
     {
-        self.allocator.sent()
+        if gate.go_on() {
+            Ok(Yes { made: () })
+        } else {
+            Err(No { made: () })
+        }
+    }
+}
+
+impl<'d, 'b, P: Policy + Drop> TurningAllocator<'d, 'b, P> {
+    /// The allocator, to be read.
+    pub(crate) fn allocator(&self) -> &Allocator<'d, 'b, P>
+        ensures { result.now ≡ self.now }
+    {
+        &self.allocator
     }
 
     /// The turn.
-    pub(crate) fn turn<R: Wait>(self, rt: &R) -> AskingAllocator<'d, 'b, P>
+    pub(crate) fn turn<R: Wait>(&mut self, rt: &R, _yes: Yes) -> Question
         ensures { (counts : Counts)
-            × IsAllocation (P.chooses self.entry.policy) self.entry result counts }
+            × IsAllocation (P.chooses self.old.policy) self.old self.new counts }
     {
-        let mut allocator = self.allocator;
-        let _counts = allocator.turn(rt);
-        AskingAllocator { allocator }
+        let _counts = self.allocator.turn(rt);
+        Question { made: () }
+    }
+
+    /// It, which turns no more.
+    pub(crate) fn closed(self, _no: No) -> Closed<'d, 'b, P>
+        ensures { result ≡ self.entry }
+    {
+        Closed {
+            allocator: self.allocator,
+        }
     }
 }
 

@@ -67,15 +67,15 @@ fn allocate<'d, 'b, R: Wait, G: Gate, P: Policy + Drop>(
     ensures turns { AllocatorTurns (P.chooses allocator.entry.policy) allocator.entry result }
     ensures closed { G.closed gate.now }
 {
-    let mut asking = allocator;
+    let (mut turning, mut question) = allocator.begin();
     for _ in rt.forever() {
-        let opened = match asking.ask(gate) {
-            Ok(opened) => opened,
-            Err(closed) => return closed,
+        let yes = match question.ask(gate) {
+            Ok(yes) => yes,
+            Err(no) => return turning.closed(no),
         };
-        let sent = opened.sent();
-        asking = opened.turn(rt);
-        tell_of_allocator(rt, asking.allocator(), sent, gate);
+        let sent = turning.allocator().sent();
+        question = turning.turn(rt, yes);
+        tell_of_allocator(rt, turning.allocator(), sent, gate);
     }
     unreachable!()
 }

@@ -4,6 +4,6 @@ use Rattle.lift_relay.proofs.pair.allocate.Given as goal
 
 abbrev pub invariant-loop : goal.invariant-loop
 invariant-loop g l = record {
-  turns : AllocatorTurns (g.P.Policy.chooses l.fn.allocator.policy) l.fn.allocator l.asking;
-  policy : l.asking.policy ≡ l.fn.allocator.policy;
+  turns : AllocatorTurns (g.P.Policy.chooses l.fn.allocator.policy) l.fn.allocator l.turning;
+  policy : l.turning.policy ≡ l.fn.allocator.policy;
 }
