@@ -1,5 +1,5 @@
 -- What a power cut leaves, and what an empty journal gives.
-use Rattle.std.proofs.Common.{◌≡◌, ◌∙◌, ℕ, zero, suc, ◌+◌, List, [], ◌∷◌, length, take, drop, replicate, Option, Some, None, Bool, true, false, inl, inr, refl, sym, ap, subst, arith, length-append}
+use Rattle.std.proofs.Common.{◌≡◌, ◌∙◌, ℕ, zero, suc, ◌+◌, List, [], ◌∷◌, length, take, drop, replicate, Option, Some, None, false, inl, inr, refl, sym, ap, subst, arith, length-append}
 use Rattle.std.proofs.lemmas.Bool.{false≢true}
 use Rattle.std.proofs.lemmas.List.{length-map, length-replicate}
 use Rattle.std.proofs.lemmas.List.Elements.{All-nil}
@@ -20,10 +20,10 @@ use Rattle.lift_journal.specs.Told.{LastFails}
 use Rattle.lift_journal.specs.declared.fault.JournalFault.TheVariants.{Disk}
 use Rattle.lift_keeper.specs.declared.fault.KeeperFault.{KeeperFault}
 use Rattle.lift_keeper.specs.declared.fault.KeeperFault.TheVariants.{Journal}
-use Rattle.lift_keeper.specs.Images.{IsImageOf, IsInDoubt, IsImageIn}
+use Rattle.lift_keeper.specs.Images.{IsImageOf, IsImageIn}
 use Rattle.lift_keeper.specs.Calls.{OpensByCalls, RefusedCalls, FailsBy}
 use Rattle.lift_keeper.specs.Reopening.{Reopens, RefusesReopening}
-use Rattle.lift_replay.specs.Group.{ScriptGroup, Found, FailedBatch, half, left_by, recovered, asking_at, unasked, new_terminals}
+use Rattle.lift_replay.specs.Group.{ScriptGroup, Found, FailedBatch, half, left_by, nothing_found, recovered, asking_at, unasked, new_terminals}
 use Rattle.lift_replay.specs.Group.{found_after_cut as left_as}
 use Rattle.lift_replay.specs.Shows.{IsFound, IsInStep, AreInStep, AreReady, Stands, IsKeeperOf, Shows}
 use Rattle.lift_replay.specs.Told.{ScriptClerk}
@@ -39,23 +39,17 @@ use Rattle.lift_disk.specs.declared.outcome.Outcome.{Outcome}
 use Rattle.lift_disk.specs.declared.outcome.Outcome.TheVariants.{Keep, Lose, Fill}
 use Rattle.lift_journal.specs.Journal.{ReadsAs}
 use Rattle.lift_keeper.specs.Keeper.{KeeperView}
-use Rattle.lift_register.specs.Register.{RegisterState, empty, register_of, cars, terminals}
+use Rattle.lift_register.specs.Register.{RegisterState, cars, terminals}
 
-pub empty_reads : (plan : Plan) (image : Image) → ReadsAs (shape_of plan 64) [] [] image → IsImageOf plan empty image
-unfolding cars terminals
-empty_reads plan image reads = record {
-  half = 64;
-  base = [];
-  entries = [];
-  reads = reads;
-  is = record { base_fits = tt; entries_fit = tt; is = refl };
-}
+-- what was found is what the image reads as
+pub found_reads : (plan : Plan) (found : Found) (image : Image) → IsFound plan found image → IsImageOf plan found.register image
+found_reads plan found image is = record { half = half; base = is.base; entries = is.entries; reads = is.reads; is = is.is }
 
 -- a device in memory that was not told to fail does not
-pub never_fails : (old new : FusedDisk) → IsUnarmed (fuse_state_of old) → LastFails (fuse_state_of old) (fuse_state_of new) → ⊥
-never_fails old new unarmed last = elim (last.last tt) [
-  | inl fails ↦ unarmed (fuse_state_of new).calls last.some fails.0
-  | inr short ↦ false≢true short.1
+pub never_fails : (old new : DiskState) → old.is_inert → IsUnarmed old → new.is_short ≡ false → LastFails old new → ⊥
+never_fails old new inert unarmed long last = elim (last.last inert) [
+  | inl fails ↦ unarmed new.calls last.some fails.0
+  | inr short ↦ false≢true (sym long ∙ short.1)
 ]
 
 -- so an opening over it is not refused where it reads as a register
@@ -64,7 +58,7 @@ pub never_refused : (plan : Plan) (old new : FusedDisk) (fault : KeeperFault) �
     → RefusedCalls (fuse_state_of old) (fuse_state_of new) fault → ⊥
 never_refused plan old new fault unarmed (register, reads) refuses calls =
     let of_disk : fault ≡ Journal Disk = refuses.good tt register (subst (IsImageOf plan register) (sym (calls.image tt tt)) reads) in
-    never_fails old new unarmed (subst (λ f. FailsBy f (fuse_state_of old) (fuse_state_of new)) of_disk calls.told)
+    never_fails (fuse_state_of old) (fuse_state_of new) tt unarmed refl (subst (λ f. FailsBy f (fuse_state_of old) (fuse_state_of new)) of_disk calls.told)
 
 pub left_unchanged : (outcome : Outcome) (old new : DiskState) (left : Image) → IsUnchanged old new → IsLeftBy outcome new left → IsLeftBy outcome old left
 left_unchanged Keep old new left same is = is ∙ same.image
@@ -82,25 +76,10 @@ may_unchanged old new image same may = record {
 }
 
 -- a crash might have left what a cut leaves
-pub cut_may : (device taken fused : FusedDisk) (inner left : MemDisk) → taken ≡ device → IsUnchanged (fuse_state_of taken) (state_of inner) → IsCut (state_of inner) (state_of left)
-    → (fuse_state_of fused).image ≡ (state_of left).image → MayLeave (fuse_state_of device) (fuse_state_of fused).image
-cut_may device taken fused inner left is same cut image =
-    subst (λ d. MayLeave (fuse_state_of d) (fuse_state_of fused).image) is
-    (may_unchanged (fuse_state_of taken) (state_of inner) (fuse_state_of fused).image same (subst (λ i. MayLeave (state_of inner) i) (sym image) cut.left))
-
--- it reads as a register: as what is safe, or as that with the batch in doubt
-pub left_reads : (keeper : KeeperView FusedDisk) (plan : Plan) (register : RegisterState) (image : Image) → keeper.writer.plan ≡ plan
-    → (keeper.writer.is_broken ≡ false → LeavesNow (fuse_state_of keeper.writer.device) (IsImageOf keeper.writer.plan register))
-    → (keeper.writer.is_broken ≡ true → LeavesNow (fuse_state_of keeper.writer.device) (IsInDoubt keeper.writer.plan register keeper.writer.doubt))
-    → MayLeave (fuse_state_of keeper.writer.device) image → (other : RegisterState) × IsImageOf plan other image
-left_reads keeper plan register image is safe in_doubt may = subst (λ p. (other : RegisterState) × IsImageOf p other image) is (cases keeper.writer.is_broken refl)
-  where
-    cases : (b : Bool) → keeper.writer.is_broken ≡ b → (other : RegisterState) × IsImageOf keeper.writer.plan other image
-    cases false whole = (register, safe whole tt image may)
-    cases true broken = elim (in_doubt broken tt image may) [
-      | inl before ↦ (register, before)
-      | inr behind ↦ (register_of register keeper.writer.doubt, behind)
-    ]
+pub cut_may : (device taken : FusedDisk) (inner left : MemDisk) → taken ≡ device → IsUnchanged (fuse_state_of taken) (state_of inner) → IsCut (state_of inner) (state_of left)
+    → MayLeave (fuse_state_of device) (state_of left).image
+cut_may device taken inner left is same cut =
+    subst (λ d. MayLeave (fuse_state_of d) (state_of left).image) is (may_unchanged (fuse_state_of taken) (state_of inner) (state_of left).image same cut.left)
 
 -- the keeper that recovers what was found shows just that
 pub kept_of : (plan : Plan) (f : Found) (disk : FusedDisk) (keeper : KeeperView FusedDisk) → IsFound plan f (fuse_state_of disk).image
@@ -110,7 +89,7 @@ pub kept_of : (plan : Plan) (f : Found) (disk : FusedDisk) (keeper : KeeperView 
 kept_of plan f disk keeper found opens calls image unarmed state of_plan whole =
     let here : IsImageIn plan half f.is_in_second_half f.used f.register (fuse_state_of keeper.writer.device).image = subst (IsFound plan f) (sym image) found in
     let is = calls.found tt half f.is_in_second_half f.used f.register (subst (λ (p : Plan). IsImageIn p half f.is_in_second_half f.used f.register (fuse_state_of keeper.writer.device).image) (sym of_plan) here) in
-    let same = opens.only tt f.register (record { half = half; base = here.base; entries = here.entries; reads = here.reads; is = here.is }) in
+    let same = opens.only tt f.register (found_reads plan f (fuse_state_of keeper.writer.device).image here) in
     record {
       same_plan = of_plan;
       half_is = sym is.0;
@@ -149,7 +128,7 @@ none_used shape (batch ∷ batches) image holds none = absurd (some_record (take
     some_record (gate ∷ rest) chain = let some = chain.1.some in omega (arith, some, length-append batch.records (records_of batches), ap length (sym (flat_map-cons (λ (b : Batch). b.records) batch batches) ∙ none))
 
 -- an empty journal
-pub empty_found : (plan : Plan) (image : Image) → ReadsAs (shape_of plan 64) [] [] image → Picks false image → IsFound plan (record { register = empty; is_in_second_half = false; used = 0 }) image
+pub empty_found : (plan : Plan) (image : Image) → ReadsAs (shape_of plan 64) [] [] image → Picks false image → IsFound plan nothing_found image
 unfolding cars terminals
 empty_found plan image reads picks = record {
   base = [];

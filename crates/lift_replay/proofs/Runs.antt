@@ -1,5 +1,5 @@
 -- From line to line of a script.
-use Rattle.std.proofs.Common.{◌≡◌, ℕ, List, [], ◌++◌, sym, ap, ◌∙◌, subst, refl}
+use Rattle.std.proofs.Common.{◌≡◌, ℕ, List, [], ◌++◌, sym, ap, ◌∙◌, subst}
 use Rattle.std.specs.Prelude.{Option}
 use Rattle.std.proofs.lemmas.List.{append_assoc, append-nil}
 use Rattle.std.specs.Io.KnownBytes.{Appends}
@@ -10,15 +10,14 @@ use Rattle.lift_replay.specs.declared.lines.End.TheVariants.{Run as Over, Cut as
 use Rattle.lift_replay.specs.declared.lines.Verdict.{Verdict}
 use Rattle.lift_replay.specs.declared.segment.SegmentEnd.{SegmentEnd}
 use Rattle.lift_replay.specs.declared.segment.SegmentEnd.TheVariants.{Run, Cut}
-use Rattle.lift_disk.specs.Faults.{FusedDisk}
+use Rattle.lift_disk.specs.Outcomes.{state_of}
+use Rattle.lift_disk.specs.declared.memory.MemDisk.{MemDisk}
 use Rattle.lift_disk.specs.declared.outcome.Outcome.{Outcome}
 use Rattle.lift_desk.specs.Seats.{TerminalSeat}
-use Rattle.lift_keeper.specs.Keeper.{KeeperView}
-use Rattle.lift_policy.specs.Step.{State}
 use Rattle.lift_register.specs.Balanced.{open_count}
-use Rattle.lift_replay.specs.Group.{ScriptGroup, new_terminals, left_by, recovered}
+use Rattle.lift_replay.specs.Group.{ScriptGroup, Found, left_by, recovered}
 use Rattle.lift_replay.specs.Running.{TellsLines, Continues, LinesEnd, SegmentEnds}
-use Rattle.lift_replay.specs.Shows.{Shows, IsKeeperOf}
+use Rattle.lift_replay.specs.Shows.{Shows, IsFound}
 use Rattle.lift_replay.specs.Told.{ScriptClerk}
 use Rattle.lift_replay.specs.Report.{Reports, cut_text}
 
@@ -48,47 +47,49 @@ report_put old mid new piece after added none first last =
     let whole : added ≡ first.written ++ after = sym (ap (λ l. l ++ added) none) ∙ first.same in
     subst (Appends old new) (sym whole) (Appends-trans old mid new first.written after first.appends last)
 
--- lines that ended at a desk, with what a power cut leaves, and its report
-pub cut_goes_on : (plan : Plan) (count later : ℕ) (g : ScriptGroup) (script rest : List (List ℕ)) (outcome : Outcome) (clerk : ScriptClerk) (seats : List TerminalSeat) (end : End) (keeper : KeeperView FusedDisk) (calls : ℕ) (old mid new : Option (List ℕ)) (piece next after : List ℕ)
-    → end ≡ Power outcome → (added : List ℕ) × LinesEnd plan count g script added later rest clerk seats end × Reports old mid piece next added
-    → ((h : ScriptGroup) → Shows plan h clerk seats → IsKeeperOf plan (recovered plan (left_by outcome h)) keeper)
-    → calls ≡ open_count keeper.state.register → Reports mid new next after (cut_text calls)
-    → (added : List ℕ) × SegmentEnds plan count g script added later rest (Cut keeper) × Reports old new piece after added
-cut_goes_on plan count later g script rest outcome clerk seats end keeper calls old mid new piece next after is (added, ends, reports) kept calls_is cut =
-    let power = subst (LinesEnd plan count g script added later rest clerk seats) is ends in
-    let now = kept power.0 power.1 in
-    let text : cut_text (open_count (left_by outcome power.0).register) ≡ cut_text calls = sym (ap cut_text (calls_is ∙ ap (λ (s : State). open_count s.register) now.stands.1)) in (
-      added ++ cut_text calls,
-      (recovered plan (left_by outcome power.0), now, refl, subst (λ t. Continues plan count g script (added ++ t) later (recovered plan (left_by outcome power.0)) rest) text power.2),
-      reports_on old mid new piece next after added (cut_text calls) reports cut,
+-- lines that ended at a desk, after this text, with what a power cut leaves
+pub cut_left : (plan : Plan) (count later : ℕ) (g : ScriptGroup) (script rest : List (List ℕ)) (outcome : Outcome) (clerk : ScriptClerk) (seats : List TerminalSeat) (end : End) (disk : MemDisk) (old mid new : Option (List ℕ)) (piece next after start : List ℕ)
+    → end ≡ Power outcome → Reports old mid piece next start → (added : List ℕ) × LinesEnd plan count g script added later rest clerk seats end × Reports mid new next after added
+    → ((h : ScriptGroup) → Shows plan h clerk seats → IsFound plan (left_by outcome h) (state_of disk).image)
+    → (added : List ℕ) × SegmentEnds plan count g script added later rest (Cut disk) × Reports old new piece after (start ++ added)
+cut_left plan count later g script rest outcome clerk seats end disk old mid new piece next after start is first (added, ends, reports) left =
+    let power = subst (LinesEnd plan count g script added later rest clerk seats) is ends in (
+      added,
+      (left_by outcome power.0, left power.0 power.1, power.2),
+      reports_on old mid new piece next after start added first reports,
     )
 
-pub run_told : (plan : Plan) (count later : ℕ) (g : ScriptGroup) (script rest : List (List ℕ)) (verdict : Verdict) (clerk : ScriptClerk) (seats : List TerminalSeat) (end : End) (old new : Option (List ℕ)) (piece after : List ℕ)
-    → end ≡ Over verdict → (added : List ℕ) × LinesEnd plan count g script added later rest clerk seats end × Reports old new piece after added
-    → (added : List ℕ) × TellsLines plan count g script added verdict × Reports old new piece after added
-run_told plan count later g script rest verdict clerk seats end old new piece after is (added, ends, reports) = (added, subst (LinesEnd plan count g script added later rest clerk seats) is ends, reports)
+-- or with the run
+pub run_told : (plan : Plan) (count later : ℕ) (g : ScriptGroup) (script rest : List (List ℕ)) (verdict : Verdict) (clerk : ScriptClerk) (seats : List TerminalSeat) (end : End) (old mid new : Option (List ℕ)) (piece next after start : List ℕ)
+    → end ≡ Over verdict → Reports old mid piece next start → (added : List ℕ) × LinesEnd plan count g script added later rest clerk seats end × Reports mid new next after added
+    → (added : List ℕ) × TellsLines plan count g script added verdict × Reports old new piece after (start ++ added)
+run_told plan count later g script rest verdict clerk seats end old mid new piece next after start is first (added, ends, reports) =
+    (added, subst (LinesEnd plan count g script added later rest clerk seats) is ends, reports_on old mid new piece next after start added first reports)
+
+joined : (a b c d e : List ℕ) → (a ++ b) ++ ((c ++ d) ++ e) ≡ ((a ++ (b ++ c)) ++ d) ++ e
+joined a b c d e = sym (append_assoc (a ++ b) (c ++ d) e) ∙ ap (λ l. l ++ e) (sym (append_assoc (a ++ b) c d) ∙ ap (λ l. l ++ d) (append_assoc a b c))
 
 -- a segment after those before it
-pub segment_more : (plan : Plan) (count later later2 : ℕ) (g next : ScriptGroup) (script rest behind : List (List ℕ)) (before : List ℕ) (end : SegmentEnd) (keeper : KeeperView FusedDisk) (old mid new : Option (List ℕ)) (piece kept after : List ℕ)
-    → end ≡ Cut keeper → Continues plan count g script before later next rest → Reports old mid piece kept before
-    → (added : List ℕ) × SegmentEnds plan later next rest added later2 behind end × Reports mid new kept after added
-    → (all : List ℕ) × (last : ScriptGroup) × IsKeeperOf plan last keeper × (last.terminals ≡ new_terminals plan) × Continues plan count g script all later2 last behind × Reports old new piece after all
-segment_more plan count later later2 g next script rest behind before end keeper old mid new piece kept after is leads reports (added, ends, more) =
-    let cut = subst (SegmentEnds plan later next rest added later2 behind) is ends in (
-      before ++ added,
+pub segment_more : (plan : Plan) (count later later2 : ℕ) (g : ScriptGroup) (found : Found) (script rest behind : List (List ℕ)) (before start : List ℕ) (end : SegmentEnd) (disk : MemDisk) (old mid new : Option (List ℕ)) (piece kept after : List ℕ)
+    → end ≡ Cut disk → Continues plan count g script (before ++ start) later (recovered plan found) rest → Reports old mid piece kept before
+    → (added : List ℕ) × SegmentEnds plan later (recovered plan found) rest added later2 behind end × Reports mid new kept after (start ++ added)
+    → (all : List ℕ) × (last : Found) × IsFound plan last (state_of disk).image × Continues plan count g script (all ++ cut_text (open_count last.register)) later2 (recovered plan last) behind × Reports old new piece after all
+segment_more plan count later later2 g found script rest behind before start end disk old mid new piece kept after is leads reports (added, ends, more) =
+    let cut = subst (SegmentEnds plan later (recovered plan found) rest added later2 behind) is ends in
+    let told : List ℕ = cut_text (open_count cut.0.register) in (
+      before ++ (start ++ added),
       cut.0,
       cut.1,
-      cut.2,
-      λ text verdict tells. subst (λ t. TellsLines plan count g script t verdict) (sym (append_assoc before added text)) (leads (added ++ text) verdict (cut.3 text verdict tells)),
-      reports_on old mid new piece kept after before added reports more,
+      λ text verdict tells. subst (λ t. TellsLines plan count g script t verdict) (joined before start added told text) (leads ((added ++ told) ++ text) verdict (cut.2 text verdict tells)),
+      reports_on old mid new piece kept after before (start ++ added) reports more,
     )
 
-pub segment_last : (plan : Plan) (count later later2 : ℕ) (g next : ScriptGroup) (script rest behind : List (List ℕ)) (before : List ℕ) (end : SegmentEnd) (verdict : Verdict) (old mid new : Option (List ℕ)) (piece kept after : List ℕ)
-    → end ≡ Run verdict → Continues plan count g script before later next rest → Reports old mid piece kept before
-    → (added : List ℕ) × SegmentEnds plan later next rest added later2 behind end × Reports mid new kept after added
+pub segment_last : (plan : Plan) (count later later2 : ℕ) (g : ScriptGroup) (found : Found) (script rest behind : List (List ℕ)) (before start : List ℕ) (end : SegmentEnd) (verdict : Verdict) (old mid new : Option (List ℕ)) (piece kept after : List ℕ)
+    → end ≡ Run verdict → Continues plan count g script (before ++ start) later (recovered plan found) rest → Reports old mid piece kept before
+    → (added : List ℕ) × SegmentEnds plan later (recovered plan found) rest added later2 behind end × Reports mid new kept after (start ++ added)
     → (all : List ℕ) × TellsLines plan count g script all verdict × Reports old new piece after all
-segment_last plan count later later2 g next script rest behind before end verdict old mid new piece kept after is leads reports (added, ends, more) = (
-  before ++ added,
-  leads added verdict (subst (SegmentEnds plan later next rest added later2 behind) is ends),
-  reports_on old mid new piece kept after before added reports more,
+segment_last plan count later later2 g found script rest behind before start end verdict old mid new piece kept after is leads reports (added, ends, more) = (
+  before ++ (start ++ added),
+  subst (λ t. TellsLines plan count g script t verdict) (append_assoc before start added) (leads added verdict (subst (SegmentEnds plan later (recovered plan found) rest added later2 behind) is ends)),
+  reports_on old mid new piece kept after before (start ++ added) reports more,
 )

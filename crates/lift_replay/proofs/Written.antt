@@ -6,18 +6,11 @@ use Rattle.std.specs.Io.KnownBytes.{Appends}
 use Rattle.std.proofs.KnownBytes.{Appends-nil, Appends-trans}
 use Rattle.lift_building.specs.Plan.{Plan}
 use Rattle.lift_replay.specs.declared.lines.Verdict.{Verdict}
-use Rattle.lift_disk.specs.declared.outcome.Outcome.{Outcome}
-use Rattle.lift_desk.specs.Seats.{TerminalSeat}
-use Rattle.lift_register.specs.Balanced.{open_count}
-use Rattle.lift_replay.specs.declared.lines.End.{End}
-use Rattle.lift_replay.specs.declared.lines.End.TheVariants.{Cut as Power}
-use Rattle.lift_replay.specs.Group.{ScriptGroup, left_by, recovered}
+use Rattle.lift_replay.specs.Group.{ScriptGroup}
 use Rattle.lift_replay.specs.Reading.{IsInput}
 use Rattle.lift_replay.specs.Replaying.{IsTextReport, WritesPrefix, ReportsPrefix}
-use Rattle.lift_replay.specs.Report.{AppendsPrefix, Reports, ReportsPart, cut_text}
-use Rattle.lift_replay.specs.Running.{TellsLines, TellsPart, Continues, LinesEnd}
-use Rattle.lift_replay.specs.Shows.{Shows}
-use Rattle.lift_replay.specs.Told.{ScriptClerk}
+use Rattle.lift_replay.specs.Report.{AppendsPrefix, Reports, ReportsPart}
+use Rattle.lift_replay.specs.Running.{TellsLines, TellsPart, TellsPartAfter, Continues}
 use Rattle.lift_replay.proofs.Total.{lines_total, text_total, report_total}
 
 pub on_err : {T E P Q : Type 0} (result : Result T E) → (P → Q) → OnErr result P → OnErr result Q
@@ -27,6 +20,10 @@ on_err (Err e) f h = f h
 pub err_so : {T E P : Type 0} (result : Result T E) → P → OnErr result P
 err_so (Ok x) is = tt
 err_so (Err e) is = is
+
+pub ok_so : {T E : Type 0} {P Q : T → Type 0} (result : Result T E) → ((value : T) → P value → Q value) → IfOk result P → IfOk result Q
+ok_so (Ok x) f h = f x h
+ok_so (Err e) f h = tt
 
 -- nothing was written
 pub no_front : (old : Option (List ℕ)) (text : List ℕ) → AppendsPrefix old old text
@@ -162,21 +159,28 @@ longer_part old new piece after all more part = record {
   );
 }
 
--- a power cut ended the lines at a desk, and what stands after it failed
-pub cut_part : (plan : Plan) (count later : ℕ) (g : ScriptGroup) (script rest : List (List ℕ)) (outcome : Outcome) (clerk : ScriptClerk) (seats : List TerminalSeat) (end : End) (old mid new : Option (List ℕ)) (piece next after : List ℕ)
-    → end ≡ Power outcome → (added : List ℕ) × LinesEnd plan count g script added later rest clerk seats end × Reports old mid piece next added
-    → ((h : ScriptGroup) → Shows plan h clerk seats → ReportsPart mid new next after (cut_text (open_count (left_by outcome h).register)))
-    → TellsPart plan count g script old new piece after
-cut_part plan count later g script rest outcome clerk seats end old mid new piece next after is (added, ends, reports) part =
-    let power = subst (LinesEnd plan count g script added later rest clerk seats) is ends in
-    let cut : List ℕ = cut_text (open_count (left_by outcome power.0).register) in
-    let behind : ScriptGroup = recovered plan (left_by outcome power.0) in
-    let told = lines_total plan later behind rest in (
-      added ++ (cut ++ told.0),
-      told.1,
-      subst (λ t. TellsLines plan count g script t told.1) (append_assoc added cut told.0) (power.2 told.0 told.1 told.2),
-      more_part old mid new piece next after added (cut ++ told.0) reports (longer_part mid new next after cut told.0 (part power.0 power.1)),
-    )
+-- the text before them was reported, or a prefix of it
+pub after_none : (start : List ℕ) (plan : Plan) (count : ℕ) (g : ScriptGroup) (script : List (List ℕ)) (old : Option (List ℕ)) (piece : List ℕ) → TellsPartAfter start plan count g script old old piece piece
+after_none start plan count g script old piece = let told = lines_total plan count g script in (told.0, told.1, told.2, no_part old piece (start ++ told.0))
+
+pub after_part : (start : List ℕ) (plan : Plan) (count : ℕ) (g : ScriptGroup) (script : List (List ℕ)) (old new : Option (List ℕ)) (piece after : List ℕ) → ReportsPart old new piece after start
+    → TellsPartAfter start plan count g script old new piece after
+after_part start plan count g script old new piece after part = let told = lines_total plan count g script in (told.0, told.1, told.2, longer_part old new piece after start told.0 part)
+
+-- all of that was, and a prefix of what they report
+pub after_whole : (start : List ℕ) (plan : Plan) (count : ℕ) (g : ScriptGroup) (script : List (List ℕ)) (old mid new : Option (List ℕ)) (piece next after : List ℕ) → Reports old mid piece next start
+    → TellsPart plan count g script mid new next after → TellsPartAfter start plan count g script old new piece after
+after_whole start plan count g script old mid new piece next after first (all, verdict, tells, part) = (all, verdict, tells, more_part old mid new piece next after start all first part)
+
+-- the later segment reported a prefix
+pub tells_after : (start : List ℕ) (plan : Plan) (count later : ℕ) (g next : ScriptGroup) (script rest : List (List ℕ)) (old mid new : Option (List ℕ)) (piece kept after text : List ℕ)
+    → Continues plan count g script (text ++ start) later next rest → Reports old mid piece kept text → TellsPartAfter start plan later next rest mid new kept after → TellsPart plan count g script old new piece after
+tells_after start plan count later g next script rest old mid new piece kept after text leads reports (all, verdict, tells, part) = (
+  text ++ (start ++ all),
+  verdict,
+  subst (λ t. TellsLines plan count g script t verdict) (append_assoc text start all) (leads all verdict tells),
+  more_part old mid new piece kept after text (start ++ all) reports part,
+)
 
 -- all of it was written
 pub whole_front : (old new : Option (List ℕ)) (text : List ℕ) → Appends old new text → AppendsPrefix old new text

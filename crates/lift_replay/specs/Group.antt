@@ -218,6 +218,10 @@ pub record Found : Type 0 where
   pub is_in_second_half : Bool
   pub used : ℕ
 
+-- what it finds on a formatted device
+abbrev pub nothing_found : Found
+nothing_found = record { register = empty; is_in_second_half = false; used = 0 }
+
 -- A mark is written after this many calls, and then made safe. Of a run that has failed a cut
 -- leaves what was there before, or what the mark makes of it; where it fills the mark's sector,
 -- that goes by its byte.

@@ -72,6 +72,11 @@ spent_text terminal number =
 abbrev pub cut_text : ℕ → List ℕ
 cut_text calls = codes "cut " ++ decimal calls ++ 10 ∷ []
 
+-- what is reported before the lines of a segment: after a power cut that
+abbrev pub start_text : (is_after_cut : Bool) → (calls : ℕ) → List ℕ
+start_text true calls = cut_text calls
+start_text false calls = []
+
 -- how many commands a turn took, and how many it accepted
 abbrev pub turn_text : (taken accepted : ℕ) → List ℕ
 turn_text taken accepted = codes "turn " ++ decimal taken ++ 32 ∷ decimal accepted ++ 10 ∷ []

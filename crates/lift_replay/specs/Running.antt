@@ -2,6 +2,7 @@
 use Rattle.std.specs.Prelude.{ℕ, suc, ◌≡◌, ◌⊎◌, Option, List, [], ◌∷◌, ◌++◌}
 use Rattle.lift_building.specs.Plan.{Plan}
 use Rattle.lift_desk.specs.Seats.{TerminalSeat}
+use Rattle.lift_disk.specs.Outcomes.{state_of}
 use Rattle.lift_register.specs.Balanced.{open_count}
 use Rattle.lift_replay.specs.declared.line.ScriptLine.{ScriptLine}
 use Rattle.lift_replay.specs.declared.lines.End.{End}
@@ -11,11 +12,11 @@ use Rattle.lift_replay.specs.declared.lines.Verdict.TheVariants.{Good, Bad}
 use Rattle.lift_replay.specs.declared.segment.SegmentEnd.{SegmentEnd}
 use Rattle.lift_replay.specs.declared.segment.SegmentEnd.TheVariants.{Run, Cut}
 use Rattle.lift_replay.specs.Grammar.{Spells, IsSkipped, IsKnown}
-use Rattle.lift_replay.specs.Group.{ScriptGroup, new_terminals, left_by, recovered}
+use Rattle.lift_replay.specs.Group.{ScriptGroup, Found, left_by, recovered}
 use Rattle.lift_replay.specs.Lines.{line_text, after}
 use Rattle.lift_replay.specs.Report.{ReportsPart, bad_text, cut_text}
 use Rattle.lift_replay.specs.Script.{IsBadLine}
-use Rattle.lift_replay.specs.Shows.{Shows, IsKeeperOf}
+use Rattle.lift_replay.specs.Shows.{Shows, IsFound}
 use Rattle.lift_replay.specs.Told.{ScriptClerk}
 
 -- These lines, after `count` others, report this of a group, and the run of them has this verdict:
@@ -47,6 +48,14 @@ TellsPart plan count g script old new before after =
     (all : List ℕ) × (verdict : Verdict) × TellsLines plan count g script all verdict
     × ReportsPart old new before after all
 
+-- The same, where this text is reported before theirs.
+abbrev pub TellsPartAfter : (start : List ℕ) → Plan → (count : ℕ) → ScriptGroup → List (List ℕ)
+    → (old new : Option (List ℕ))
+    → (before after : List ℕ) → Type 0
+TellsPartAfter start plan count g script old new before after =
+    (all : List ℕ) × (verdict : Verdict) × TellsLines plan count g script all verdict
+    × ReportsPart old new before after (start ++ all)
+
 -- Where lines end at a desk: all are carried out, or a power cut is left to do.
 abbrev pub LinesEnd : Plan → (count : ℕ) → ScriptGroup → List (List ℕ) → List ℕ → (later : ℕ)
     → List (List ℕ) → ScriptClerk → List TerminalSeat → End → Type 0
@@ -57,11 +66,13 @@ LinesEnd plan count g script text later rest clerk seats (Power outcome) =
     × Continues plan count g script (text ++ cut_text (open_count (left_by outcome next).register))
     later (recovered plan (left_by outcome next)) rest
 
--- where a segment ends: all lines are carried out, or a keeper goes on
+-- Where a segment ends: all lines are carried out, or a device is left, over which the others go on
+-- once it was reported how many calls are open.
 abbrev pub SegmentEnds : Plan → (count : ℕ) → ScriptGroup → List (List ℕ) → List ℕ → (later : ℕ)
     → List (List ℕ) → SegmentEnd → Type 0
 SegmentEnds plan count g script text later rest (Run verdict) =
     TellsLines plan count g script text verdict
-SegmentEnds plan count g script text later rest (Cut keeper) =
-    (next : ScriptGroup) × IsKeeperOf plan next keeper × (next.terminals ≡ new_terminals plan)
-    × Continues plan count g script text later next rest
+SegmentEnds plan count g script text later rest (Cut disk) =
+    (found : Found) × IsFound plan found (state_of disk).image
+    × Continues plan count g script (text ++ cut_text (open_count found.register)) later
+    (recovered plan found) rest

@@ -22,7 +22,7 @@ use crate::refused::{NoMemory, empty_piece};
 use crate::report::push_building_fault;
 use crate::segment::{SegmentEnd, add_segment};
 use crate::source::{Lines, split_script};
-use crate::station::first_keeper;
+use crate::station::first_disk;
 use lift_base::text::{Counted, Outlet, WriteFault, put_all};
 use lift_building::{Building, BuildingFault};
 use std::alloc::Global;
@@ -134,16 +134,22 @@ fn add_segments<W: Outlet>(
         (string_bytes piece.new)) }
 {
     let mut lines = Lines::new(text);
-    let mut keeper = match first_keeper(alloc, building) {
-        Ok(first) => first,
-        Err(no_memory) => return Err(ReplayFault::Memory(no_memory)),
-    };
+    let mut disk = first_disk(alloc, building)?;
+    let mut is_after_cut = false;
     for _ in 0..=text.len() {
-        match add_segment(alloc, building, keeper, &mut lines, piece, writer) {
-            Ok(SegmentEnd::Run(verdict)) => return Ok(verdict),
-            Ok(SegmentEnd::Cut(recovered)) => keeper = recovered,
-            Err(fault) => return Err(fault),
+        match add_segment(
+            alloc,
+            building,
+            disk,
+            is_after_cut,
+            &mut lines,
+            piece,
+            writer,
+        )? {
+            SegmentEnd::Run(verdict) => return Ok(verdict),
+            SegmentEnd::Cut(left) => disk = left,
         }
+        is_after_cut = true;
     }
     unreachable!()
 }

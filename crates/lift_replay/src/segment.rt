@@ -2,12 +2,14 @@
 
 ghost use Rattle.std.specs.Prelude.{◌≡◌, ◌≢◌, ◌<◌, ◌≤◌, List, ℕ, [], length, string_bytes, OnOk};
 ghost use Rattle.std.specs.Prelude.{OnErr, IfOk, ◌++◌};
-ghost use Rattle.lift_replay.specs.Group.{ScriptGroup, new_terminals};
+ghost use Rattle.lift_disk.specs.Outcomes.{state_of};
+ghost use Rattle.lift_register.specs.Balanced.{open_count};
+ghost use Rattle.lift_replay.specs.Group.{Found, ScriptGroup, recovered};
 ghost use Rattle.lift_replay.specs.Lines.{LineTells};
-ghost use Rattle.lift_replay.specs.Report.{Reports, ReportsPart, cut_text};
-ghost use Rattle.lift_replay.specs.Running.{LinesEnd, SegmentEnds, TellsPart};
+ghost use Rattle.lift_replay.specs.Report.{Reports, ReportsPart, start_text};
+ghost use Rattle.lift_replay.specs.Running.{LinesEnd, SegmentEnds, TellsPart, TellsPartAfter};
 ghost use Rattle.lift_replay.specs.Segment.{IfCut, IsPowerCut};
-ghost use Rattle.lift_replay.specs.Shows.{AreReady, Shows, IsKeeperOf};
+ghost use Rattle.lift_replay.specs.Shows.{AreReady, IsFound, Shows};
 ghost use Rattle.lift_replay.specs.Source.{lines_in};
 ghost use Rattle.lift_replay.specs.Writing.{WritesPieces};
 
@@ -17,21 +19,20 @@ use crate::refused::{NoMemory, add, new_desk};
 use crate::report::push_cut;
 use crate::script::ReplayFault;
 use crate::source::Lines;
-use crate::station::Station;
+use crate::station::{Station, keeper_over};
 use lift_base::text::Outlet;
 use lift_building::Building;
 use lift_desk::DeskParts;
-use lift_disk::FuseDisk;
-use lift_keeper::Keeper;
+use lift_disk::{FuseDisk, MemDisk};
 use lift_policy::decisions_are_computed;
 use std::alloc::Global;
 
 /// How a segment of a run ends.
-pub enum SegmentEnd<'b> {
+pub enum SegmentEnd {
     /// With the run.
     Run(Verdict),
-    /// By a power cut, after which this keeper goes on.
-    Cut(Keeper<'b, FuseDisk>),
+    /// By a power cut, which left this device.
+    Cut(MemDisk),
 }
 
 /// Carries out the line with this number, and adds what it reports to a piece of the report. Where
@@ -106,22 +107,27 @@ fn add_lines<W: Outlet>(
     unreachable!()
 }
 
-/// Adds to the piece how many calls are open once the power has come back.
+/// Adds to the piece, after a power cut, how many calls are open.
 fn add_cut<W: Outlet>(
     alloc: Global,
+    is_after_cut: bool,
     calls: u32,
     piece: &mut String,
     writer: &mut W,
 ) -> Result<(), ReplayFault>
+    requires small { length (string_bytes piece.old) < 32768 }
     ensures writes { WritesPieces W.gives writer.old writer.new (string_bytes piece.new) result }
     ensures small { OnOk result (length (string_bytes piece.new) < 32768) }
     ensures reports { OnOk result
         (Reports (W.contents writer.old) (W.contents writer.new) (string_bytes piece.old)
-        (string_bytes piece.new) (cut_text calls)) }
+        (string_bytes piece.new) (start_text is_after_cut calls)) }
     ensures front { OnErr result
         (ReportsPart (W.contents writer.old) (W.contents writer.new) (string_bytes piece.old)
-        (string_bytes piece.new) (cut_text calls)) }
+        (string_bytes piece.new) (start_text is_after_cut calls)) }
 {
+    if !is_after_cut {
+        return Ok(());
+    }
     let mut report = String::new(alloc);
     push_cut(&mut report, calls)?;
     add(piece, &report)?;
@@ -129,50 +135,99 @@ fn add_cut<W: Outlet>(
     Ok(())
 }
 
-/// Opens a desk for the building, and carries out lines over it and the keeper, up to a power cut
-/// or to the end of the run.
-// (in a frame of its own, where that of `first_keeper` was)
+/// Carries out lines at a station, up to a power cut or to the end of the run. After a power cut it
+/// first reports how many calls are open.
+// (in a frame of its own, where those of the station's making were)
 #[inline(never)]
-pub fn add_segment<'b, W: Outlet>(
+fn run_station<W: Outlet>(
     alloc: Global,
-    building: &'b Building,
-    keeper: Keeper<'b, FuseDisk>,
+    station: Station,
+    is_after_cut: bool,
     lines: &mut Lines,
     piece: &mut String,
     writer: &mut W,
-) -> Result<SegmentEnd<'b>, ReplayFault>
-    requires plan { keeper.writer.plan ≡ building.now }
-    requires empty_batch { keeper.state.batch ≡ [] }
+) -> Result<SegmentEnd, ReplayFault>
+    requires ready { AreReady station.terminals.seats.items station.clerk.seat }
     requires small { length (string_bytes piece.old) < 32768 }
     ensures writes { WritesPieces W.gives writer.old writer.new (string_bytes piece.new) result }
-    // What they report is what is computed, of whichever group the keeper is of.
-    ensures tells { IfOk result (λ end. (g : ScriptGroup) → IsKeeperOf building.now g keeper.entry
-        → g.terminals ≡ new_terminals building.now
-        → (added : List ℕ) × SegmentEnds building.now lines.old.count g
+    // What they report is what is computed, of whichever group the station shows.
+    ensures tells { IfOk result (λ end. (g : ScriptGroup)
+        → Shows station.entry.building.now g station.entry.clerk station.entry.terminals.seats.items
+        → (added : List ℕ) × SegmentEnds station.entry.building.now lines.old.count g
         (lines_in lines.old.rest.now) added lines.new.count (lines_in lines.new.rest.now) end
         × Reports (W.contents writer.old) (W.contents writer.new) (string_bytes piece.old)
-        (string_bytes piece.new) added) }
-    ensures front { OnErr result ((g : ScriptGroup) → IsKeeperOf building.now g keeper.entry
-        → g.terminals ≡ new_terminals building.now
-        → TellsPart building.now lines.old.count g (lines_in lines.old.rest.now)
+        (string_bytes piece.new)
+        (start_text is_after_cut (open_count station.entry.clerk.keeper.state.register) ++ added)) }
+    ensures front { OnErr result ((g : ScriptGroup)
+        → Shows station.entry.building.now g station.entry.clerk station.entry.terminals.seats.items
+        → TellsPartAfter
+        (start_text is_after_cut (open_count station.entry.clerk.keeper.state.register))
+        station.entry.building.now lines.old.count g (lines_in lines.old.rest.now)
         (W.contents writer.old) (W.contents writer.new) (string_bytes piece.old)
         (string_bytes piece.new)) }
     ensures cut { IfOk result (λ end.
-        IfCut end (λ keeper. length lines.new.rest.now < length lines.old.rest.now)) }
-    ensures plan { IfOk result (λ end. IfCut end (λ keeper. keeper.writer.plan ≡ building.now)) }
-    ensures empty_batch { IfOk result (λ end. IfCut end (λ keeper. keeper.state.batch ≡ [])) }
-    ensures small { IfOk result (λ end. IfCut end (λ keeper.
-        length (string_bytes piece.new) < 32768)) }
+        IfCut end (length lines.new.rest.now < length lines.old.rest.now)) }
+    ensures small { IfOk result (λ end. IfCut end (length (string_bytes piece.new) < 32768)) }
+{
+    let mut station = station;
+    let calls = station.clerk.keeper().register().open_count();
+    add_cut(alloc, is_after_cut, calls, piece, writer)?;
+    match add_lines(&mut station, lines, piece, writer)? {
+        End::Run(verdict) => Ok(SegmentEnd::Run(verdict)),
+        End::Cut(outcome) => Ok(SegmentEnd::Cut(station.cut(outcome))),
+    }
+}
+
+/// Opens a desk for the building, and a keeper over what the device has, and carries out lines
+/// there, up to a power cut or to the end of the run. After a power cut it first reports how many
+/// calls are open.
+// (in a frame of its own, where that of the building's reading was)
+#[inline(never)]
+pub fn add_segment<W: Outlet>(
+    alloc: Global,
+    building: &Building,
+    disk: MemDisk,
+    is_after_cut: bool,
+    lines: &mut Lines,
+    piece: &mut String,
+    writer: &mut W,
+) -> Result<SegmentEnd, ReplayFault>
+    requires found { (found : Found) × IsFound building.now found (state_of disk).image }
+    requires small { length (string_bytes piece.old) < 32768 }
+    ensures writes { WritesPieces W.gives writer.old writer.new (string_bytes piece.new) result }
+    // What they report is what is computed, of whatever is found on the device.
+    ensures tells { IfOk result (λ end. (found : Found)
+        → IsFound building.now found (state_of disk).image
+        → (added : List ℕ) × SegmentEnds building.now lines.old.count
+        (recovered building.now found) (lines_in lines.old.rest.now) added lines.new.count
+        (lines_in lines.new.rest.now) end
+        × Reports (W.contents writer.old) (W.contents writer.new) (string_bytes piece.old)
+        (string_bytes piece.new) (start_text is_after_cut (open_count found.register) ++ added)) }
+    ensures front { OnErr result ((found : Found)
+        → IsFound building.now found (state_of disk).image
+        → TellsPartAfter (start_text is_after_cut (open_count found.register)) building.now
+        lines.old.count (recovered building.now found) (lines_in lines.old.rest.now)
+        (W.contents writer.old) (W.contents writer.new) (string_bytes piece.old)
+        (string_bytes piece.new)) }
+    ensures cut { IfOk result (λ end.
+        IfCut end (length lines.new.rest.now < length lines.old.rest.now)) }
+    ensures small { IfOk result (λ end. IfCut end (length (string_bytes piece.new) < 32768)) }
 {
     let terminals = 16 + usize::from(building.kiosks());
     let DeskParts { desk, seats, clerk } = new_desk(alloc, terminals)?;
-    let mut station = Station::new(building, keeper, &desk, seats, clerk);
-    match add_lines(&mut station, lines, piece, writer)? {
-        End::Run(verdict) => Ok(SegmentEnd::Run(verdict)),
-        End::Cut(outcome) => {
-            let keeper = station.cut(outcome);
-            add_cut(alloc, keeper.register().open_count(), piece, writer)?;
-            Ok(SegmentEnd::Cut(keeper))
-        }
-    }
+    // (keeper and station have no names, which would each be a copy more)
+    run_station(
+        alloc,
+        Station::new(
+            building,
+            keeper_over(FuseDisk::new(disk), building),
+            &desk,
+            seats,
+            clerk,
+        ),
+        is_after_cut,
+        lines,
+        piece,
+        writer,
+    )
 }

@@ -4,21 +4,21 @@
 ghost use Rattle.std.specs.Prelude.{◌≡◌, ◌+◌, length, false, [], IfOk};
 ghost use Rattle.lift_disk.specs.Disk.{IsUnarmed};
 ghost use Rattle.lift_disk.specs.Faults.{fuse_state_of};
-ghost use Rattle.lift_disk.specs.Outcomes.{IsLeftBy};
+ghost use Rattle.lift_disk.specs.Outcomes.{IsLeftBy, state_of};
 ghost use Rattle.lift_register.specs.Register.{RegisterState, empty};
 ghost use Rattle.lift_desk.specs.Seats.{AreSeatsOf, IsClerkOf, OwesNothing, seats_from};
 ghost use Rattle.lift_decider.specs.Decider.{starting};
 ghost use Rattle.lift_keeper.specs.Prelude.{IsImageOf, Reopens, OpensByCalls};
-ghost use Rattle.lift_replay.specs.Group.{ScriptGroup, first_group, left_by, recovered};
+ghost use Rattle.lift_replay.specs.Group.{ScriptGroup, first_group, left_by, nothing_found};
 ghost use Rattle.lift_replay.specs.Recovering.{ReadsOnlyAs};
-ghost use Rattle.lift_replay.specs.Shows.{Shows, IsKeeperOf};
+ghost use Rattle.lift_replay.specs.Shows.{Shows, IsFound, IsKeeperOf};
 
 use crate::refused::{NoMemory, empty_disk};
 use crate::terminals::Terminals;
 use lift_building::Building;
 use lift_clerk::Clerk;
 use lift_desk::{ClerkSeat, Desk, Seat};
-use lift_disk::{FuseDisk, Outcome};
+use lift_disk::{FuseDisk, MemDisk, Outcome};
 use lift_journal::format;
 use lift_keeper::Keeper;
 use lift_policy::Etd;
@@ -40,7 +40,9 @@ pub struct Station<'d, 'b> {
 
 /// The keeper over a device in memory that fails no call by itself, and reads as a register of the
 /// building: there an opening isn't refused.
-fn keeper_over(disk: FuseDisk, building: &Building) -> Keeper<'_, FuseDisk>
+// (in a frame of its own, which is free again for the lines)
+#[inline(never)]
+pub fn keeper_over(disk: FuseDisk, building: &Building) -> Keeper<'_, FuseDisk>
     requires unarmed { IsUnarmed (fuse_state_of disk) }
     requires readable { (register : RegisterState)
         × IsImageOf building.now register (fuse_state_of disk).image }
@@ -61,10 +63,22 @@ fn keeper_over(disk: FuseDisk, building: &Building) -> Keeper<'_, FuseDisk>
     }
 }
 
+/// A formatted device in memory, of two halves and the two sectors before them. It is refused only
+/// where the device takes its memory.
+pub fn first_disk(alloc: Global, building: &Building) -> Result<MemDisk, NoMemory>
+    ensures sectors { IfOk result (λ disk. length (state_of disk).image ≡ 130) }
+    ensures found { IfOk result (λ disk.
+        IsFound building.now nothing_found (state_of disk).image) }
+{
+    let mut disk = empty_disk(alloc, 2 * HALF + 2)?;
+    match format(&mut disk, building.shape(HALF)) {
+        Ok(()) => Ok(disk),
+        Err(_) => unreachable!(),
+    }
+}
+
 /// The keeper over a formatted device in memory, of two halves and the two sectors before them:
 /// nobody has called. It is refused only where the device takes its memory.
-// (in a frame of its own, which is free again for the lines)
-#[inline(never)]
 pub fn first_keeper(alloc: Global, building: &Building) -> Result<Keeper<'_, FuseDisk>, NoMemory>
     ensures empty { IfOk result (λ keeper. keeper.writer.register ≡ empty) }
     ensures unarmed { IfOk result (λ keeper. IsUnarmed (fuse_state_of keeper.writer.device)) }
@@ -77,15 +91,14 @@ pub fn first_keeper(alloc: Global, building: &Building) -> Result<Keeper<'_, Fus
     ensures kept { IfOk result
         (λ keeper. IsKeeperOf building.now (first_group building.now) keeper) }
 {
-    let mut disk = FuseDisk::new(empty_disk(alloc, 2 * HALF + 2)?);
-    match format(&mut disk, building.shape(HALF)) {
-        Ok(()) => Ok(keeper_over(disk, building)),
-        Err(_) => unreachable!(),
-    }
+    let disk = first_disk(alloc, building)?;
+    Ok(keeper_over(FuseDisk::new(disk), building))
 }
 
 impl<'d, 'b> Station<'d, 'b> {
     /// At a new desk nobody has asked, and after an opening no car has reported where it is.
+    // (in a frame of its own, which is free again for the lines)
+    #[inline(never)]
     pub fn new(
         building: &'b Building,
         keeper: Keeper<'b, FuseDisk>,
@@ -112,29 +125,19 @@ impl<'d, 'b> Station<'d, 'b> {
         }
     }
 
-    /// The power is cut, and comes back: the keeper that recovers what is left, over a device that
-    /// fails no call by itself.
+    /// The power is cut: what is left of the device.
     // (few lines cut the power: in a frame of its own it costs the others nothing)
     #[inline(never)]
-    pub fn cut(self, outcome: Outcome) -> Keeper<'b, FuseDisk>
+    pub fn cut(self, outcome: Outcome) -> MemDisk
         ensures left { IsLeftBy outcome (fuse_state_of self.entry.clerk.keeper.writer.device)
-            (fuse_state_of result.writer.device).image }
-        ensures recovers { ReadsOnlyAs self.entry.building.now
-            (fuse_state_of result.writer.device).image result.writer.register }
-        ensures unarmed { IsUnarmed (fuse_state_of result.writer.device) }
-        ensures state { result.state ≡ starting result.writer.register }
-        ensures plan { result.writer.plan ≡ self.entry.building.now }
-        ensures whole { (result.writer.is_broken ≡ false) × (result.writer.doubt ≡ []) }
-        // It is the keeper of the group that the cut leaves, of whichever group the station shows.
-        ensures kept { (g : ScriptGroup)
+            (state_of result).image }
+        // It is what the cut leaves of the group, of whichever group the station shows.
+        ensures found { (g : ScriptGroup)
             → Shows self.entry.building.now g self.entry.clerk self.entry.terminals.seats.items
-            → IsKeeperOf self.entry.building.now
-            (recovered self.entry.building.now (left_by outcome g))
-            result }
+            → IsFound self.entry.building.now (left_by outcome g) (state_of result).image }
     {
         let _placed = self.clerk.keeper().safe_register();
         let (_seat, keeper, _policy) = self.clerk.into_parts();
-        let left = keeper.into_disk().into_inner().cut(outcome);
-        keeper_over(FuseDisk::new(left), self.building)
+        keeper.into_disk().into_inner().cut(outcome)
     }
 }
