@@ -18,7 +18,7 @@ use lift_keeper::Keeper;
 use lift_policy::Etd;
 use lift_replay::report::{push_bad, push_building_fault, push_cut};
 use lift_replay::{
-    DeviceAction, Lines, MOST_BYTES, MOST_CALLS, Query, ScriptLine, Terminals, first_keeper,
+    DeviceAction, Lines, MOST_BYTES, MOST_CALLS, Query, ScriptLine, Terminals, first_disk,
     read_all, split_script,
 };
 use std::alloc::Global;
@@ -142,8 +142,7 @@ fn run_segment<'b, R: Wait>(
 
 /// A device with an empty journal of the building.
 fn formatted(alloc: Global, building: &Building) -> Result<FuseDisk, Trouble> {
-    let keeper = first_keeper(alloc, building)?;
-    Ok(keeper.into_disk())
+    Ok(FuseDisk::new(first_disk(alloc, building)?))
 }
 
 /// The keeper of what a device has.

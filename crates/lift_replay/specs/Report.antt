@@ -72,7 +72,7 @@ spent_text terminal number =
 abbrev pub cut_text : ℕ → List ℕ
 cut_text calls = codes "cut " ++ decimal calls ++ 10 ∷ []
 
--- what is reported before the lines of a segment: after a power cut that
+-- what a segment reports before its lines: after a power cut how many calls are open
 abbrev pub start_text : (is_after_cut : Bool) → (calls : ℕ) → List ℕ
 start_text true calls = cut_text calls
 start_text false calls = []

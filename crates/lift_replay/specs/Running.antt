@@ -40,21 +40,18 @@ Continues plan count g script text later next rest =
     (more : List ℕ) (verdict : Verdict) → TellsLines plan later next rest more verdict
     → TellsLines plan count g script (text ++ more) verdict
 
--- The lines report some text of the group, and the report grew by a prefix of it.
-abbrev pub TellsPart : Plan → (count : ℕ) → ScriptGroup → List (List ℕ)
-    → (old new : Option (List ℕ))
-    → (before after : List ℕ) → Type 0
-TellsPart plan count g script old new before after =
-    (all : List ℕ) × (verdict : Verdict) × TellsLines plan count g script all verdict
-    × ReportsPart old new before after all
-
--- The same, where this text is reported before theirs.
+-- The lines report some text of the group, and the report grew by a prefix of it behind this start.
 abbrev pub TellsPartAfter : (start : List ℕ) → Plan → (count : ℕ) → ScriptGroup → List (List ℕ)
     → (old new : Option (List ℕ))
     → (before after : List ℕ) → Type 0
 TellsPartAfter start plan count g script old new before after =
     (all : List ℕ) × (verdict : Verdict) × TellsLines plan count g script all verdict
     × ReportsPart old new before after (start ++ all)
+
+abbrev pub TellsPart : Plan → (count : ℕ) → ScriptGroup → List (List ℕ)
+    → (old new : Option (List ℕ))
+    → (before after : List ℕ) → Type 0
+TellsPart = TellsPartAfter []
 
 -- Where lines end at a desk: all are carried out, or a power cut is left to do.
 abbrev pub LinesEnd : Plan → (count : ℕ) → ScriptGroup → List (List ℕ) → List ℕ → (later : ℕ)

@@ -31,5 +31,5 @@ pub use query::Query;
 pub use refused::NoMemory;
 pub use script::{MOST_BYTES, MOST_CALLS, ReplayFault, run};
 pub use source::{Lines, split_script};
-pub use station::first_keeper;
+pub use station::first_disk;
 pub use terminals::Terminals;

@@ -5,13 +5,13 @@ ghost use Rattle.std.specs.Prelude.{◌≡◌, ◌+◌, length, false, [], IfOk}
 ghost use Rattle.lift_disk.specs.Disk.{IsUnarmed};
 ghost use Rattle.lift_disk.specs.Faults.{fuse_state_of};
 ghost use Rattle.lift_disk.specs.Outcomes.{IsLeftBy, state_of};
-ghost use Rattle.lift_register.specs.Register.{RegisterState, empty};
+ghost use Rattle.lift_register.specs.Register.{RegisterState};
 ghost use Rattle.lift_desk.specs.Seats.{AreSeatsOf, IsClerkOf, OwesNothing, seats_from};
 ghost use Rattle.lift_decider.specs.Decider.{starting};
 ghost use Rattle.lift_keeper.specs.Prelude.{IsImageOf, Reopens, OpensByCalls};
-ghost use Rattle.lift_replay.specs.Group.{ScriptGroup, first_group, left_by, nothing_found};
+ghost use Rattle.lift_replay.specs.Group.{ScriptGroup, left_by, nothing_found};
 ghost use Rattle.lift_replay.specs.Recovering.{ReadsOnlyAs};
-ghost use Rattle.lift_replay.specs.Shows.{Shows, IsFound, IsKeeperOf};
+ghost use Rattle.lift_replay.specs.Shows.{Shows, IsFound};
 
 use crate::refused::{NoMemory, empty_disk};
 use crate::terminals::Terminals;
@@ -75,24 +75,6 @@ pub fn first_disk(alloc: Global, building: &Building) -> Result<MemDisk, NoMemor
         Ok(()) => Ok(disk),
         Err(_) => unreachable!(),
     }
-}
-
-/// The keeper over a formatted device in memory, of two halves and the two sectors before them:
-/// nobody has called. It is refused only where the device takes its memory.
-pub fn first_keeper(alloc: Global, building: &Building) -> Result<Keeper<'_, FuseDisk>, NoMemory>
-    ensures empty { IfOk result (λ keeper. keeper.writer.register ≡ empty) }
-    ensures unarmed { IfOk result (λ keeper. IsUnarmed (fuse_state_of keeper.writer.device)) }
-    ensures state { IfOk result (λ keeper. keeper.state ≡ starting keeper.writer.register) }
-    ensures plan { IfOk result (λ keeper. keeper.writer.plan ≡ building.now) }
-    ensures sectors { IfOk result (λ keeper.
-        length (fuse_state_of keeper.writer.device).image ≡ 130) }
-    ensures whole { IfOk result (λ keeper. (keeper.writer.is_broken ≡ false)
-        × (keeper.writer.doubt ≡ [])) }
-    ensures kept { IfOk result
-        (λ keeper. IsKeeperOf building.now (first_group building.now) keeper) }
-{
-    let disk = first_disk(alloc, building)?;
-    Ok(keeper_over(FuseDisk::new(disk), building))
 }
 
 impl<'d, 'b> Station<'d, 'b> {
