@@ -1,9 +1,9 @@
 //! What says whether a run goes on, and an allocator that turns only where it said so.
 //!
 //! Each stage is a type of its own, with what may be done there and no more, and each answer of the
-//! gate is used up by what it allows: so a thread that has an allocator can't have a turn after the
-//! gate's no before all that was sent was received, also where it never returns. A turn is had in
-//! place, and copies nothing of the allocator.
+//! gate is used up by what it allows: so a thread that has an allocator can't have a turn after a
+//! `No` before all that was sent was received, also where it never returns. The allocator turns in
+//! place, and a turn copies nothing of it.
 
 ghost use Rattle.std.specs.Prelude.{◌≡◌, [], length, true, false, IfOk, IfErr};
 ghost use Rattle.lift_clerk.specs.declared.counts.Counts.{Counts};
@@ -54,7 +54,7 @@ pub trait Gate {
     fn has_flushed<R: Wait>(&self, _rt: &R, _count: u64) {}
 }
 
-/// An allocator whose gate is to be asked.
+/// An allocator that has not begun to turn.
 #[derive(Drop)]
 pub(crate) struct AskingAllocator<'d, 'b, P: Policy + Drop> {
     allocator: Allocator<'d, 'b, P>,
@@ -122,7 +122,7 @@ impl<'d, 'b, P: Policy + Drop> AskingAllocator<'d, 'b, P> {
         AskingAllocator { allocator }
     }
 
-    /// It, to turn in place, and the first question to its gate.
+    /// The allocator, to turn in place, and the first question to its gate.
     pub(crate) fn begin(self) -> (TurningAllocator<'d, 'b, P>, Question)
         ensures { result.0 ≡ self.entry }
     {
@@ -169,7 +169,7 @@ impl<'d, 'b, P: Policy + Drop> TurningAllocator<'d, 'b, P> {
         Question { made: () }
     }
 
-    /// It, which turns no more.
+    /// The allocator, which turns no more.
     pub(crate) fn closed(self, _no: No) -> Closed<'d, 'b, P>
         ensures { result ≡ self.entry }
     {

@@ -1,5 +1,5 @@
-//! Tests of the desk, and of the sessions of kiosks and cars, and of drives, over a desk whose clerk
-//! is played while the port rests.
+//! Tests of the desk; and tests of the sessions of kiosks and cars, and of drives, over a desk whose
+//! clerk is played while the port rests.
 #![tactic(auto)]
 
 #[cfg(test)]
