@@ -1,8 +1,8 @@
 //! Buildings: what is in them, or why they are refused.
-
+use crate::cases::Came;
 use lift_base::{Floor, Letter};
 use lift_building::{Building, BuildingFault};
-use std::{fs, io};
+use std::alloc::Global;
 
 fn floor(number: u8) -> Floor {
     Floor::new(number).unwrap_or_default()
@@ -25,68 +25,75 @@ fn all_flights(building: &Building) -> u64 {
     sum
 }
 
-fn show_kiosks(rt: &impl Print, building: &Building) -> io::Result<()> {
-    print!(rt; "kiosks")?;
+fn show_kiosks(came: &mut Came, building: &Building) {
+    came.line("kiosks");
     for kiosk in 0..building.kiosks() {
-        print!(rt; " {}", building.kiosk_floor(kiosk).get())?;
+        came.word(building.kiosk_floor(kiosk).get());
     }
-    println!(rt; "")
 }
 
 /// A car's places, and a sign for each floor: `+` where it serves it.
-fn show_car(rt: &impl Print, building: &Building, car: Letter) -> io::Result<()> {
-    print!(rt; "car {} places {} ", car.get(), building.places(car))?;
+fn show_car(came: &mut Came, building: &Building, car: Letter) {
+    came.line("car");
+    came.word(car.get());
+    came.word("places");
+    came.word(building.places(car));
+    came.word("");
     for number in 0..building.floors() {
-        let sign = if building.serves(car, floor(number)) {
-            "+"
-        } else {
-            "."
-        };
-        print!(rt; "{sign}")?;
+        let serves = building.serves(car, floor(number));
+        came.joined(if serves { '+' } else { '.' });
     }
-    println!(rt; "")
 }
 
 /// What is answered of the floor above the top and the car after the last: no flight, no places,
 /// no floors.
-fn show_beyond(rt: &impl Print, building: &Building) -> io::Result<()> {
+fn show_beyond(came: &mut Came, building: &Building) {
     let (Some(above), Some(behind)) = (Floor::new(building.floors()), Letter::new(building.cars()))
     else {
-        return Ok(());
+        return;
     };
-    println!(rt;
-        "beyond up {} down {} places {} serves {} {}",
-        building.flight(floor(0), above),
-        building.flight(above, floor(0)),
-        building.places(behind),
-        building.serves(Letter::default(), above),
-        building.serves(behind, floor(0))
-    )
+    came.line("beyond");
+    came.word("up");
+    show_flights(came, building, floor(0), above);
+    came.word("places");
+    came.word(building.places(behind));
+    came.word("serves");
+    came.word(building.serves(Letter::default(), above));
+    came.word(building.serves(behind, floor(0)));
 }
 
-fn show(rt: &impl Print, name: &str, building: &Building) -> io::Result<()> {
-    let top = building.floors() - 1;
-    println!(rt;
-        "{name}: floors {} door {} flights {}",
-        building.floors(),
-        building.door_ms(),
-        all_flights(building)
-    )?;
-    println!(rt;
-        "up {} down {}",
-        building.flight(floor(0), floor(top)),
-        building.flight(floor(top), floor(0))
-    )?;
+/// The flights between two floors, both ways, after the word `up`.
+fn show_flights(came: &mut Came, building: &Building, low: Floor, high: Floor) {
+    came.word(building.flight(low, high));
+    came.word("down");
+    came.word(building.flight(high, low));
+}
+
+/// How many floors, cars, kiosks and sectors an image of it is for.
+fn show_shape(came: &mut Came, building: &Building) {
     let shape = building.shape(64);
-    println!(rt;
-        "shape {} {} {} {}",
-        shape.floors, shape.cars, shape.kiosks, shape.half
-    )?;
-    show_kiosks(rt, building)?;
+    came.line("shape");
+    came.word(shape.floors);
+    came.word(shape.cars);
+    came.word(shape.kiosks);
+    came.word(shape.half);
+}
+
+fn show(came: &mut Came, building: &Building) {
+    came.word("floors");
+    came.word(building.floors());
+    came.word("door");
+    came.word(building.door_ms());
+    came.word("flights");
+    came.word(all_flights(building));
+    came.line("up");
+    show_flights(came, building, floor(0), floor(building.floors() - 1));
+    show_shape(came, building);
+    show_kiosks(came, building);
     for car in 0..building.cars() {
-        show_car(rt, building, Letter::new(car).unwrap_or_default())?;
+        show_car(came, building, Letter::new(car).unwrap_or_default());
     }
-    show_beyond(rt, building)
+    show_beyond(came, building);
 }
 
 /// The key that a fault names.
@@ -100,25 +107,27 @@ fn key_of(fault: &BuildingFault) -> Option<&'static str> {
 }
 
 /// The number of a fault, and the key or the floors that it names.
-fn show_fault(rt: &impl Print, name: &str, fault: &BuildingFault) -> io::Result<()> {
-    let number = fault.number();
-    print!(rt; "{name}: fault {number}")?;
+fn show_fault(came: &mut Came, fault: &BuildingFault) {
+    came.word("fault");
+    came.word(fault.number());
     if let Some(key) = key_of(fault) {
-        print!(rt; " {key}")?;
+        came.word(key);
     }
     if let BuildingFault::Detour(from, by, to) = fault {
-        print!(rt; " {} {} {}", from.get(), by.get(), to.get())?;
+        came.word(from.get());
+        came.word(by.get());
+        came.word(to.get());
     }
-    println!(rt; "")
 }
 
-/// Reads the building `NAME.toml`, and prints what is in it, or why it is refused.
-pub(crate) fn read(rt: &HostRuntime, name: &str) -> io::Result<()> {
-    let alloc = rt.alloc();
-    let file = format!(in alloc; "{name}.toml")?;
-    let text = fs::read_to_string(rt, file.as_str())?;
-    match Building::read(alloc, text.as_str()) {
-        Ok(building) => show(rt, name, &building),
-        Err(fault) => show_fault(rt, name, &fault),
+/// What is in the building of this text, or why it is refused, after its name.
+pub(crate) fn shown(alloc: Global, name: &str, text: &str) -> Came {
+    let mut came = Came::new(alloc);
+    came.joined(name);
+    came.joined(':');
+    match Building::read(alloc, text) {
+        Ok(building) => show(&mut came, &building),
+        Err(fault) => show_fault(&mut came, &fault),
     }
+    came
 }

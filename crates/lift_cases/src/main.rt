@@ -29,6 +29,14 @@ const FILE: &str = "a file";
 
 const MEMORY: &str = "memory";
 
+/// Reads the building `NAME.toml`, and prints what is in it, or why it is refused.
+fn show_building(rt: &HostRuntime, name: &str) -> Result<(), &'static str> {
+    let file = format!(in rt.alloc(); "{name}.toml").or(Err(MEMORY))?;
+    let text = fs::read_to_string(rt, file.as_str()).or(Err(FILE))?;
+    let came = buildings::shown(rt.alloc(), name, &text);
+    println!(rt; "{}", came.text().ok_or(MEMORY)?).or(Err(FILE))
+}
+
 /// Tries the cases of a building: its file, and the lines after it.
 fn try_building(rt: &HostRuntime, report: &mut Report, part: &str) -> Result<(), &'static str> {
     let (file, _cases) = part.split_once('\n').ok_or(WORDS)?;
@@ -69,22 +77,33 @@ enum Kind {
     Figures,
 }
 
-/// Tries what the words name, in turn. The report of figures comes last.
-fn run<W: Wait>(rt: &HostRuntime, wait: &W) -> Result<bool, &'static str> {
-    let words = env::args(rt).or(Err(FILE))?.skip(1);
-    let words: Vec<String> = words.collect(rt.alloc()).or(Err(MEMORY))?;
-    let mut report = Report::new(rt.alloc());
+/// Tries what the words name, in turn. Whether the scripts among them are well formed.
+fn try_words<W: Wait>(
+    rt: &HostRuntime,
+    wait: &W,
+    report: &mut Report,
+    words: &[String],
+) -> Result<bool, &'static str> {
     let mut kind = Kind::Figures;
     let mut is_good = true;
-    for word in &words {
+    for word in words {
         match (word.as_str(), kind) {
             ("buildings", _) => kind = Kind::Building,
             ("figures", _) => kind = Kind::Figures,
             ("script", _) => is_good = scripts::run(rt, wait)? && is_good,
-            (name, Kind::Building) => buildings::read(rt, name).or(Err(FILE))?,
-            (file, Kind::Figures) => try_file(rt, &mut report, file)?,
+            (name, Kind::Building) => show_building(rt, name)?,
+            (file, Kind::Figures) => try_file(rt, report, file)?,
         }
     }
+    Ok(is_good)
+}
+
+/// Tries what the program's words name. The report of figures comes last. Whether all came out.
+fn run<W: Wait>(rt: &HostRuntime, wait: &W) -> Result<bool, &'static str> {
+    let words = env::args(rt).or(Err(FILE))?.skip(1);
+    let words: Vec<String> = words.collect(rt.alloc()).or(Err(MEMORY))?;
+    let mut report = Report::new(rt.alloc());
+    let is_good = try_words(rt, wait, &mut report, &words)?;
     Ok(tell(rt, &mut report)? && is_good)
 }
 

@@ -13,73 +13,35 @@ use lift_base::text::Counted;
 use lift_building::{Building, BuildingFault};
 use lift_clerk::Clerk;
 use lift_desk::{Desk, DeskParts};
-use lift_disk::{FuseDisk, MemDisk};
+use lift_disk::{FuseDisk, MemDisk, Outcome};
 use lift_keeper::Keeper;
 use lift_policy::Etd;
 use lift_replay::report::{push_bad, push_building_fault, push_cut};
 use lift_replay::{
-    DeviceAction, Lines, MOST_BYTES, MOST_CALLS, Query, ScriptLine, Terminals, first_disk,
-    read_all, split_script,
+    Lines, MOST_BYTES, MOST_CALLS, ScriptLine, Terminals, first_disk, read_all, split_script,
 };
 use std::alloc::Global;
 use std::sync::Wait;
 
-/// What a line shows of the clerk's keeper.
-fn show(report: &mut String, keeper: &Keeper<'_, FuseDisk>, query: &Query) -> Result<(), Trouble> {
-    let building = keeper.building();
-    if !query.is_known(building) {
-        return Err(Trouble::Lacking);
-    }
-    query.push_shown(report, building, keeper)?;
-    Ok(())
-}
-
-/// Where a line leaves the group.
-enum Left<'d, 'b> {
-    /// Its relay goes on.
-    Relay(Relay<'d, 'b>),
-    /// The power was cut, which left this of the device.
-    Device(MemDisk),
-}
-
-/// Does something to the device: for that the clerk has to be whole.
-fn on_device<'d, 'b>(
-    alloc: Global,
-    relay: Relay<'d, 'b>,
-    action: &DeviceAction,
-) -> Result<Left<'d, 'b>, Trouble> {
-    let mut clerk = relay.rejoined()?;
-    let Some(outcome) = action.carry_out(&mut clerk) else {
-        return Ok(Left::Relay(Relay::of(alloc, clerk)?));
-    };
-    let (_seat, keeper, _policy) = clerk.into_parts();
-    Ok(Left::Device(keeper.into_disk().into_inner().cut(outcome)))
-}
-
-/// Carries out a line.
-fn carry_out<'d, 'b, R: Wait>(
+/// Carries out a line. What a power cut leaves, where it is one.
+fn carry_out<R: Wait>(
     rt: &R,
     alloc: Global,
-    station: &mut Station<'d, 'b>,
-    relay: Relay<'d, 'b>,
+    station: &mut Station,
+    relay: &mut Relay,
     line: &ScriptLine,
     report: &mut String,
-) -> Result<Left<'d, 'b>, Trouble> {
-    let mut relay = relay;
+) -> Result<Option<Outcome>, Trouble> {
     match *line {
         ScriptLine::Ask(ask) => station.ask(report, &ask)?,
         ScriptLine::Turn => {
             let turned = relay.turn(rt)?;
             station.push_turned(report, turned)?;
         }
-        ScriptLine::Show(query) => {
-            let clerk = relay.rejoined()?;
-            show(report, clerk.keeper(), &query)?;
-            relay = Relay::of(alloc, clerk)?;
-        }
-        ScriptLine::Device(action) => return on_device(alloc, relay, &action),
+        ScriptLine::Show(query) => relay.show(alloc, report, &query)?,
+        ScriptLine::Device(action) => return relay.on_device(alloc, &action),
     }
-    Ok(Left::Relay(relay))
+    Ok(None)
 }
 
 /// What a line asks for, or the report tells that it is malformed.
@@ -98,15 +60,14 @@ fn line_of(
 
 /// Carries out lines at a desk, up to the end of the run or to a power cut, which has left what it
 /// gives.
-fn run_at<'d, 'b, R: Wait>(
+fn run_at<R: Wait>(
     rt: &R,
     alloc: Global,
-    station: &mut Station<'d, 'b>,
-    relay: Relay<'d, 'b>,
+    station: &mut Station,
+    relay: &mut Relay,
     lines: &mut Lines,
     report: &mut String,
 ) -> Result<Option<MemDisk>, Trouble> {
-    let mut relay = relay;
     for _ in 0..=lines.len() {
         let Some((number, text)) = lines.next() else {
             break;
@@ -115,12 +76,31 @@ fn run_at<'d, 'b, R: Wait>(
             continue;
         }
         let line = line_of(station, number, text, report)?;
-        match carry_out(rt, alloc, station, relay, &line, report)? {
-            Left::Relay(left) => relay = left,
-            Left::Device(device) => return Ok(Some(device)),
+        if let Some(outcome) = carry_out(rt, alloc, station, relay, &line, report)? {
+            return Ok(Some(relay.cut(outcome)?));
         }
     }
     Ok(None)
+}
+
+/// Carries out lines by both parts of a clerk.
+// (in a function of its own, since whoever holds both parts is dear to prove)
+fn run_split<'d, 'b, R: Wait>(
+    rt: &R,
+    alloc: Global,
+    station: &mut Station,
+    clerk: Clerk<'d, 'b, FuseDisk, Etd>,
+    lines: &mut Lines,
+    report: &mut String,
+) -> Result<Option<MemDisk>, Trouble> {
+    run_at(
+        rt,
+        alloc,
+        station,
+        &mut Relay::of(alloc, clerk)?,
+        lines,
+        report,
+    )
 }
 
 /// Carries out lines at a new desk, over a keeper that was just opened.
@@ -136,8 +116,8 @@ fn run_segment<'b, R: Wait>(
     let building = keeper.building();
     let DeskParts { desk, seats, clerk } = Desk::open(alloc, 16 + usize::from(building.kiosks()))?;
     let mut station = Station::new(building, Terminals::new(&desk, seats));
-    let relay = Relay::of(alloc, Clerk::new(&desk, clerk, keeper, Etd))?;
-    run_at(rt, alloc, &mut station, relay, lines, report)
+    let clerk = Clerk::new(&desk, clerk, keeper, Etd);
+    run_split(rt, alloc, &mut station, clerk, lines, report)
 }
 
 /// A device with an empty journal of the building.

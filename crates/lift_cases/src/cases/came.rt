@@ -25,6 +25,12 @@ impl Came {
         }
     }
 
+    /// A line more, which begins with this word.
+    pub(crate) fn line(&mut self, word: &str) {
+        self.joined('\n');
+        self.joined(word);
+    }
+
     /// The word before goes on with this.
     pub(crate) fn joined<T: Display + Drop>(&mut self, part: T) {
         if write!(self.text, "{part}").is_err() {

@@ -36,18 +36,22 @@ impl Report {
     }
 
     fn try_case(&mut self, building: &Building, case: &str) -> Option<()> {
-        let mut figures = Figures::new(self.alloc, building);
         let (name, lines) = case.split_once('\n').unwrap_or((case, ""));
         let wrong = self.wrong;
-        for line in lines.lines() {
-            let line = without_comment(line);
-            if !line.is_empty() {
-                self.try_line(name, line, &mut figures)?;
-            }
-        }
+        self.try_lines(name, lines, &mut Figures::new(self.alloc, building))?;
         self.cases = self.cases.saturating_add(1);
         if self.wrong == wrong {
             writeln!(self.text, "ok {name}").ok()?;
+        }
+        Some(())
+    }
+
+    fn try_lines(&mut self, name: &str, lines: &str, figures: &mut Figures) -> Option<()> {
+        for line in lines.lines() {
+            let line = without_comment(line);
+            if !line.is_empty() {
+                self.try_line(name, line, figures)?;
+            }
         }
         Some(())
     }
@@ -57,24 +61,17 @@ impl Report {
     fn try_line(&mut self, name: &str, line: &str, figures: &mut Figures) -> Option<()> {
         let (said, wanted) = line.split_once(" = ").unwrap_or((line, ""));
         let (said, wanted) = (said.trim(), wanted.trim());
-        let words: Vec<&str> = said.split_whitespace().collect(self.alloc).ok()?;
-        let mut came = Came::new(self.alloc);
-        if figures.answer(&words, &mut came).is_none() {
-            came.word("not understood");
-        }
+        let came = answer_of(self.alloc, said, figures)?;
         let came = came.text()?;
         if !wanted.is_empty() {
             self.answers = self.answers.saturating_add(1);
         }
-        if came != wanted {
-            self.wrong = self.wrong.saturating_add(1);
-            writeln!(
-                self.text,
-                "WRONG {name}: {said}: wanted {wanted}, came {came}"
-            )
-            .ok()?;
+        if came == wanted {
+            return Some(());
         }
-        Some(())
+        self.wrong = self.wrong.saturating_add(1);
+        let text = &mut self.text;
+        writeln!(text, "WRONG {name}: {said}: wanted {wanted}, came {came}").ok()
     }
 
     /// Whether no case was tried.
@@ -92,6 +89,16 @@ impl Report {
     pub(crate) fn text(&self) -> &str {
         &self.text
     }
+}
+
+/// What a line comes to. None where memory is refused.
+fn answer_of(alloc: Global, said: &str, figures: &mut Figures) -> Option<Came> {
+    let words: Vec<&str> = said.split_whitespace().collect(alloc).ok()?;
+    let mut came = Came::new(alloc);
+    if figures.answer(&words, &mut came).is_none() {
+        came.word("not understood");
+    }
+    Some(came)
 }
 
 /// The line without what stands after a `#`, and without the spaces round it.
