@@ -2,7 +2,7 @@
 //! them.
 
 ghost use Rattle.std.specs.Prelude.{◌≡◌, false, IfOk};
-ghost use Rattle.clap.specs.Words.{app_of, rule_of};
+ghost use Rattle.clap.specs.Words.{App, app_of, rule_of, with_subcommand};
 ghost use Rattle.lift_program.specs.Words.{liftd_app, bare_app, replay_app, format_app, show_app};
 ghost use Rattle.lift_program.specs.Words.{serve_app, word_rule, option_rule, IsCommand};
 
@@ -88,17 +88,23 @@ fn bare<'a>(alloc: Global) -> Command<'a>
     Command::new(alloc, "liftd").no_binary_name(true)
 }
 
+/// A program with one command more, where that could be made.
+fn with_command<'a>(
+    program: Command<'a>,
+    command: Result<Command<'a>, AllocError>,
+) -> Result<Command<'a>, AllocError>
+    ensures { IfOk result (λ more. (app : App) → IfOk command.entry (IsCommand app)
+        → app_of more ≡ with_subcommand (app_of program.entry) app.top) }
+{
+    program.subcommand(command?)
+}
+
 /// The program with its commands.
 pub fn grammar<'a>(alloc: Global) -> Result<Command<'a>, AllocError>
     ensures { IfOk result (λ command. app_of command ≡ liftd_app) }
 {
-    let replay = replay_command(alloc);
-    let format = format_command(alloc)?;
-    let show = show_command(alloc)?;
-    let serve = serve_command(alloc)?;
-    bare(alloc)
-        .subcommand(replay)?
-        .subcommand(format)?
-        .subcommand(show)?
-        .subcommand(serve)
+    let program = with_command(bare(alloc), Ok(replay_command(alloc)))?;
+    let program = with_command(program, format_command(alloc))?;
+    let program = with_command(program, show_command(alloc))?;
+    with_command(program, serve_command(alloc))
 }
