@@ -1,6 +1,7 @@
 -- What the most frequent lines spell.
 use Rattle.std.proofs.Common.{◌≡◌, ℕ, ◌+◌, ◌*◌, ◌/◌, ◌%◌, ◌-◌, ◌≤◌, ◌<◌, List, [], ◌∷◌, ◌++◌}
-use Rattle.std.proofs.Common.{length, get_or, take, refl, sym, ap, ◌∙◌, arith, inr}
+use Rattle.std.proofs.Common.{◌^◌, pow-add, length, get_or, take, refl, sym, ap, ◌∙◌, arith, inr}
+use native.Mathlib.Nat.{pow-le-pow_right}
 use Rattle.std.specs.Prelude.{codes}
 use Rattle.std.specs.Fmt.{decimal}
 use Rattle.std.proofs.lemmas.Fmt.{decimal_digit, decimal_step}
@@ -23,6 +24,14 @@ longer n d some small digit =
     decimal_step (10 * n + d) (omega arith) (omega arith)
     ∙ ap (λ q. decimal q ++ (48 + (10 * n + d) % 10) ∷ []) front
     ∙ ap (λ r. decimal n ++ (48 + r) ∷ []) last
+
+-- a number of so many digits, of which there are few
+pub few_digits : (number place most : ℕ) → number < 10 ^ place → place ≤ most → number < 10 ^ most
+few_digits number place most low few = omega (arith, low, pow-le-pow_right {n = 10} (omega arith) few)
+
+-- and a digit more
+pub more_digits : (number place digit : ℕ) → number < 10 ^ place → digit < 10 → 10 * number + digit < 10 ^ (place + 1)
+more_digits number place digit low small = omega (arith, low, small, pow-add 10 place 1)
 
 -- a text's first digit is printed of its number
 pub first_digit : (text : List ℕ) (number : ℕ) → 0 < length text → 48 ≤ get_or text 0 0 → get_or text 0 0 ≤ 57

@@ -12,7 +12,8 @@ use crate::query::Query;
 use lift_base::{Dir, Floor, Letter, Number, Party, Stop};
 
 /// The number that a text begins with, in the way in which it is printed, and what stands after it.
-/// None also where it is far above what any line may name.
+/// At most nine digits are read, and none after a zero in front: what stands after them begins with
+/// another digit then, and no caller takes that.
 fn number_in_front(text: &[u8]) -> Option<(u32, &[u8])>
     ensures cut { IfSome result (λ read. text.now ≡ decimal read.0 ++ read.1.now) }
     ensures small { IfSome result (λ read. read.0 < 2 ^ 32) }
@@ -22,10 +23,8 @@ fn number_in_front(text: &[u8]) -> Option<(u32, &[u8])>
     }
     let mut number = u32::from(text[0] - b'0');
     let mut place = 1;
-    while place < text.len() && b'0' <= text[place] && text[place] <= b'9' {
-        if number == 0 || number > 100_000_000 {
-            return None;
-        }
+    let end = if number == 0 { 1 } else { text.len().min(9) };
+    while place < end && b'0' <= text[place] && text[place] <= b'9' {
         number = 10 * number + u32::from(text[place] - b'0');
         place += 1;
     }

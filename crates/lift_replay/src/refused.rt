@@ -51,6 +51,7 @@ pub(crate) fn add(text: &mut String, more: &str) -> Result<(), NoMemory>
 }
 
 /// Adds a letter, a digit or a sign to a text. It is refused only where there is no room for it.
+#[inline(always)]
 pub(crate) fn add_char(text: &mut String, letter: char) -> Result<(), NoMemory>
     requires { letter < 128 }
     ensures bytes { OnOk result (string_bytes text.new ≡ string_bytes text.old ++ letter ∷ []) }

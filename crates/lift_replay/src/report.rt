@@ -1,6 +1,6 @@
 //! The lines of a report.
 
-ghost use Rattle.std.specs.Prelude.{◌≡◌, ◌++◌, ◌∷◌, OnOk, decimal, string_bytes};
+ghost use Rattle.std.specs.Prelude.{◌≡◌, ◌++◌, ◌∷◌, [], OnOk, decimal, string_bytes};
 ghost use Rattle.lift_base.specs.declared.command.Reply.TheVariants.{Car, Refused};
 ghost use Rattle.lift_base.specs.Text.{letter_text, terminal_text, next_text, reply_text};
 ghost use Rattle.lift_replay.specs.Report.{status_text, party_text, row_text, rows_text, car_text};
@@ -56,51 +56,55 @@ pub(crate) fn push_letter(report: &mut String, car: Letter) -> Result<(), NoMemo
     add_char(report, (b'A' + car.get()) as char)
 }
 
-/// Adds the car that a call was given, as it is answered.
+/// Ends a terminal's line with the car that a call was given.
 fn push_car(report: &mut String, car: Letter) -> Result<(), NoMemory>
     ensures { OnOk result (string_bytes report.new ≡ string_bytes report.old
-        ++ reply_text (Car car)) }
+        ++ (32 ∷ reply_text (Car car) ++ 10 ∷ [])) }
 {
-    add(report, "CAR ")?;
-    push_letter(report, car)
+    add(report, " CAR ")?;
+    push_letter(report, car)?;
+    add_char(report, '\n')
 }
 
-/// Adds the next stop of a car, as it is answered.
+/// Ends a terminal's line with the next stop of a car.
 fn push_next(report: &mut String, next: Option<Stop>) -> Result<(), NoMemory>
-    ensures { OnOk result (string_bytes report.new ≡ string_bytes report.old ++ next_text next) }
+    ensures { OnOk result (string_bytes report.new ≡ string_bytes report.old
+        ++ (32 ∷ next_text next ++ 10 ∷ [])) }
 {
     match next {
-        None => add(report, "IDLE"),
+        None => add(report, " IDLE\n"),
         Some(Stop { floor, dir }) => {
-            add(report, "NEXT ")?;
+            add(report, " NEXT ")?;
             push_number(report, u64::from(floor.get()))?;
             match dir {
-                Dir::Up => add(report, " up"),
-                Dir::Down => add(report, " down"),
+                Dir::Up => add(report, " up\n"),
+                Dir::Down => add(report, " down\n"),
             }
         }
     }
 }
 
-/// Adds why a command is refused, as it is answered.
+/// Ends a terminal's line with why a command is refused.
 fn push_refusal(report: &mut String, reason: Reason) -> Result<(), NoMemory>
     ensures { OnOk result (string_bytes report.new ≡ string_bytes report.old
-        ++ reply_text (Refused reason)) }
+        ++ (32 ∷ reply_text (Refused reason) ++ 10 ∷ [])) }
 {
-    add(report, "NO ")?;
-    push_number(report, u64::from(reason.number()))
+    add(report, " NO ")?;
+    push_number(report, u64::from(reason.number()))?;
+    add_char(report, '\n')
 }
 
-/// Adds an answer.
+/// Ends a terminal's line with an answer: a space before it, and a line feed. Each text has what
+/// stands beside it, since a piece more costs as much as a longer one.
 fn push_reply(report: &mut String, reply: Reply) -> Result<(), NoMemory>
-    ensures { OnOk result (string_bytes report.new ≡ string_bytes report.old ++ reply_text reply) }
+    ensures { OnOk result (string_bytes report.new ≡ string_bytes report.old
+        ++ (32 ∷ reply_text reply ++ 10 ∷ [])) }
 {
     match reply {
         Reply::Car(car) => push_car(report, car),
-        Reply::Stopped(next) => push_next(report, next),
-        Reply::Placed(next) => push_next(report, next),
+        Reply::Stopped(next) | Reply::Placed(next) => push_next(report, next),
         Reply::Refused(reason) => push_refusal(report, reason),
-        Reply::Unknown => add(report, "UNKNOWN"),
+        Reply::Unknown => add(report, " UNKNOWN\n"),
     }
 }
 
@@ -223,9 +227,7 @@ pub fn push_heard(
     push_terminal(report, terminal)?;
     add_char(report, ' ')?;
     push_number(report, u64::from(number.get()))?;
-    add_char(report, ' ')?;
-    push_reply(report, reply)?;
-    add_char(report, '\n')
+    push_reply(report, reply)
 }
 
 /// Adds that a terminal still waits.
@@ -264,11 +266,18 @@ pub fn push_turn(report: &mut String, taken: usize, accepted: usize) -> Result<(
     ensures { OnOk result (string_bytes report.new ≡ string_bytes report.old
         ++ turn_text taken accepted) }
 {
-    add(report, "turn ")?;
-    push_number(report, taken as u64)?;
-    add_char(report, ' ')?;
-    push_number(report, accepted as u64)?;
-    add_char(report, '\n')
+    // The most frequent lines are one piece.
+    match (taken, accepted) {
+        (1, 1) => add(report, "turn 1 1\n"),
+        (1, 0) => add(report, "turn 1 0\n"),
+        _ => {
+            add(report, "turn ")?;
+            push_number(report, taken as u64)?;
+            add_char(report, ' ')?;
+            push_number(report, accepted as u64)?;
+            add_char(report, '\n')
+        }
+    }
 }
 
 /// Adds what a call would cost a car to the line of costs.

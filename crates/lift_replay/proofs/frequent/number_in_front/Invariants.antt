@@ -8,7 +8,11 @@ invariant-loop-place l = record {
   some : 1 ≤ l.place;
   within : l.place ≤ length l.text;
   front : take l.place l.text ≡ decimal l.number;
-  small : l.number < 2 ^ 32;
+  digits : l.number < 10 ^ l.place;
+  inside : l.end ≤ length l.text;
+  most : l.end ≤ 9;
+  nine : l.place ≤ 9;
+  more : l.place < l.end → 0 < l.number;
 }
 
 abbrev pub decreases-loop-place : goal.decreases-loop-place

@@ -1,0 +1,12 @@
+use Rattle.std.proofs.Common.{ap, sym, ◌∙◌}
+use Rattle.lift_base.specs.lemmas.Texts.{first_and_others, texts}
+use Rattle.lift_replay.proofs.Words.{line_read, line_unread}
+use Rattle.lift_replay.proofs.parsing.parse_words.Goals as goal
+
+pub returns-in-len1-up-clause-some : goal.returns-in-len1-up-clause-some
+returns-in-len1-up-clause-some c =
+    line_read c.args.line.now (texts c.in_ok-words.words.items) _ c.asked_by.result c.in_ok-words.ensures.some (ap texts (sym c.as_slice.ensures.value) ∙ first_and_others c.as_slice.result.now _ c.in-len1-up.len_at_least) c.asked_by.ensures
+
+pub returns-in-len1-up-clause-none : goal.returns-in-len1-up-clause-none
+returns-in-len1-up-clause-none c =
+    line_unread c.args.line.now (texts c.in_ok-words.words.items) _ c.asked_by.result c.in_ok-words.ensures.some (ap texts (sym c.as_slice.ensures.value) ∙ first_and_others c.as_slice.result.now _ c.in-len1-up.len_at_least) c.asked_by.ensures
