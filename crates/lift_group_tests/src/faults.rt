@@ -6,9 +6,7 @@
 //! (Appends, checkpoints and openings of a journal are stopped so in `lift_storage_tests`.)
 
 mod asking;
-mod case;
-mod failing;
-mod images;
-mod showing;
-mod stops;
-mod tally;
+pub(crate) mod case;
+pub(crate) mod images;
+pub(crate) mod showing;
+pub(crate) mod stops;

@@ -1,4 +1,5 @@
 //! Groups of ten floors, their devices, and what their terminals say.
+use crate::device::Device;
 use lift_base::{Body, Dir, Floor, Letter, Number, Party, Reply, Terminal};
 use lift_building::Building;
 use lift_disk::{Disk, MemDisk};
@@ -46,15 +47,15 @@ pub(crate) fn blank(rt: &impl Abort, alloc: Global) -> MemDisk {
 }
 
 /// Whether the device is large enough, and has an empty journal now.
-fn is_made<D: Disk>(disk: &mut D, building: &Building) -> bool {
+fn is_made(disk: &mut MemDisk, building: &Building) -> bool {
     disk.sectors() >= 130 && format(disk, building.shape(64)).is_ok()
 }
 
 /// A device with an empty journal for a building.
-pub(crate) fn formatted(rt: &impl Abort, alloc: Global, building: &Building) -> MemDisk {
+pub(crate) fn formatted(rt: &impl Abort, alloc: Global, building: &Building) -> Device {
     let mut disk = blank(rt, alloc);
     assert!(rt; is_made(&mut disk, building));
-    disk
+    Device::new(disk)
 }
 
 pub(crate) fn floor(number: u8) -> Floor {

@@ -1,7 +1,5 @@
-//! Tests of `lift_relay`: worked turns of both parts, and both on two threads, with the kiosks on
-//! others.
+//! Tests of `lift_relay`: worked turns and runs of both parts, and the kiosks on threads of their own
+//! beside them.
 
-mod gates;
 mod meeting;
-mod side_by_side;
-mod turns;
+pub(crate) mod turns;

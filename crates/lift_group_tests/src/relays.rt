@@ -1,29 +1,31 @@
 //! Both parts of one split, held together.
-ghost use Rattle.std.specs.Prelude.{◌≡◌, IfOk};
+ghost use Rattle.std.specs.Prelude.{◌≡◌};
 ghost use Rattle.lift_parts.specs.Parts.{AreOfOne};
 
+use crate::device::Device;
+use crate::gate::{Below, Counter};
 use lift_clerk::{Clerk, Counts};
 use lift_disk::Disk;
 use lift_keeper::KeeperFault;
-use lift_policy::Policy;
-use lift_relay::{
-    Allocator, FlushCounts, Flusher, Gate, NoWitness, RunFault, Witness, rejoin, run, split, tell,
-};
+use lift_policy::{Etd, Policy};
+use lift_relay::{Allocator, FlushCounts, Flusher, NoWitness, RunFault, rejoin, run, split, tell};
 use std::alloc::Global;
 use std::process::Abort;
 use std::sync::Wait;
 use std::thread::Threads;
 
-/// Both parts of one split.
-#[derive(Drop)]
-pub struct Relay<'a, D: Disk + Drop, P: Policy + Drop> {
-    allocator: Allocator<'a, 'a, P>,
-    flusher: Flusher<'a, 'a, D>,
+/// Both parts of one split. Who has them joins them: to drop them would be dear to prove.
+pub struct Relay<'d, 'b, D: Disk + Drop, P: Policy + Drop> {
+    allocator: Allocator<'d, 'b, P>,
+    flusher: Flusher<'d, 'b, D>,
     ghost of_one: { AreOfOne allocator flusher },
 }
 
-impl<'a, D: Disk + Drop, P: Policy + Drop> Relay<'a, D, P> {
-    pub(crate) fn of(rt: &impl Abort, alloc: Global, clerk: Clerk<'a, 'a, D, P>) -> Self
+/// Those that the tests turn by hand.
+pub type Parts<'d, 'b> = Relay<'d, 'b, Device, Etd>;
+
+impl<'d, 'b, D: Disk + Drop, P: Policy + Drop> Relay<'d, 'b, D, P> {
+    pub(crate) fn of(rt: &impl Abort, alloc: Global, clerk: Clerk<'d, 'b, D, P>) -> Self
         ensures { result.allocator.desk ≡ clerk.entry.desk }
     {
         match split(alloc, clerk) {
@@ -44,43 +46,40 @@ impl<'a, D: Disk + Drop, P: Policy + Drop> Relay<'a, D, P> {
         tell(&mut self.allocator, &mut self.flusher);
     }
 
-    pub(crate) fn has_batch_in_hand(&self) -> bool {
-        self.allocator.has_batch_in_hand()
+    /// Whether this many batches were sent and received, and whether one is in hand just where one
+    /// has to be.
+    pub(crate) fn has_moved(&self, sent: u64, received: u64, is_in_hand: bool) -> bool {
+        (self.allocator.sent() == sent)
+            & (self.flusher.received() == received)
+            & (self.allocator.has_batch_in_hand() == is_in_hand)
     }
 
-    /// Whether this many batches were sent and received.
-    pub(crate) fn has_moved(&self, sent: u64, received: u64) -> bool {
-        self.allocator.sent() == sent && self.flusher.received() == received
-    }
-
-    /// The witness, once the run is over, beside its fault.
-    pub(crate) fn run<R: Threads + Wait + Sync, G: Gate + Sync, V: Witness + Drop>(
-        &mut self,
-        rt: &R,
-        gate: &G,
-        witness: V,
-    ) -> (V, Option<RunFault>)
+    /// What a run comes to through a gate.
+    pub(crate) fn run<R: Threads + Wait + Sync>(&mut self, rt: &R, gate: &Below) -> Option<RunFault>
     where
         P: Send,
         ensures { self.new.allocator.desk ≡ self.old.allocator.desk }
     {
-        run(rt, &mut self.allocator, &mut self.flusher, gate, witness)
+        let witness = Counter { gate };
+        let (_, fault) = run(rt, &mut self.allocator, &mut self.flusher, gate, witness);
+        fault
     }
 
-    pub(crate) fn rejoined(self) -> Result<Clerk<'a, 'a, D, P>, Self>
-        ensures { IfOk result (λ clerk. clerk.desk ≡ self.entry.allocator.desk) }
-    {
-        match rejoin(self.allocator, self.flusher) {
-            Ok(clerk) => Ok(clerk),
-            Err((allocator, flusher)) => Err(Relay { allocator, flusher }),
+    /// The parts, which may not join, as they are handed back.
+    pub(crate) fn handed_back(self, rt: &impl Abort) -> Self {
+        let Relay { allocator, flusher } = self;
+        match rejoin(allocator, flusher) {
+            Ok(_) => panic!(rt; "joined"),
+            Err((allocator, flusher)) => Relay { allocator, flusher },
         }
     }
 
     /// The clerk of both parts, which may join.
-    pub(crate) fn joined(self, rt: &impl Abort) -> Clerk<'a, 'a, D, P>
+    pub(crate) fn joined(self, rt: &impl Abort) -> Clerk<'d, 'b, D, P>
         ensures { result.desk ≡ self.entry.allocator.desk }
     {
-        match self.rejoined() {
+        let Relay { allocator, flusher } = self;
+        match rejoin(allocator, flusher) {
             Ok(clerk) => clerk,
             Err(_) => panic!(rt; "handed back"),
         }

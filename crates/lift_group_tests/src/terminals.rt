@@ -3,14 +3,14 @@ ghost use Rattle.std.specs.Prelude.{◌≡◌};
 ghost use Rattle.lift_desk.specs.Seats.{IsSeatOf, IsClerkOf, AreSeatsOf, OwesNothing};
 ghost use Rattle.lift_desk.specs.Seats.{clerk_of as new_seats};
 
+use crate::device::Device;
 use crate::groups::number;
 use lift_base::{Body, Reply};
 use lift_building::Building;
-use lift_clerk::Clerk;
+use lift_clerk::{Clerk, Counts, begin_over, turn_shows_letters};
 use lift_desk::{ClerkSeat, Desk, DeskParts, Seat};
-use lift_disk::Disk;
-use lift_keeper::Keeper;
-use lift_policy::Policy;
+use lift_keeper::{Keeper, KeeperFault};
+use lift_policy::Etd;
 use std::alloc::Global;
 use std::process::Abort;
 use std::thread;
@@ -88,33 +88,26 @@ impl<'d> Terminals<'d> {
     {
         self.seats.pop().expect(rt, "no seat")
     }
-
-    /// The seat of car A.
-    pub(crate) fn into_first(self, rt: &impl Abort) -> Seat
-        ensures { IsSeatOf self.entry.desk.now result }
-    {
-        let mut group = self;
-        let mut seat = group.take_last(rt);
-        for _ in 0..18u8 {
-            seat = group.take_last(rt);
-        }
-        seat
-    }
 }
 
 /// The clerk of a device that begins as it is.
-pub(crate) fn clerk_of<'a, D: Disk + Drop, P: Policy + Drop>(
+pub(crate) fn clerk_of<'a>(
     rt: &impl Abort,
     desk: &'a Desk,
     seat: ClerkSeat,
-    disk: D,
+    device: Device,
     building: &'a Building,
-    policy: P,
-) -> Clerk<'a, 'a, D, P>
+) -> Clerk<'a, 'a, Device, Etd>
     requires clerk { IsClerkOf desk.now seat }
     requires owes { OwesNothing seat }
+    requires unused { seat ≡ new_seats desk.now }
     ensures desk { result.desk ≡ desk.now }
 {
-    let keeper = Keeper::open(disk, building).ok().expect(rt, "refused");
-    Clerk::new(desk, seat, keeper, policy)
+    let keeper = Keeper::open(device, building).ok().expect(rt, "refused");
+    begin_over(desk, seat, keeper, Etd)
+}
+
+/// A turn of a clerk.
+pub(crate) fn turn(clerk: &mut Clerk<Device, Etd>) -> Result<Counts, KeeperFault> {
+    turn_shows_letters(clerk)
 }

@@ -1,12 +1,11 @@
 //! What car A and the kiosks ask, and what they hear.
-use crate::faults::case::{Case, counts};
-use crate::faults::tally::Tally;
+use crate::device::Device;
+use crate::faults::case::Case;
 use crate::groups::{call, car, floor, place};
-use crate::terminals::{Terminals, Who};
+use crate::tally::Tally;
+use crate::terminals::{Terminals, Who, turn};
 use lift_base::{Body, Dir, Reply, Stop};
-use lift_clerk::{Clerk, Counts};
-use lift_disk::Disk;
-use lift_keeper::KeeperFault;
+use lift_clerk::Clerk;
 use lift_policy::Etd;
 
 /// Car A stands at floor 0, going up.
@@ -27,14 +26,10 @@ pub(crate) fn next_stop() -> Option<Stop> {
     })
 }
 
-pub(crate) fn turn<D: Disk>(clerk: &mut Clerk<D, Etd>) -> Result<Counts, KeeperFault> {
-    clerk.turn()
-}
-
 /// A terminal asks, and the clerk turns: what it hears.
-pub(crate) fn asks<D: Disk>(
+pub(crate) fn asks(
     group: &mut Terminals,
-    clerk: &mut Clerk<D, Etd>,
+    clerk: &mut Clerk<Device, Etd>,
     who: Who,
     told: u32,
     body: Body,
@@ -77,10 +72,10 @@ pub(crate) fn hear(tally: &mut Tally, group: &mut Terminals, case: &Case, batch:
 
 /// All of them are asked again, and the clerk turns for each. Where no car was placed, a call that
 /// isn't in is refused.
-pub(crate) fn ask_again<D: Disk>(
+pub(crate) fn ask_again(
     tally: &mut Tally,
     group: &mut Terminals,
-    clerk: &mut Clerk<D, Etd>,
+    clerk: &mut Clerk<Device, Etd>,
     case: &Case,
     is_placed: bool,
 ) {

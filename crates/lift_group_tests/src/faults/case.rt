@@ -30,6 +30,15 @@ pub(crate) struct Work {
     pub(crate) calls_of_checkpoint: u32,
 }
 
+impl Work {
+    /// Each call of the work, and none where it is one after the last, with each way in which loose
+    /// sectors end.
+    pub(crate) fn places(&self) -> u32 {
+        let calls = self.batches.saturating_mul(self.calls);
+        calls.saturating_add(1).saturating_mul(6)
+    }
+}
+
 /// Three batches in a half that has room for them: body, next gate, sync, gate, sync.
 pub(crate) const APPENDED: Work = Work {
     stops: 0,
@@ -57,11 +66,23 @@ pub(crate) const MOVED: Work = Work {
     calls_of_checkpoint: 6,
 };
 
+/// Work, by whom it is done on which device.
+#[derive(Clone, Copy)]
+pub(crate) struct Way<'w> {
+    pub(crate) work: &'w Work,
+    /// Whether both parts of a clerk do it, or its turns.
+    pub(crate) by_parts: bool,
+    /// Whether the device fails once, or from then on.
+    pub(crate) is_once: bool,
+}
+
 /// Work, the calls of the device that are the first to fail in it and in the recovery, counted from
 /// 1, and how the power is cut after each of these failures, if it is.
 #[derive(Clone, Copy)]
 pub(crate) struct Case<'w> {
     pub(crate) work: &'w Work,
+    pub(crate) by_parts: bool,
+    pub(crate) is_once: bool,
     pub(crate) failing: u32,
     pub(crate) cut: Option<Outcome>,
     pub(crate) recovery: u32,
@@ -83,9 +104,11 @@ impl Case<'_> {
     /// The case at a place in the list of each call of the work with each way in which loose sectors
     /// end, and at one in the list of the recovery's calls: after the first of them, the sync, loose
     /// sectors end in each way.
-    pub(crate) fn at(work: &Work, place: u32, again: u32) -> Case<'_> {
+    pub(crate) fn at(way: Way<'_>, place: u32, again: u32) -> Case<'_> {
         Case {
-            work,
+            work: way.work,
+            by_parts: way.by_parts,
+            is_once: way.is_once,
             failing: (place / 6).wrapping_add(1),
             cut: CUTS[place as usize % 6],
             recovery: again.saturating_sub(5).wrapping_add(1),

@@ -1,17 +1,20 @@
 //! Images that work begins over, and those that it leaves.
+use crate::deeds::{Deed, at_desk};
+use crate::device::Device;
 use crate::faults::asking::{asks, stand, stop};
 use crate::faults::case::Work;
-use crate::faults::tally::Tally;
 use crate::groups::{blank, call, car, formatted};
-use crate::terminals::{Terminals, Who, clerk_of, open};
+use crate::tally::Tally;
+use crate::terminals::{Terminals, Who};
 use lift_base::Reply;
 use lift_building::Building;
 use lift_clerk::Clerk;
-use lift_desk::DeskParts;
 use lift_disk::{Disk, MemDisk};
 use lift_policy::Etd;
 use std::alloc::Global;
 use std::process::Abort;
+use std::sync::Wait;
+use std::thread::Threads;
 
 /// Makes a batch of one stop or one call one of version 1: the version is the third byte of its
 /// header, and the sixth one of a record, a call's party, is 0.
@@ -27,7 +30,12 @@ fn makes_old(disk: &mut MemDisk, sector: u32) -> bool {
 
 /// This many stops of car A, and kiosk 0's first call, each in a batch of its own: the letter was
 /// heard.
-fn begin(tally: &mut Tally, group: &mut Terminals, clerk: &mut Clerk<MemDisk, Etd>, stops: u32) {
+pub(crate) fn begin(
+    tally: &mut Tally,
+    group: &mut Terminals,
+    clerk: &mut Clerk<Device, Etd>,
+    stops: u32,
+) {
     for told in 0..stops {
         let heard = asks(group, clerk, Who::CarA, told.wrapping_add(1), stop());
         tally.want(heard == Some(Reply::Stopped(None)));
@@ -37,35 +45,23 @@ fn begin(tally: &mut Tally, group: &mut Terminals, clerk: &mut Clerk<MemDisk, Et
     tally.want(asks(group, clerk, Who::Kiosk0, 1, call(5)) == car(0));
 }
 
-pub(crate) fn into_disk<D: Disk + Drop>(clerk: Clerk<D, Etd>) -> D {
-    clerk.into_parts().1.into_disk()
-}
-
-/// The device after these stops and the call.
-fn begun(
-    rt: &impl Abort,
-    alloc: Global,
-    tally: &mut Tally,
-    building: &Building,
-    stops: u32,
-) -> MemDisk {
-    let disk = formatted(rt, alloc, building);
-    let DeskParts { desk, seats, clerk } = open(rt, alloc);
-    let mut group = Terminals::of(&desk, seats);
-    let mut clerk = clerk_of(rt, &desk, clerk, disk, building, Etd);
-    begin(tally, &mut group, &mut clerk, stops);
-    into_disk(clerk)
-}
-
-/// The device that this work begins over.
-pub(crate) fn image_of(
-    rt: &impl Abort,
+/// The device that this work begins over, after its stops and the call.
+pub(crate) fn image_of<R: Threads + Wait + Abort + Sync>(
+    rt: &R,
     alloc: Global,
     tally: &mut Tally,
     building: &Building,
     work: &Work,
 ) -> MemDisk {
-    let mut disk = begun(rt, alloc, tally, building, work.stops);
+    let device = formatted(rt, alloc, building);
+    let mut disk = at_desk(
+        rt,
+        alloc,
+        tally,
+        device,
+        building,
+        Deed::Begin(work.stops),
+    ).into_inner();
     if work.is_old {
         for batch in 0..31u32 {
             tally.want(makes_old(&mut disk, 2 * batch + 3));
@@ -83,13 +79,13 @@ fn copy_sector(image: &mut MemDisk, disk: &mut MemDisk, sector: u32) {
 }
 
 /// A device with the same sectors, all of them on the disk.
-pub(crate) fn copy(rt: &impl Abort, alloc: Global, image: &mut MemDisk) -> MemDisk {
+pub(crate) fn copy(rt: &impl Abort, alloc: Global, image: &mut MemDisk) -> Device {
     let mut disk = blank(rt, alloc);
     for sector in 0..130u32 {
         copy_sector(image, &mut disk, sector);
     }
     let _synced = disk.sync();
-    disk
+    Device::new(disk)
 }
 
 /// A sector's first three bytes, where it is read.

@@ -1,9 +1,9 @@
 //! What a register shows after a recovery.
+use crate::device::Device;
 use crate::faults::case::{Case, Work};
 use crate::groups::{floor, kiosk};
 use lift_base::{Letter, Row, Terminal};
-use lift_clerk::Clerk;
-use lift_disk::Disk;
+use lift_clerk::{Clerk, crash_shows_letters};
 use lift_keeper::Keeper;
 use lift_policy::Etd;
 use lift_register::Register;
@@ -36,13 +36,14 @@ pub(crate) fn has(register: &Register, work: &Work, batches: u32) -> bool {
 }
 
 /// Whether the keeper has begun.
-fn has_begun<D: Disk>(keeper: &Keeper<D>) -> bool {
+fn has_begun(keeper: &Keeper<Device>) -> bool {
     !keeper.is_broken()
         && keeper.pending() == 0
         && keeper.view().position(Letter::default()) == None
 }
 
-/// Whether the clerk has begun, and shows what is in.
-pub(crate) fn shows<D: Disk>(clerk: &Clerk<D, Etd>, case: &Case) -> bool {
+/// Whether the clerk has begun, and shows what is in. A crash would show the letters.
+pub(crate) fn shows(clerk: &Clerk<Device, Etd>, case: &Case) -> bool {
+    crash_shows_letters(clerk);
     has_begun(clerk.keeper()) && has(clerk.keeper().register(), case.work, case.batches_in())
 }

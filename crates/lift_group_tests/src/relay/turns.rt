@@ -1,53 +1,50 @@
-//! Both parts turned by one thread, and drained.
+//! Batches that wait in the line come through, by turns of one thread or in a run.
+use crate::deeds::{Deed, at_desk};
+use crate::device::Device;
+use crate::gate::Below;
 use crate::groups::{call, car, formatted, group, kiosk, place};
-use crate::relay::gates::Below;
-use crate::relays::Relay;
-use crate::terminals::{Terminals, Who, clerk_of, open};
+use crate::relays::Parts;
+use crate::tally::Tally;
+use crate::terminals::{Terminals, Who};
 use lift_base::{Body, Dir, Reply};
 use lift_clerk::{Clerk, Counts};
-use lift_desk::DeskParts;
-use lift_disk::{Disk, FlakyDisk};
 use lift_journal::JournalFault;
 use lift_keeper::KeeperFault;
 use lift_policy::Etd;
-use lift_relay::{Failed, FlushCounts, RunFault, Witness};
+use lift_register::Register;
+use lift_relay::{FlushCounts, RunFault};
 use std::alloc::Global;
 use std::process::Abort;
 use std::sync::Wait;
-use std::sync::atomic::{AtomicU64, Ordering};
+use std::thread;
 use std::thread::Threads;
 
-const ONE: Result<FlushCounts, KeeperFault> = Ok(FlushCounts {
-    batches: 1,
-    answers: 1,
-});
-
-const NONE: Result<FlushCounts, KeeperFault> = Ok(FlushCounts {
-    batches: 0,
-    answers: 0,
-});
+/// The looks of a kiosk.
+const LIMIT: u64 = 20_000_000;
 
 const FAILED: KeeperFault = KeeperFault::Journal(JournalFault::Disk);
 
 const BROKEN: KeeperFault = KeeperFault::Journal(JournalFault::Broken);
 
-/// How five batches that were sent come through.
+/// How batches that were sent come through.
 #[derive(Clone, Copy)]
 enum Course {
-    /// By turns of the flusher.
+    /// Five, by turns of the flusher.
     Turns,
-    /// By a run through a gate that is closed.
+    /// Five, by a run through a gate that is closed.
     Run,
     /// The same, after a telling.
     Told,
-    /// By a run whose gate is open until its witness is told that the device failed.
+    /// Five, by a run whose gate is open until its witness is told that the device failed.
     Watched,
+    /// One, and three calls on a thread of their own, by a run whose gate is open beside them.
+    Beside,
 }
 
-/// What becomes of five batches over a device that fails one call, or none by 0.
+/// What becomes of batches over a device that fails one call, or none by 0.
 #[derive(Clone, Copy)]
-struct Drain {
-    failing_call: u32,
+pub(crate) struct Drain {
+    pub(crate) failing_call: u32,
     /// Which batch that call is of, counted from 0; 5 where none fails.
     failed: u8,
     /// How many of the kiosks' calls are in at the end.
@@ -55,12 +52,64 @@ struct Drain {
     course: Course,
 }
 
-const fn row(failing_call: u32, failed: u8, calls: u8, course: Course) -> Drain {
-    Drain {
-        failing_call,
-        failed,
-        calls,
-        course,
+/// Five batches wait, the fifth in hand until the flusher has received one. A batch without entries
+/// is no call of the device, and each of the three calls is five. What was safe is answered, and all
+/// batches after a fault are Unknown. A run through a gate that is closed turns nothing, and drains
+/// what is in hand and in the line; what the parts tell each other before it changes nothing. After a
+/// fault it goes on, tells the first one, and its witness is told of that once, and at once; so it
+/// does while its gate is open, and answers the later calls too.
+const DRAINS: [(u32, u8, u8, Course); 13] = [
+    (0, 5, 3, Course::Turns),
+    (1, 2, 0, Course::Turns),
+    (5, 2, 1, Course::Turns),
+    (6, 3, 1, Course::Turns),
+    (10, 3, 2, Course::Turns),
+    (11, 4, 2, Course::Turns),
+    (15, 4, 3, Course::Turns),
+    (16, 5, 3, Course::Turns),
+    (0, 5, 3, Course::Told),
+    (6, 3, 1, Course::Run),
+    (6, 3, 1, Course::Watched),
+    (0, 5, 2, Course::Beside),
+    (1, 1, 0, Course::Beside),
+];
+
+impl Drain {
+    fn has_failed(&self) -> bool {
+        self.failed < 5
+    }
+
+    /// What a command of this batch is answered, if it is this where the batch is safe.
+    fn answer(&self, batch: u8, reply: Option<Reply>) -> Option<Reply> {
+        if batch < self.failed {
+            reply
+        } else {
+            Some(Reply::Unknown)
+        }
+    }
+
+    /// What the flusher's turn for a batch of one command comes to. One more finds none.
+    fn comes_to(&self, batch: u8) -> Result<FlushCounts, KeeperFault> {
+        if batch > self.failed {
+            return Err(BROKEN);
+        }
+        if batch == self.failed && batch < 5 {
+            return Err(FAILED);
+        }
+        let count = usize::from(batch < 5);
+        Ok(FlushCounts {
+            batches: count,
+            answers: count,
+        })
+    }
+
+    /// What a run comes to.
+    fn fault(&self) -> Option<RunFault> {
+        if self.has_failed() {
+            Some(RunFault::Keeper(FAILED))
+        } else {
+            None
+        }
     }
 }
 
@@ -80,208 +129,169 @@ fn command(batch: u8) -> (Who, u32, Body) {
 }
 
 /// A batch that the allocator takes.
-fn takes<R: Wait + Abort, D: Disk + Drop>(
+pub(crate) fn takes<R: Wait>(
     rt: &R,
+    tally: &mut Tally,
     terminals: &mut Terminals,
-    relay: &mut Relay<'_, D, Etd>,
+    relay: &mut Parts,
     batch: u8,
 ) {
     let (who, told, body) = command(batch);
-    assert!(rt; terminals.ask(who, told, body));
-    assert!(rt; relay.allocate(rt) == counts(1, usize::from(batch >= 2)));
+    tally.want(terminals.ask(who, told, body));
+    tally.want(relay.allocate(rt) == counts(1, usize::from(batch >= 2)));
 }
 
-/// Five batches. The line has no room for the fifth, and then nothing is taken.
-fn five_batches<R: Wait + Abort, D: Disk + Drop>(
-    rt: &R,
-    terminals: &mut Terminals,
-    relay: &mut Relay<'_, D, Etd>,
-) {
-    for batch in 0..5u8 {
-        takes(rt, terminals, relay, batch);
+/// Four batches more. The line has no room for the fifth, and then nothing is taken.
+fn takes_four<R: Wait>(rt: &R, tally: &mut Tally, terminals: &mut Terminals, relay: &mut Parts) {
+    for batch in 1..5u8 {
+        takes(rt, tally, terminals, relay, batch);
     }
-    assert!(rt; relay.has_batch_in_hand());
-    assert!(rt; relay.allocate(rt) == counts(0, 0) && relay.has_batch_in_hand());
+    tally.want(relay.has_moved(4, 0, true));
+    tally.want(relay.allocate(rt) == counts(0, 0));
+    tally.want(relay.has_moved(4, 0, true));
 }
 
-/// The line has room again for the batch in hand, and nothing is taken.
-fn sends_the_fifth<R: Wait + Abort, D: Disk + Drop>(rt: &R, relay: &mut Relay<'_, D, Etd>) {
-    assert!(rt; relay.allocate(rt) == counts(0, 0) && !relay.has_batch_in_hand());
-    assert!(rt; relay.has_moved(5, 1));
-}
-
-/// What the flusher's turn for a batch comes to where this one fails.
-fn comes_to(batch: u8, failed: u8) -> Result<FlushCounts, KeeperFault> {
-    if batch < failed {
-        ONE
-    } else if batch == failed {
-        Err(FAILED)
-    } else {
-        Err(BROKEN)
-    }
-}
-
-/// Five turns of the flusher.
-fn flushes_five<R: Wait + Abort, D: Disk + Drop>(
-    rt: &R,
-    relay: &mut Relay<'_, D, Etd>,
-    failed: u8,
-) {
-    for batch in 0..5u8 {
-        assert!(rt; relay.flush(rt) == comes_to(batch, failed));
+/// Six turns of the flusher, of which the last one finds no batch. After the first the line has room
+/// for the batch in hand, and nothing is taken.
+fn flushes_five<R: Wait>(rt: &R, tally: &mut Tally, relay: &mut Parts, drain: &Drain) {
+    for batch in 0..6u8 {
+        tally.want(relay.flush(rt) == drain.comes_to(batch));
         if batch == 0 {
-            sends_the_fifth(rt, relay);
+            tally.want(relay.allocate(rt) == counts(0, 0));
+            tally.want(relay.has_moved(5, 1, false));
         }
     }
 }
 
-/// Counts how often it is told of one.
-#[derive(Drop)]
-struct Counter<'a> {
-    told: &'a AtomicU64,
-}
-
-impl<'a> Witness for Counter<'a> {
-    fn has_failed(&mut self, _failed: Failed) {
-        self.told.fetch_add(1, Ordering::SeqCst);
-    }
-}
-
-/// What a run comes to, and how often its witness was told that the device failed. Its gate is open
-/// while that is less often than this.
-fn runs<R: Threads + Wait + Abort + Sync, D: Disk + Drop>(
+/// All five batches are sent and received in a run, which tells the first fault. Its gate is open
+/// while its witness was told that the device failed less often than this.
+fn runs_out<R: Threads + Wait + Sync>(
     rt: &R,
-    relay: &mut Relay<'_, D, Etd>,
+    tally: &mut Tally,
+    relay: &mut Parts,
+    drain: &Drain,
     limit: u64,
-) -> (Option<RunFault>, u64) {
-    let told = AtomicU64::new(0);
-    let gate = Below::new(&told, limit);
-    let (_, fault) = relay.run(rt, &gate, Counter { told: &told });
-    (fault, told.load(Ordering::SeqCst))
-}
-
-/// All five batches are sent and received in a run, which tells the first fault.
-fn runs_out<R: Threads + Wait + Abort + Sync, D: Disk + Drop>(
-    rt: &R,
-    relay: &mut Relay<'_, D, Etd>,
-    limit: u64,
-    has_failed: bool,
 ) {
-    let (fault, told) = runs(rt, relay, limit);
-    let expected = if has_failed {
-        Some(RunFault::Keeper(FAILED))
-    } else {
-        None
-    };
-    assert!(rt; fault == expected && told == u64::from(has_failed));
-    assert!(rt; relay.has_moved(5, 5) && !relay.has_batch_in_hand());
+    let gate = Below::new(limit);
+    tally.want(relay.run(rt, &gate) == drain.fault());
+    tally.want(gate.has_seen(u64::from(drain.has_failed())));
+    tally.want(relay.has_moved(5, 5, false));
 }
 
-fn goes_through<R: Threads + Wait + Abort + Sync, D: Disk + Drop>(
+/// Three calls, each once the one before it was answered, and the gate is closed. Whether each was
+/// asked, but for the last one, which is the first again, and answered so.
+fn call_each(terminals: &mut Terminals, gate: &Below, reply: Option<Reply>) -> bool {
+    let mut are_answered = true;
+    for turn in 0..3u8 {
+        let who = if turn == 1 { Who::Kiosk1 } else { Who::Kiosk0 };
+        let is_asked = terminals.ask(who, 1, call(9));
+        let is_answered = terminals.wait_for(who, LIMIT) == reply;
+        are_answered = are_answered & is_asked & is_answered;
+    }
+    gate.add(2);
+    are_answered
+}
+
+/// The gate is open beside the calls: each is answered, four batches went through, and the first
+/// fault is told.
+fn runs_beside<R: Threads + Wait + Sync>(
     rt: &R,
-    relay: &mut Relay<'_, D, Etd>,
+    tally: &mut Tally,
+    terminals: &mut Terminals,
+    relay: &mut Parts,
     drain: &Drain,
 ) {
-    let has_failed = drain.failed < 5;
-    match drain.course {
-        Course::Turns => flushes_five(rt, relay, drain.failed),
-        Course::Run => runs_out(rt, relay, 0, has_failed),
-        Course::Told => {
-            relay.tell();
-            runs_out(rt, relay, 0, has_failed);
-        }
-        Course::Watched => runs_out(rt, relay, 1, has_failed),
-    }
+    let gate = Below::new(2);
+    let reply = drain.answer(1, car(0));
+    let (are_answered, fault) = thread::join(
+        rt,
+        || call_each(terminals, &gate, reply),
+        || relay.run(rt, &gate),
+    );
+    tally.want(are_answered);
+    tally.want(fault == drain.fault());
+    tally.want(gate.has_seen(u64::from(drain.has_failed())));
+    tally.want(relay.has_moved(4, 4, false));
+    tally.want(gate.was_told_of(4));
 }
 
-/// Whether the kiosks hear a letter each of the batches before this one, and Unknown else.
-fn hear(terminals: &mut Terminals, failed: u8) -> bool {
-    let unknown = Some(Reply::Unknown);
-    terminals.hear(Who::Kiosk0) == if failed > 2 { car(0) } else { unknown }
-        && terminals.hear(Who::Kiosk1) == if failed > 3 { car(1) } else { unknown }
-        && terminals.hear(Who::Kiosk2) == if failed > 4 { car(0) } else { unknown }
+/// The cars hear that they are placed, and the kiosks a letter each of the batches that are safe, and
+/// Unknown else.
+fn hear(tally: &mut Tally, terminals: &mut Terminals, drain: &Drain) {
+    let placed = Some(Reply::Placed(None));
+    tally.want(terminals.hear(Who::CarA) == placed);
+    tally.want(terminals.hear(Who::CarB) == placed);
+    tally.want(terminals.hear(Who::Kiosk0) == drain.answer(2, car(0)));
+    tally.want(terminals.hear(Who::Kiosk1) == drain.answer(3, car(1)));
+    tally.want(terminals.hear(Who::Kiosk2) == drain.answer(4, car(0)));
+}
+
+/// With the first batch sent, the others come.
+pub(crate) fn comes_through<R: Threads + Wait + Sync>(
+    rt: &R,
+    tally: &mut Tally,
+    terminals: &mut Terminals,
+    relay: &mut Parts,
+    drain: &Drain,
+) {
+    if matches!(drain.course, Course::Beside) {
+        return runs_beside(rt, tally, terminals, relay, drain);
+    }
+    takes_four(rt, tally, terminals, relay);
+    match drain.course {
+        Course::Turns => flushes_five(rt, tally, relay, drain),
+        Course::Watched => runs_out(rt, tally, relay, drain, 1),
+        Course::Told => {
+            relay.tell();
+            runs_out(rt, tally, relay, drain, 0);
+        }
+        _ => runs_out(rt, tally, relay, drain, 0),
+    }
+    hear(tally, terminals, drain);
 }
 
 /// Whether these are the kiosks' calls that are in.
-fn shows<D: Disk>(clerk: &Clerk<D, Etd>, calls: u8) -> bool {
-    let register = clerk.keeper().register();
-    register.last_number(kiosk(0)) == u32::from(calls > 0)
-        && register.last_number(kiosk(1)) == u32::from(calls > 1)
-        && register.last_number(kiosk(2)) == u32::from(calls > 2)
-        && register.open_count() == u32::from(calls)
+fn shows(register: &Register, calls: u8) -> bool {
+    (register.last_number(kiosk(0)) == u32::from(calls > 0))
+        & (register.last_number(kiosk(1)) == u32::from(calls > 1))
+        & (register.last_number(kiosk(2)) == u32::from(calls > 2))
+        & (register.open_count() == u32::from(calls))
 }
 
-/// Whether a clerk is broken, and is reopened, or isn't.
-fn is_whole<D: Disk>(clerk: &mut Clerk<D, Etd>, was_broken: bool) -> bool {
-    clerk.keeper().is_broken() == was_broken && (!was_broken || clerk.reopen() == Ok(()))
+/// The clerk is broken, and is reopened, or isn't, and shows what is in.
+pub(crate) fn is_whole(tally: &mut Tally, clerk: &mut Clerk<Device, Etd>, drain: &Drain) {
+    tally.want(clerk.keeper().is_broken() == drain.has_failed());
+    tally.want(!drain.has_failed() || clerk.reopen() == Ok(()));
+    tally.want(shows(clerk.keeper().register(), drain.calls));
 }
 
-/// The parts of a clerk that both cars and three kiosks ask, after all of it was answered.
-fn drains<R: Threads + Wait + Abort + Sync>(rt: &R, alloc: Global, drain: &Drain) {
+fn drain_each<R: Threads + Wait + Abort + Sync>(rt: &R, alloc: Global) {
+    let mut tally = Tally::new();
     let building = group(rt, alloc);
-    let DeskParts { desk, seats, clerk } = open(rt, alloc);
-    let mut terminals = Terminals::of(&desk, seats);
-    let disk = FlakyDisk::new(formatted(rt, alloc, &building));
-    let mut clerk = clerk_of(rt, &desk, clerk, disk, &building, Etd);
-    clerk.arm(drain.failing_call);
-    let mut relay = Relay::of(rt, alloc, clerk);
-    five_batches(rt, &mut terminals, &mut relay);
-    goes_through(rt, &mut relay, drain);
-    assert!(rt; hear(&mut terminals, drain.failed));
-    let mut clerk = relay.joined(rt);
-    assert!(rt; is_whole(&mut clerk, drain.failed < 5) && shows(&clerk, drain.calls));
-}
-
-/// Five batches wait, the fifth in hand until the flusher has received one. A batch without entries
-/// is no call of the device, and each of the three calls is five. What was safe is answered, and all
-/// batches after a fault are Unknown. A run through a gate that is closed turns nothing, and drains
-/// what is in hand and in the line; what the parts tell each other before it changes nothing. After a
-/// fault it goes on, tells the first one, and its witness is told of that once, and at once.
-#[test]
-fn five_batches_come_through(rt: HostRuntime) {
-    for drain in [
-        row(0, 5, 3, Course::Turns),
-        row(1, 2, 0, Course::Turns),
-        row(5, 2, 1, Course::Turns),
-        row(6, 3, 1, Course::Turns),
-        row(10, 3, 2, Course::Turns),
-        row(11, 4, 2, Course::Turns),
-        row(15, 4, 3, Course::Turns),
-        row(16, 5, 3, Course::Turns),
-        row(0, 5, 3, Course::Told),
-        row(6, 3, 1, Course::Run),
-        row(6, 3, 1, Course::Watched),
-    ] {
-        drains(&rt, rt.alloc(), &drain);
+    for (failing_call, failed, calls, course) in &DRAINS {
+        let drain = Drain {
+            failing_call: *failing_call,
+            failed: *failed,
+            calls: *calls,
+            course: *course,
+        };
+        let device = formatted(rt, alloc, &building);
+        let _left = at_desk(
+            rt,
+            alloc,
+            &mut tally,
+            device,
+            &building,
+            Deed::Drain(&drain),
+        );
     }
+    // of each row two, eleven of the other four batches, five of what is heard and three of the clerk;
+    // eight of turns, three of a run; and ten of a row of calls beside it
+    tally.ends(rt, 8 * 29 + 3 * 24 + 2 * 10);
 }
 
-/// With a batch in the line, and none in hand, both parts come back.
-fn are_handed_back<'a, R: Wait + Abort, D: Disk + Drop>(
-    rt: &R,
-    terminals: &mut Terminals,
-    relay: Relay<'a, D, Etd>,
-) -> Relay<'a, D, Etd> {
-    let mut relay = relay;
-    assert!(rt; terminals.ask(Who::CarA, 0, place(0, Dir::Up)));
-    assert!(rt; relay.allocate(rt) == counts(1, 0) && !relay.has_batch_in_hand());
-    match relay.rejoined() {
-        Ok(_) => panic!(rt; "rejoined"),
-        Err(relay) => relay,
-    }
-}
-
-/// With a batch in the line, and none in hand, both parts come back, and go on.
+/// With a batch in the line, and none in hand, both parts are handed back, and go on.
 #[test]
-fn a_batch_in_the_line_keeps_the_parts_apart(rt: HostRuntime) {
-    let building = group(&rt, rt.alloc());
-    let DeskParts { desk, seats, clerk } = open(&rt, rt.alloc());
-    let mut terminals = Terminals::of(&desk, seats);
-    let disk = formatted(&rt, rt.alloc(), &building);
-    let clerk = clerk_of(&rt, &desk, clerk, disk, &building, Etd);
-    let relay = Relay::of(&rt, rt.alloc(), clerk);
-    let mut relay = are_handed_back(&rt, &mut terminals, relay);
-    assert!(rt; relay.flush(&rt) == ONE && relay.flush(&rt) == NONE);
-    assert!(rt; terminals.hear(Who::CarA) == Some(Reply::Placed(None)));
-    assert!(rt; shows(&relay.joined(&rt), 0));
+fn batches_come_through(rt: HostRuntime) {
+    drain_each(&rt, rt.alloc());
 }

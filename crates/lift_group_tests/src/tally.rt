@@ -1,10 +1,11 @@
 //! What a test counts.
+use std::process::Abort;
 
 /// How many answers were looked at, and how many of them were otherwise than they have to be.
 #[derive(Clone, Copy)]
 pub(crate) struct Tally {
-    pub(crate) looked_at: u32,
-    pub(crate) wrong: u32,
+    looked_at: u32,
+    wrong: u32,
 }
 
 impl Tally {
@@ -19,5 +20,11 @@ impl Tally {
     pub(crate) fn want(&mut self, is_right: bool) {
         self.looked_at = self.looked_at.saturating_add(1);
         self.wrong = self.wrong.saturating_add(u32::from(!is_right));
+    }
+
+    /// This many answers were looked at, and all were as they have to be.
+    pub(crate) fn ends(&self, rt: &impl Abort, answers: u32) {
+        assert!(rt; self.wrong == 0);
+        assert!(rt; self.looked_at == answers);
     }
 }
