@@ -50,7 +50,7 @@ pub(crate) fn small<R: AllocGlobal + Abort>(rt: &R, number: u32) -> Register {
 }
 
 /// Of two kiosks, and that no call is done.
-const LASTS: [Plain; 3] = [
+const LASTS: &[Plain] = &[
     Plain::LastCall(16, 40, [1, 0], 0, 1),
     Plain::LastCall(17, 24, [1, 0], 0, 1),
     Plain::Done(0),
@@ -59,7 +59,7 @@ const LASTS: [Plain; 3] = [
 /// A register of 67 records, in two batches: 32 open calls for each of two cars, two last commands,
 /// and no call done.
 pub(crate) fn medium<R: AllocGlobal + Abort>(rt: &R) -> Register {
-    register_of(rt, 32, &LASTS)
+    register_of(rt, 32, LASTS)
 }
 
 /// The place after these records, where they are the register's from this place on.
