@@ -62,39 +62,39 @@ fn headers_are_spelled(rt: HostRuntime) {
 /// Records and their bytes.
 const SECOND_VERSION: &[(Plain, [u8; 16])] = &[
     (
-        Plain::Allot(16, 1, [0, 5], 0, 2),
+        Plain::Allot((16, 1, [0, 5], 0, 2)),
         [1, 16, 0, 5, 0, 2, 0, 0, 0, 0, 0, 1, 0, 0, 0, 0],
     ),
     (
-        Plain::Allot(62, 0xFF_FFFF, [63, 0], 15, 15),
+        Plain::Allot((62, 0xFF_FFFF, [63, 0], 15, 15)),
         [1, 62, 63, 0, 15, 15, 0, 0, 0, 0xFF, 0xFF, 0xFF, 0, 0, 0, 0],
     ),
     (
-        Plain::Stop(0, 1, 0, Dir::Down),
+        Plain::Stop((0, 1, 0, Dir::Down)),
         [2, 0, 0, 1, 0, 0, 0, 0, 0, 0, 0, 1, 0, 0, 0, 0],
     ),
     (
-        Plain::Stop(15, 0x01_0203, 63, Dir::Up),
+        Plain::Stop((15, 0x01_0203, 63, Dir::Up)),
         [2, 15, 63, 0, 0, 0, 0, 0, 0, 1, 2, 3, 0, 0, 0, 0],
     ),
     (
-        Plain::Row(16, 1, [0, 5], 0, 1, true),
+        Plain::Row((16, 1, [0, 5], 0, 1), true),
         [4, 16, 0, 5, 0, 1, 1, 0, 0, 0, 0, 1, 0, 0, 0, 0],
     ),
     (
-        Plain::Row(17, 2, [5, 2], 1, 3, false),
+        Plain::Row((17, 2, [5, 2], 1, 3), false),
         [4, 17, 5, 2, 1, 3, 0, 0, 0, 0, 0, 2, 0, 0, 0, 0],
     ),
     (
-        Plain::LastStop(0, 31, 0, Dir::Up),
+        Plain::LastStop((0, 31, 0, Dir::Up)),
         [5, 0, 0, 0, 0, 0, 0, 0, 0, 0, 0, 31, 0, 0, 0, 0],
     ),
     (
-        Plain::LastStop(1, 1, 9, Dir::Down),
+        Plain::LastStop((1, 1, 9, Dir::Down)),
         [5, 1, 9, 1, 0, 0, 0, 0, 0, 0, 0, 1, 0, 0, 0, 0],
     ),
     (
-        Plain::LastCall(16, 1, [0, 5], 0, 1),
+        Plain::LastCall((16, 1, [0, 5], 0, 1)),
         [5, 16, 0, 5, 0, 1, 0, 0, 0, 0, 0, 1, 0, 0, 0, 0],
     ),
     (
@@ -120,31 +120,31 @@ fn second_version_is_written_and_read(rt: HostRuntime) {
 /// Records and their bytes; each of their calls is for one person.
 const FIRST_VERSION: &[(Plain, [u8; 16])] = &[
     (
-        Plain::Allot(16, 1, [0, 5], 0, 1),
+        Plain::Allot((16, 1, [0, 5], 0, 1)),
         [1, 16, 0, 5, 0, 0, 0, 0, 0, 0, 0, 1, 0, 0, 0, 0],
     ),
     (
-        Plain::Allot(17, 1, [5, 2], 1, 1),
+        Plain::Allot((17, 1, [5, 2], 1, 1)),
         [1, 17, 5, 2, 1, 0, 0, 0, 0, 0, 0, 1, 0, 0, 0, 0],
     ),
     (
-        Plain::Stop(0, 1, 0, Dir::Up),
+        Plain::Stop((0, 1, 0, Dir::Up)),
         [2, 0, 0, 0, 0, 0, 0, 0, 0, 0, 0, 1, 0, 0, 0, 0],
     ),
     (
-        Plain::Stop(0, 1, 0, Dir::Down),
+        Plain::Stop((0, 1, 0, Dir::Down)),
         [2, 0, 0, 1, 0, 0, 0, 0, 0, 0, 0, 1, 0, 0, 0, 0],
     ),
     (
-        Plain::Row(16, 1, [0, 5], 0, 1, true),
+        Plain::Row((16, 1, [0, 5], 0, 1), true),
         [4, 16, 0, 5, 0, 0, 1, 0, 0, 0, 0, 1, 0, 0, 0, 0],
     ),
     (
-        Plain::LastStop(0, 1, 0, Dir::Up),
+        Plain::LastStop((0, 1, 0, Dir::Up)),
         [5, 0, 0, 0, 0, 0, 0, 0, 0, 0, 0, 1, 0, 0, 0, 0],
     ),
     (
-        Plain::LastCall(16, 1, [0, 5], 0, 1),
+        Plain::LastCall((16, 1, [0, 5], 0, 1)),
         [5, 16, 0, 5, 0, 0, 0, 0, 0, 0, 0, 1, 0, 0, 0, 0],
     ),
     (
@@ -165,13 +165,13 @@ fn first_version_is_read(rt: HostRuntime) {
 
 /// Records that the types allow and the journal may not hold.
 const UNLAWFUL: &[Plain] = &[
-    Plain::Allot(16, 0, [0, 5], 0, 1),
-    Plain::Allot(16, 1, [5, 5], 0, 1),
-    Plain::Allot(3, 1, [0, 5], 0, 1),
-    Plain::Stop(0, 0, 5, Dir::Up),
-    Plain::Row(15, 1, [0, 5], 0, 1, false),
-    Plain::LastCall(0, 1, [0, 5], 0, 1),
-    Plain::LastStop(16, 1, 0, Dir::Up),
+    Plain::Allot((16, 0, [0, 5], 0, 1)),
+    Plain::Allot((16, 1, [5, 5], 0, 1)),
+    Plain::Allot((3, 1, [0, 5], 0, 1)),
+    Plain::Stop((0, 0, 5, Dir::Up)),
+    Plain::Row((15, 1, [0, 5], 0, 1), false),
+    Plain::LastCall((0, 1, [0, 5], 0, 1)),
+    Plain::LastStop((16, 1, 0, Dir::Up)),
     Plain::Done(788_529_106),
 ];
 

@@ -53,7 +53,7 @@ const CALLS: &[Call] = &[
 /// Whether a journal is made of a call of two persons and of a batch of 63 stops, and then of the
 /// checkpoints of these registers.
 fn are_added<D: Disk>(journal: &mut Journal<D>, registers: &[&Register]) -> bool {
-    let call = Plain::Allot(16, 1, [0, 5], 0, 2).record();
+    let call = Plain::Allot((16, 1, [0, 5], 0, 2)).record();
     let mut all = add(journal, &[call], Ok(()));
     all = add_batch(journal, &Batch::Stops(1, 63), Ok(())) & all;
     for register in registers {

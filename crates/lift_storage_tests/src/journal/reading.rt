@@ -2,7 +2,7 @@
 ghost use Rattle.std.specs.Prelude.{⊤};
 
 use crate::disk::calls::memory;
-use crate::journal::listing::{add_all, add_batch, is_next, lists, made};
+use crate::journal::listing::{add_all, add_batch, is_next, lists, made, make};
 use crate::journal::records::{Batch, DEMO};
 use arrayvec::ArrayVec;
 use lift_base::Record;
@@ -116,15 +116,13 @@ const SEEN: u64 = (2 * 64 + 63) * 64 + 1;
 
 /// Whether an opening of an empty journal shows nothing, one of three batches shows each once, and so
 /// does a reopening.
-fn are_shown_once<D: Disk + Drop>(disk: D) -> bool {
+fn are_shown_once<D: Disk + Drop>(mut disk: D) -> bool {
     let (mut seen, mut fresh) = (Counter { seen: 0 }, Counter { seen: 0 });
-    let Some(empty) = made(disk, DEMO) else {
+    let is_made = make(&mut disk, DEMO);
+    let Ok(mut journal) = Journal::open_with(disk, &mut seen) else {
         return false;
     };
-    let Ok(mut journal) = Journal::open_with(empty.into_disk(), &mut seen) else {
-        return false;
-    };
-    let is_put = (seen.seen == 0) & add_all(&mut journal, THREE);
+    let is_put = is_made & (seen.seen == 0) & add_all(&mut journal, THREE);
     let is_shown = journal.reopen_from(&mut seen).is_ok() & (seen.seen == SEEN);
     let is_open = Journal::open_with(journal.into_disk(), &mut fresh).is_ok();
     is_put & is_shown & is_open & (fresh.seen == SEEN)

@@ -31,14 +31,19 @@ fn cut_at(place: usize) -> Option<Outcome> {
     }
 }
 
-/// Whether a journal of two batches of one stop each, in this version, is written.
+/// Whether a batch of one stop, in this version, is written.
+fn is_one_put(disk: &mut MemDisk, gate: u32, version: u8, number: u8) -> bool {
+    let body = [header(version, 1, number), stop_bytes(number)];
+    put(disk, gate, &text_of(&[OPEN])) & put(disk, gate.saturating_add(1), &text_of(&body))
+}
+
+/// Whether a journal of two of them is written.
 fn are_two_put(disk: &mut MemDisk, version: u8) -> bool {
-    let mut all = make(disk, DEMO);
-    for (gate, number) in [(2u32, 1u8), (4, 2)] {
-        let body = [header(version, 1, number), stop_bytes(number)];
-        all = put(disk, gate, &text_of(&[OPEN])) & put(disk, gate + 1, &text_of(&body)) & all;
-    }
-    put(disk, 6, &[0; 512]) & disk.sync().is_ok() & all
+    make(disk, DEMO)
+        & is_one_put(disk, 2, version, 1)
+        & is_one_put(disk, 4, version, 2)
+        & put(disk, 6, &[0; 512])
+        & disk.sync().is_ok()
 }
 
 /// What a journal lists: batches, or the checkpoint of a register.

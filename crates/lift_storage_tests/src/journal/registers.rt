@@ -34,7 +34,7 @@ fn register_of<R: AllocGlobal + Abort>(rt: &R, kiosks: u8, lasts: &[Plain]) -> R
     let mut register = Register::empty(DEMO);
     for car in 0..2 {
         for kiosk in 0..kiosks {
-            let row = Plain::Row(kiosk.saturating_add(16), 1, [1, 0], car, 1, false);
+            let row = Plain::Row((kiosk.saturating_add(16), 1, [1, 0], car, 1), false);
             take(rt, &mut register, &building, &row);
         }
     }
@@ -46,13 +46,13 @@ fn register_of<R: AllocGlobal + Abort>(rt: &R, kiosks: u8, lasts: &[Plain]) -> R
 
 /// A register of two records: the last command of car A, with this number, and no call done.
 pub(crate) fn small<R: AllocGlobal + Abort>(rt: &R, number: u32) -> Register {
-    register_of(rt, 0, &[Plain::LastStop(0, number, 0, Dir::Up)])
+    register_of(rt, 0, &[Plain::LastStop((0, number, 0, Dir::Up))])
 }
 
 /// Of two kiosks, and that no call is done.
 const LASTS: &[Plain] = &[
-    Plain::LastCall(16, 40, [1, 0], 0, 1),
-    Plain::LastCall(17, 24, [1, 0], 0, 1),
+    Plain::LastCall((16, 40, [1, 0], 0, 1)),
+    Plain::LastCall((17, 24, [1, 0], 0, 1)),
     Plain::Done(0),
 ];
 

@@ -1,7 +1,7 @@
 //! A keeper whose file was replaced: a reopening is refused, and leaves it as it was.
 use crate::disk::calls::holds;
 use crate::disk::files::{How, created, device, is_removed};
-use crate::journal::listing::{add, made};
+use crate::journal::listing::{add, made, make};
 use crate::journal::sectors::{OPEN, text_of};
 use crate::keeper::buildings::{ask, car, of_one_car, of_two_cars};
 use crate::plain::Plain;
@@ -41,12 +41,12 @@ fn is_replaced(rt: &HostRuntime) -> bool {
 
 /// Whether there is put onto a device what a reopening is to refuse so: a journal of another
 /// building, one whose first record doesn't fit, or none.
-fn is_put<D: Disk + Drop>(disk: D, shapes: [Shape; 2], fault: KeeperFault) -> bool {
+fn is_put<D: Disk + Drop>(mut disk: D, shapes: [Shape; 2], fault: KeeperFault) -> bool {
     let [own, other] = shapes;
     match fault {
-        KeeperFault::OtherBuilding => made(disk, other).is_some(),
+        KeeperFault::OtherBuilding => make(&mut disk, other),
         KeeperFault::BadEntry(_) => {
-            let misfits = [Plain::Allot(16, 2, [0, 3], 0, 1).record(); 33];
+            let misfits = [Plain::Allot((16, 2, [0, 3], 0, 1)).record(); 33];
             match made(disk, own) {
                 Some(mut journal) => add(&mut journal, &misfits, Ok(())),
                 None => false,
@@ -72,15 +72,12 @@ fn is_refused<D: Disk + Drop>(
     buildings: [&Building; 2],
     fault: KeeperFault,
 ) -> bool {
-    let (own, other) = disks;
+    let (mut own, other) = disks;
     let [building, another] = buildings;
     let shape = building.shape(64);
-    let is_put = is_put(other, [shape, another.shape(64)], fault);
-    let Some(journal) = made(own, shape) else {
-        return false;
-    };
-    match Keeper::open(journal.into_disk(), building) {
-        Ok(mut keeper) => is_put & goes_on(rt, &mut keeper, fault),
+    let are_made = is_put(other, [shape, another.shape(64)], fault) & make(&mut own, shape);
+    match Keeper::open(own, building) {
+        Ok(mut keeper) => are_made & goes_on(rt, &mut keeper, fault),
         Err(_) => false,
     }
 }
