@@ -1,19 +1,23 @@
 //! Records by their numbers.
 use lift_base::{Dir, Entry, Floor, Letter, Number, Party, Record, Row, Terminal};
 
+/// A kiosk, its number, where the passengers wait and go, their car, and how many they are.
+type Way = (u8, u32, [u8; 2], u8, u8);
+
+/// A car, its number, where it stops, and for whom.
+type At = (u8, u32, u8, Dir);
+
 /// A record: a terminal, its number, floors, a car and how many persons.
 #[derive(Clone, Copy)]
 pub(crate) enum Plain {
-    /// A kiosk, its number, where the passengers wait and go, their car, and how many they are.
-    Allot(u8, u32, [u8; 2], u8, u8),
-    /// A car, its number, where it stops, and for whom.
-    Stop(u8, u32, u8, Dir),
+    Allot(Way),
+    Stop(At),
     /// A call as an allotment has it, and whether its passengers are aboard.
-    Row(u8, u32, [u8; 2], u8, u8, bool),
+    Row(Way, bool),
     /// The last command of any terminal, as an allotment has it.
-    LastCall(u8, u32, [u8; 2], u8, u8),
+    LastCall(Way),
     /// The last command of any terminal, as a stop has it.
-    LastStop(u8, u32, u8, Dir),
+    LastStop(At),
     Done(u32),
 }
 
@@ -21,8 +25,8 @@ pub(crate) fn terminal(index: u8) -> Terminal {
     Terminal::new(index).unwrap_or_default()
 }
 
-fn row_of(kiosk: u8, number: u32, way: [u8; 2], car: u8, party: u8) -> Row {
-    let [from, to] = way;
+fn row_of(way: Way) -> Row {
+    let (kiosk, number, [from, to], car, party) = way;
     Row {
         kiosk: terminal(kiosk),
         number: Number::new(number).unwrap_or_default(),
@@ -34,11 +38,12 @@ fn row_of(kiosk: u8, number: u32, way: [u8; 2], car: u8, party: u8) -> Row {
     }
 }
 
-fn stop_of(car: u8, number: u32, at: u8, dir: Dir) -> Entry {
+fn stop_of(at: At) -> Entry {
+    let (car, number, floor, dir) = at;
     Entry::Stop {
         car: Letter::new(car).unwrap_or_default(),
         number: Number::new(number).unwrap_or_default(),
-        floor: Floor::new(at).unwrap_or_default(),
+        floor: Floor::new(floor).unwrap_or_default(),
         dir,
     }
 }
@@ -46,21 +51,19 @@ fn stop_of(car: u8, number: u32, at: u8, dir: Dir) -> Entry {
 impl Plain {
     pub(crate) fn record(&self) -> Record {
         match *self {
-            Plain::Allot(kiosk, number, way, car, party) => {
-                Record::Entry(row_of(kiosk, number, way, car, party).allotment())
-            }
-            Plain::Stop(car, number, at, dir) => Record::Entry(stop_of(car, number, at, dir)),
-            Plain::Row(kiosk, number, way, car, party, aboard) => {
-                let row = row_of(kiosk, number, way, car, party);
-                Record::Row(Row { aboard, ..row })
-            }
-            Plain::LastCall(kiosk, number, way, car, party) => Record::Last {
-                terminal: terminal(kiosk),
-                last: row_of(kiosk, number, way, car, party).kept(),
+            Plain::Allot(way) => Record::Entry(row_of(way).allotment()),
+            Plain::Stop(at) => Record::Entry(stop_of(at)),
+            Plain::Row(way, aboard) => Record::Row(Row {
+                aboard,
+                ..row_of(way)
+            }),
+            Plain::LastCall(way) => Record::Last {
+                terminal: terminal(way.0),
+                last: row_of(way).kept(),
             },
-            Plain::LastStop(index, number, at, dir) => Record::Last {
-                terminal: terminal(index),
-                last: stop_of(0, number, at, dir).kept(),
+            Plain::LastStop(at) => Record::Last {
+                terminal: terminal(at.0),
+                last: stop_of(at).kept(),
             },
             Plain::Done(count) => Record::Done { count },
         }

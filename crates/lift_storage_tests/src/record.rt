@@ -5,7 +5,7 @@ use lift_base::Dir;
 use lift_record::{Version, decode, decode_header, encode, encode_header, is_lawful};
 
 /// A header's bytes, its version, how many records its batch has, and the number of the batch.
-const HEADERS: [([u8; 16], u8, u16, u32); 4] = [
+const HEADERS: &[([u8; 16], u8, u16, u32)] = &[
     (
         [0x4C, 0x42, 1, 0, 0, 1, 0, 0, 0, 0, 0, 1, 0, 0, 0, 0],
         1,
@@ -53,48 +53,48 @@ fn is_spelled(bytes: &[u8; 16], version: u8, count: u16, number: u32) -> bool {
 /// Headers are read in both versions.
 #[test]
 fn headers_are_spelled(rt: HostRuntime) {
-    for (bytes, version, count, number) in &HEADERS {
+    for (bytes, version, count, number) in HEADERS {
         assert!(rt; is_spelled(bytes, *version, *count, *number));
     }
     assert!(rt; Version::One.number() == 1);
 }
 
 /// Records and their bytes.
-const SECOND_VERSION: [(Plain, [u8; 16]); 11] = [
+const SECOND_VERSION: &[(Plain, [u8; 16])] = &[
     (
-        Plain::Allot(16, 1, [0, 5], 0, 2),
+        Plain::Allot((16, 1, [0, 5], 0, 2)),
         [1, 16, 0, 5, 0, 2, 0, 0, 0, 0, 0, 1, 0, 0, 0, 0],
     ),
     (
-        Plain::Allot(62, 0xFF_FFFF, [63, 0], 15, 15),
+        Plain::Allot((62, 0xFF_FFFF, [63, 0], 15, 15)),
         [1, 62, 63, 0, 15, 15, 0, 0, 0, 0xFF, 0xFF, 0xFF, 0, 0, 0, 0],
     ),
     (
-        Plain::Stop(0, 1, 0, Dir::Down),
+        Plain::Stop((0, 1, 0, Dir::Down)),
         [2, 0, 0, 1, 0, 0, 0, 0, 0, 0, 0, 1, 0, 0, 0, 0],
     ),
     (
-        Plain::Stop(15, 0x01_0203, 63, Dir::Up),
+        Plain::Stop((15, 0x01_0203, 63, Dir::Up)),
         [2, 15, 63, 0, 0, 0, 0, 0, 0, 1, 2, 3, 0, 0, 0, 0],
     ),
     (
-        Plain::Row(16, 1, [0, 5], 0, 1, true),
+        Plain::Row((16, 1, [0, 5], 0, 1), true),
         [4, 16, 0, 5, 0, 1, 1, 0, 0, 0, 0, 1, 0, 0, 0, 0],
     ),
     (
-        Plain::Row(17, 2, [5, 2], 1, 3, false),
+        Plain::Row((17, 2, [5, 2], 1, 3), false),
         [4, 17, 5, 2, 1, 3, 0, 0, 0, 0, 0, 2, 0, 0, 0, 0],
     ),
     (
-        Plain::LastStop(0, 31, 0, Dir::Up),
+        Plain::LastStop((0, 31, 0, Dir::Up)),
         [5, 0, 0, 0, 0, 0, 0, 0, 0, 0, 0, 31, 0, 0, 0, 0],
     ),
     (
-        Plain::LastStop(1, 1, 9, Dir::Down),
+        Plain::LastStop((1, 1, 9, Dir::Down)),
         [5, 1, 9, 1, 0, 0, 0, 0, 0, 0, 0, 1, 0, 0, 0, 0],
     ),
     (
-        Plain::LastCall(16, 1, [0, 5], 0, 1),
+        Plain::LastCall((16, 1, [0, 5], 0, 1)),
         [5, 16, 0, 5, 0, 1, 0, 0, 0, 0, 0, 1, 0, 0, 0, 0],
     ),
     (
@@ -110,7 +110,7 @@ const SECOND_VERSION: [(Plain, [u8; 16]); 11] = [
 /// Each record of the second version may be held, is spelled so, and is read back.
 #[test]
 fn second_version_is_written_and_read(rt: HostRuntime) {
-    for (plain, bytes) in &SECOND_VERSION {
+    for (plain, bytes) in SECOND_VERSION {
         let record = plain.record();
         assert!(rt; is_lawful(&record) && encode(&record) == *bytes);
         assert!(rt; decode(Version::Two, bytes) == Some(record));
@@ -118,33 +118,33 @@ fn second_version_is_written_and_read(rt: HostRuntime) {
 }
 
 /// Records and their bytes; each of their calls is for one person.
-const FIRST_VERSION: [(Plain, [u8; 16]); 8] = [
+const FIRST_VERSION: &[(Plain, [u8; 16])] = &[
     (
-        Plain::Allot(16, 1, [0, 5], 0, 1),
+        Plain::Allot((16, 1, [0, 5], 0, 1)),
         [1, 16, 0, 5, 0, 0, 0, 0, 0, 0, 0, 1, 0, 0, 0, 0],
     ),
     (
-        Plain::Allot(17, 1, [5, 2], 1, 1),
+        Plain::Allot((17, 1, [5, 2], 1, 1)),
         [1, 17, 5, 2, 1, 0, 0, 0, 0, 0, 0, 1, 0, 0, 0, 0],
     ),
     (
-        Plain::Stop(0, 1, 0, Dir::Up),
+        Plain::Stop((0, 1, 0, Dir::Up)),
         [2, 0, 0, 0, 0, 0, 0, 0, 0, 0, 0, 1, 0, 0, 0, 0],
     ),
     (
-        Plain::Stop(0, 1, 0, Dir::Down),
+        Plain::Stop((0, 1, 0, Dir::Down)),
         [2, 0, 0, 1, 0, 0, 0, 0, 0, 0, 0, 1, 0, 0, 0, 0],
     ),
     (
-        Plain::Row(16, 1, [0, 5], 0, 1, true),
+        Plain::Row((16, 1, [0, 5], 0, 1), true),
         [4, 16, 0, 5, 0, 0, 1, 0, 0, 0, 0, 1, 0, 0, 0, 0],
     ),
     (
-        Plain::LastStop(0, 1, 0, Dir::Up),
+        Plain::LastStop((0, 1, 0, Dir::Up)),
         [5, 0, 0, 0, 0, 0, 0, 0, 0, 0, 0, 1, 0, 0, 0, 0],
     ),
     (
-        Plain::LastCall(16, 1, [0, 5], 0, 1),
+        Plain::LastCall((16, 1, [0, 5], 0, 1)),
         [5, 16, 0, 5, 0, 0, 0, 0, 0, 0, 0, 1, 0, 0, 0, 0],
     ),
     (
@@ -156,7 +156,7 @@ const FIRST_VERSION: [(Plain, [u8; 16]); 8] = [
 /// Records of the first version are read, and none that has a party.
 #[test]
 fn first_version_is_read(rt: HostRuntime) {
-    for (plain, bytes) in &FIRST_VERSION {
+    for (plain, bytes) in FIRST_VERSION {
         assert!(rt; decode(Version::One, bytes) == Some(plain.record()));
     }
     let party = [1, 16, 0, 5, 0, 1, 0, 0, 0, 0, 0, 1, 0, 0, 0, 0];
@@ -164,20 +164,20 @@ fn first_version_is_read(rt: HostRuntime) {
 }
 
 /// Records that the types allow and the journal may not hold.
-const UNLAWFUL: [Plain; 8] = [
-    Plain::Allot(16, 0, [0, 5], 0, 1),
-    Plain::Allot(16, 1, [5, 5], 0, 1),
-    Plain::Allot(3, 1, [0, 5], 0, 1),
-    Plain::Stop(0, 0, 5, Dir::Up),
-    Plain::Row(15, 1, [0, 5], 0, 1, false),
-    Plain::LastCall(0, 1, [0, 5], 0, 1),
-    Plain::LastStop(16, 1, 0, Dir::Up),
+const UNLAWFUL: &[Plain] = &[
+    Plain::Allot((16, 0, [0, 5], 0, 1)),
+    Plain::Allot((16, 1, [5, 5], 0, 1)),
+    Plain::Allot((3, 1, [0, 5], 0, 1)),
+    Plain::Stop((0, 0, 5, Dir::Up)),
+    Plain::Row((15, 1, [0, 5], 0, 1), false),
+    Plain::LastCall((0, 1, [0, 5], 0, 1)),
+    Plain::LastStop((16, 1, 0, Dir::Up)),
     Plain::Done(788_529_106),
 ];
 
 #[test]
 fn unlawful_records_are_told(rt: HostRuntime) {
-    for plain in &UNLAWFUL {
+    for plain in UNLAWFUL {
         assert!(rt; !is_lawful(&plain.record()));
     }
 }

@@ -61,18 +61,25 @@ fn is_printed<D: Display>(value: &D, text: &[u8]) -> bool {
     false
 }
 
-/// Every car by its letter, every kiosk by its number.
+/// Whether a car is printed by its letter.
+fn is_car_printed(index: u8) -> bool {
+    let car = Letter::new(index).unwrap_or_default();
+    let letter = b'A'.wrapping_add(index);
+    is_printed(&car, &[letter])
+        & is_printed(&Terminal::of_car(car), &[letter])
+        & is_printed(&Reply::Car(car), &[b'C', b'A', b'R', b' ', letter])
+}
+
+/// Whether a kiosk is printed by its number.
+fn is_kiosk_printed(index: u8) -> bool {
+    let kiosk = Terminal::of_kiosk(index).unwrap_or_default();
+    is_printed(&kiosk, &spelled("K", Some(index), ""))
+}
+
 #[test]
 fn cars_and_kiosks_are_printed(rt: HostRuntime) {
-    for index in 0..16u8 {
-        let car = Letter::new(index).unwrap_or_default();
-        let letter = b'A' + index;
-        let are_named = is_printed(&car, &[letter]) & is_printed(&Terminal::of_car(car), &[letter]);
-        assert!(rt; are_named & is_printed(&Reply::Car(car), &[b'C', b'A', b'R', b' ', letter]));
-    }
     for index in 0..47u8 {
-        let kiosk = Terminal::of_kiosk(index).unwrap_or_default();
-        assert!(rt; is_printed(&kiosk, &spelled("K", Some(index), "")));
+        assert!(rt; is_kiosk_printed(index) & (index >= 16 || is_car_printed(index)));
     }
 }
 
@@ -90,27 +97,33 @@ fn is_stop_printed(number: u8, dir: Dir, behind: &str) -> bool {
         & is_printed(&Reply::Placed(next_stop(number, dir)), &text)
 }
 
+const REASONS: &[u8] = &[1, 2, 3, 4, 5, 6, 7, 8, 11];
+
+/// Whether refusals are printed by the numbers of their reasons.
+fn are_refusals_printed() -> bool {
+    let mut all = true;
+    for number in REASONS {
+        let refusal = Reply::Refused(Reason::from_number(*number).unwrap_or(Reason::NoCar));
+        all = is_printed(&refusal, &spelled("NO ", Some(*number), "")) & all;
+    }
+    all
+}
+
+/// Whether directions and answers of one word are printed.
+fn are_words_printed() -> bool {
+    is_printed(&Dir::Up, b"up")
+        & is_printed(&Dir::Down, b"down")
+        & is_printed(&Reply::Stopped(None), b"IDLE")
+        & is_printed(&Reply::Placed(None), b"IDLE")
+        & is_printed(&Reply::Unknown, b"UNKNOWN")
+}
+
 /// Directions, next stops at every floor, refusals, and answers of one word.
 #[test]
 fn answers_are_printed(rt: HostRuntime) {
-    for (dir, word, behind) in [
-        (Dir::Up, b"up".as_slice(), " up"),
-        (Dir::Down, b"down", " down"),
-    ] {
-        assert!(rt; is_printed(&dir, word));
-        for number in 0..64u8 {
-            assert!(rt; is_stop_printed(number, dir, behind));
-        }
-    }
-    for number in [1u8, 2, 3, 4, 5, 6, 7, 8, 11] {
-        let refusal = Reply::Refused(Reason::from_number(number).unwrap_or(Reason::NoCar));
-        assert!(rt; is_printed(&refusal, &spelled("NO ", Some(number), "")));
-    }
-    for (answer, text) in [
-        (Reply::Stopped(None), b"IDLE".as_slice()),
-        (Reply::Placed(None), b"IDLE"),
-        (Reply::Unknown, b"UNKNOWN"),
-    ] {
-        assert!(rt; is_printed(&answer, text));
+    assert!(rt; are_refusals_printed() & are_words_printed());
+    for number in 0..64u8 {
+        let is_up = is_stop_printed(number, Dir::Up, " up");
+        assert!(rt; is_up & is_stop_printed(number, Dir::Down, " down"));
     }
 }

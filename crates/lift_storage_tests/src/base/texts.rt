@@ -86,14 +86,6 @@ fn is_put(course: Course, text: &[u8], ends: &[usize]) -> bool {
             .is_at(plain.stream.place.get(), calls)
 }
 
-/// How a call stops.
-const FAULTS: [Option<ErrorKind>; 4] = [
-    None,
-    Some(ErrorKind::TimedOut),
-    Some(ErrorKind::Interrupted),
-    Some(ErrorKind::WouldBlock),
-];
-
 /// A call fails, and the next ones don't.
 fn failing(piece: usize, stop: usize) -> Course {
     Course {
@@ -104,23 +96,56 @@ fn failing(piece: usize, stop: usize) -> Course {
     }
 }
 
+/// How a call stops.
+const FAULTS: &[Option<ErrorKind>] = &[
+    None,
+    Some(ErrorKind::TimedOut),
+    Some(ErrorKind::Interrupted),
+    Some(ErrorKind::WouldBlock),
+];
+
 /// Each of the first 36 calls stops, in each way, once or from then on.
+fn course_at(piece: usize, turn: usize) -> Course {
+    let fault = match FAULTS.get(turn % 4) {
+        Some(fault) => *fault,
+        None => None,
+    };
+    Course {
+        piece,
+        stop: turn / 8,
+        fault,
+        stays: turn / 4 % 2 == 1,
+    }
+}
+
+/// How many bytes a call moves at most.
+const PIECES: &[usize] = &[1, 3, 7, 20, usize::MAX];
+
+/// How much room a buffer has.
+const ROOMS: &[usize] = &[0, 1, 7, 20, 64];
+
+const FRONT: &[u8] = b"twenty bytes of text";
+
+const TEXT: &[u8] = b"twenty bytes of textthirteen more!";
+
+/// Where its parts end.
+const ENDS: &[usize] = &[0, 20, 20, 33, 34];
+
+/// Whether the text is written so, and its front read, into each of the buffers.
+fn are_moved(course: Course, buffer: &mut [u8]) -> bool {
+    let mut all = is_put(course, TEXT, ENDS);
+    for room in ROOMS {
+        all = is_read(course, FRONT, buffer, *room) & all;
+    }
+    all
+}
+
 #[test]
 fn streams_stop(rt: HostRuntime) {
     let mut buffer = [0u8; 64];
-    let text = b"twenty bytes of textthirteen more!";
-    for piece in [1usize, 3, 7, 20, usize::MAX] {
+    for piece in PIECES {
         for turn in 0..288usize {
-            let course = Course {
-                piece,
-                stop: turn / 8,
-                fault: FAULTS[turn % 4],
-                stays: turn / 4 % 2 == 1,
-            };
-            assert!(rt; is_put(course, text, &[0, 20, 20, 33, 34]));
-            for room in [0usize, 1, 7, 20, 64] {
-                assert!(rt; is_read(course, &text[..20], &mut buffer, room));
-            }
+            assert!(rt; are_moved(course_at(*piece, turn), &mut buffer));
         }
     }
 }
@@ -136,27 +161,46 @@ fn long_text<R: AllocGlobal + Abort>(rt: &R) -> Vec<u8> {
     text
 }
 
-/// Texts of a mebibyte are written whole, or up to a call that fails.
-#[test]
-fn long_texts_are_written(rt: HostRuntime) {
-    let text = long_text(&rt);
-    for piece in [7usize, 4096, 65_537, usize::MAX] {
-        for stop in [14, usize::MAX] {
-            assert!(rt; is_put(failing(piece, stop), &text, &[1_048_572, 1_048_576]));
-        }
-    }
-}
+/// Where the parts of a long text end.
+const LONG_ENDS: &[usize] = &[1_048_572, 1_048_576];
 
-/// A text of a mebibyte comes whole, through small buffers and large ones.
+/// How many bytes a call moves at most, and the call that fails.
+const LONG_PUTS: &[(usize, usize)] = &[
+    (7, 14),
+    (7, usize::MAX),
+    (4096, 14),
+    (4096, usize::MAX),
+    (65_537, 14),
+    (65_537, usize::MAX),
+    (usize::MAX, 14),
+    (usize::MAX, usize::MAX),
+];
+
+/// How many bytes a call moves at most, and how large the buffer is.
+const LONG_READS: &[(usize, usize)] = &[
+    (97, 7),
+    (97, 4096),
+    (97, 2_000_000),
+    (70_001, 7),
+    (70_001, 4096),
+    (70_001, 2_000_000),
+    (usize::MAX, 7),
+    (usize::MAX, 4096),
+    (usize::MAX, 2_000_000),
+];
+
+/// Texts of a mebibyte are written whole, or up to a call that fails, and come whole, through small
+/// buffers and large ones.
 #[test]
-fn long_texts_are_read(rt: HostRuntime) {
+fn long_texts_are_moved(rt: HostRuntime) {
     let text = long_text(&rt);
+    for (piece, stop) in LONG_PUTS {
+        assert!(rt; is_put(failing(*piece, *stop), &text, LONG_ENDS));
+    }
     let mut buffer = vec![in rt.alloc(); 0u8; 2_000_000]
         .ok()
         .expect(&rt, "memory");
-    for piece in [97usize, 70_001, usize::MAX] {
-        for room in [7usize, 4096, 2_000_000] {
-            assert!(rt; is_read(failing(piece, usize::MAX), &text, &mut buffer, room));
-        }
+    for (piece, room) in LONG_READS {
+        assert!(rt; is_read(failing(*piece, usize::MAX), &text, &mut buffer, *room));
     }
 }

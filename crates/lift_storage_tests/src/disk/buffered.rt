@@ -1,89 +1,134 @@
-//! A device that reads ahead and joins writes, over a file and over a device in memory.
-use crate::disk::calls::{Call, all_come, hold, memory, put_each};
-use crate::disk::files::{created, is_good, looked_at};
-use lift_disk::{Buffered, Disk, Outcome, RunDisk};
-use std::fs;
-use std::process::Abort;
+//! A device in memory that reads ahead and joins writes. One over a file is tried with files.
+use crate::disk::calls::{Call, all_come, memory};
+use lift_disk::{Buffered, MemDisk, Outcome};
 
-/// What is read before the sectors 3 to 20 are written; the first and the last there are.
-const BEFORE: [Call; 3] = [Call::GetFails(40), Call::Get(39, 0), Call::Get(2, 0)];
+/// 18 neighbours are written, the first 16 as one, and the last two are still held back.
+const NEIGHBOURS: &[Call] = &[
+    Call::Put(3, 3),
+    Call::Put(4, 4),
+    Call::Put(5, 5),
+    Call::Put(6, 6),
+    Call::Put(7, 7),
+    Call::Put(8, 8),
+    Call::Put(9, 9),
+    Call::Put(10, 10),
+    Call::Put(11, 11),
+    Call::Put(12, 12),
+    Call::Put(13, 13),
+    Call::Put(14, 14),
+    Call::Put(15, 15),
+    Call::Put(16, 16),
+    Call::Put(17, 17),
+    Call::Put(18, 18),
+    Call::Put(19, 19),
+    Call::Put(20, 20),
+];
 
-/// What is written after them.
-const BEHIND: [Call; 2] = [Call::Put(30, 30), Call::Put(5, 55)];
-
-/// What the sectors 2, 3, 5, 18, 20, 30 and 31 hold then.
-const WRITTEN: [Call; 7] = [
-    Call::Get(2, 0),
+/// They are read.
+const READ: &[Call] = &[
     Call::Get(3, 3),
-    Call::Get(5, 55),
     Call::Get(18, 18),
+    Call::Get(19, 19),
     Call::Get(20, 20),
-    Call::Get(30, 30),
-    Call::Get(31, 0),
+    Call::Get(21, 0),
 ];
 
-/// Whether the sectors 3 to 20, 30 and 5 are written and then read so, what was read ahead before
-/// too.
-fn are_held_back<D: Disk>(disk: &mut D) -> bool {
-    all_come(disk, &BEFORE)
-        & put_each(disk, 3, 21)
-        & all_come(disk, &BEHIND)
-        & all_come(disk, &WRITTEN)
-}
+/// They are synced and read.
+const SYNCED: &[Call] = &[
+    Call::Sync,
+    Call::Get(3, 3),
+    Call::Get(18, 18),
+    Call::Get(19, 19),
+    Call::Get(20, 20),
+    Call::Get(21, 0),
+];
 
-/// Whether what a device over a file holds back is read at once, over what was read ahead too, and is
-/// in the file once it was synced. Cut short by another, it fails, because a read asks for the
-/// sectors after it too.
-fn is_read_and_written<D: RunDisk + Drop>(rt: &HostRuntime, path: &str, disk: D) -> bool {
+/// What is done then, and what the sectors 3, 18, 19, 20 and 21 hold after a cut.
+const CUTS: &[(&[Call], Outcome, [Call; 5])] = &[
+    (
+        READ,
+        Outcome::Keep,
+        [
+            Call::Get(3, 3),
+            Call::Get(18, 18),
+            Call::Get(19, 0),
+            Call::Get(20, 0),
+            Call::Get(21, 0),
+        ],
+    ),
+    (
+        READ,
+        Outcome::Lose,
+        [
+            Call::Get(3, 0),
+            Call::Get(18, 0),
+            Call::Get(19, 0),
+            Call::Get(20, 0),
+            Call::Get(21, 0),
+        ],
+    ),
+    (
+        READ,
+        Outcome::Fill(165),
+        [
+            Call::Get(3, 165),
+            Call::Get(18, 165),
+            Call::Get(19, 165),
+            Call::Get(20, 165),
+            Call::Get(21, 0),
+        ],
+    ),
+    (
+        SYNCED,
+        Outcome::Keep,
+        [
+            Call::Get(3, 3),
+            Call::Get(18, 18),
+            Call::Get(19, 19),
+            Call::Get(20, 20),
+            Call::Get(21, 0),
+        ],
+    ),
+    (
+        SYNCED,
+        Outcome::Lose,
+        [
+            Call::Get(3, 3),
+            Call::Get(18, 18),
+            Call::Get(19, 19),
+            Call::Get(20, 20),
+            Call::Get(21, 0),
+        ],
+    ),
+    (
+        SYNCED,
+        Outcome::Fill(165),
+        [
+            Call::Get(3, 3),
+            Call::Get(18, 18),
+            Call::Get(19, 19),
+            Call::Get(20, 20),
+            Call::Get(21, 0),
+        ],
+    ),
+];
+
+/// A device over what is left begins again.
+const AGAIN: &[Call] = &[Call::Put(19, 7), Call::Get(19, 7)];
+
+/// Whether this device comes through all that.
+fn is_left(disk: MemDisk, next: &[Call], outcome: Outcome, left: &[Call]) -> bool {
     let mut disk = Buffered::over(disk);
-    let is_synced = are_held_back(&mut disk) & all_come(&mut disk, &[Call::Sync]);
-    let is_written = is_good(looked_at(rt, path), &WRITTEN) & all_come(&mut disk, &WRITTEN);
-    let is_cut = fs::write(rt, path, [1u8; 1024].as_slice()).is_ok();
-    is_synced & is_written & is_cut & all_come(&mut disk, &[Call::GetFails(1)])
-}
-
-#[test]
-fn what_is_held_back_is_read_and_then_written(rt: HostRuntime) {
-    let path = "lift_disk_buffered.image";
-    let disk = created(&rt, path, 40).expect(&rt, "a file");
-    assert!(rt; is_read_and_written(&rt, path, disk));
-    assert!(rt; fs::remove_file(&rt, path).is_ok());
-}
-
-/// What the sectors 3, 18, 19, 20 and 21 hold after a cut, without a sync and after one.
-const CUTS: [(bool, Outcome, [u8; 5]); 6] = [
-    (false, Outcome::Keep, [3, 18, 0, 0, 0]),
-    (false, Outcome::Lose, [0, 0, 0, 0, 0]),
-    (false, Outcome::Fill(165), [165, 165, 165, 165, 0]),
-    (true, Outcome::Keep, [3, 18, 19, 20, 0]),
-    (true, Outcome::Lose, [3, 18, 19, 20, 0]),
-    (true, Outcome::Fill(165), [3, 18, 19, 20, 0]),
-];
-
-const SECTORS: [u32; 5] = [3, 18, 19, 20, 21];
-
-/// Whether over 40 sectors of zeros 18 neighbours are written and read, the first 16 as one, and
-/// the last two still held back; and a cut leaves this.
-fn is_left<R: AllocGlobal + Abort>(rt: &R, is_synced: bool, outcome: Outcome, left: &[u8]) -> bool {
-    let mut disk = Buffered::over(memory(rt, 40));
-    let mut is_written = put_each(&mut disk, 3, 21);
-    if is_synced {
-        is_written = all_come(&mut disk, &[Call::Sync]) & is_written;
-    }
-    let is_read = hold(&mut disk, &SECTORS, &[3, 18, 19, 20, 0]);
-    // a device over what is left begins again
+    let is_written = all_come(&mut disk, NEIGHBOURS) & all_come(&mut disk, next);
     let mut disk = Buffered::over(disk.into_inner().cut(outcome));
-    is_written
-        & is_read
-        & hold(&mut disk, &SECTORS, left)
-        & all_come(&mut disk, &[Call::Put(19, 7), Call::Get(19, 7)])
+    is_written & all_come(&mut disk, left) & all_come(&mut disk, AGAIN)
 }
 
 /// What is held back is read; a cut loses it, and what was written but not synced is loose; after a
 /// sync it leaves all of it.
 #[test]
 fn a_cut_loses_what_is_held_back(rt: HostRuntime) {
-    for (is_synced, outcome, left) in &CUTS {
-        assert!(rt; is_left(&rt, *is_synced, *outcome, left));
+    for (next, outcome, left) in CUTS {
+        assert!(rt; is_left(memory(&rt, 40), next, *outcome, left));
     }
 }

@@ -21,9 +21,9 @@ impl Call {
     /// Whether the call comes to that.
     pub(crate) fn comes<D: Disk>(&self, disk: &mut D) -> bool {
         match *self {
-            Call::Put(sector, byte) => put(disk, sector, &[byte; 512]),
-            Call::PutFails(sector, byte) => !put(disk, sector, &[byte; 512]),
-            Call::Get(sector, byte) => holds(disk, sector, &[byte; 512]),
+            Call::Put(sector, byte) => fill(disk, sector, byte),
+            Call::PutFails(sector, byte) => !fill(disk, sector, byte),
+            Call::Get(sector, byte) => is_full(disk, sector, byte),
             Call::GetFails(sector) => read(disk, sector).is_none(),
             Call::Sync => disk.sync().is_ok(),
             Call::SyncFails => disk.sync().is_err(),
@@ -45,6 +45,11 @@ pub(crate) fn put<D: Disk>(disk: &mut D, sector: u32, bytes: &[u8; 512]) -> bool
     sector < disk.sectors() && disk.write(sector, bytes).is_ok()
 }
 
+/// The same of one byte over and over.
+fn fill<D: Disk>(disk: &mut D, sector: u32, byte: u8) -> bool {
+    put(disk, sector, &[byte; 512])
+}
+
 /// What a sector holds, where it is there and is read.
 fn read<D: Disk>(disk: &mut D, sector: u32) -> Option<[u8; 512]> {
     let mut buffer = [1; 512];
@@ -63,20 +68,16 @@ pub(crate) fn holds<D: Disk>(disk: &mut D, sector: u32, bytes: &[u8; 512]) -> bo
     }
 }
 
-/// Whether these sectors hold these bytes.
-pub(crate) fn hold<D: Disk>(disk: &mut D, sectors: &[u32], bytes: &[u8]) -> bool {
-    let mut all = true;
-    for (sector, byte) in sectors.iter().zip(bytes) {
-        all = holds(disk, *sector, &[*byte; 512]) & all;
-    }
-    all
+/// Whether it holds this byte over and over.
+pub(crate) fn is_full<D: Disk>(disk: &mut D, sector: u32, byte: u8) -> bool {
+    holds(disk, sector, &[byte; 512])
 }
 
 /// Writes each of these sectors with its own number. Whether all were written.
 pub(crate) fn put_each<D: Disk>(disk: &mut D, from: u8, to: u8) -> bool {
     let mut all = true;
     for sector in from..to {
-        all = put(disk, u32::from(sector), &[sector; 512]) & all;
+        all = fill(disk, u32::from(sector), sector) & all;
     }
     all
 }

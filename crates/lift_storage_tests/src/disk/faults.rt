@@ -1,8 +1,6 @@
 //! Devices in memory: what a power cut leaves, and calls that fail.
-use crate::disk::calls::{Call, all_come, hold, holds, memory, put};
-use lift_disk::{
-    Arm, Disk, FailingDisk, FaultRule, Flaky, FlakyDisk, Fuse, FuseDisk, MemDisk, Outcome,
-};
+use crate::disk::calls::{Call, holds, is_full, memory, put};
+use lift_disk::{Arm, Disk, FailingDisk, FaultRule, Flaky, Fuse, MemDisk, Outcome};
 use std::process::Abort;
 
 /// What is done with a device that can be told to fail.
@@ -12,28 +10,75 @@ enum Step {
     Arm(u32),
     /// The power is cut; it fails no call from then on.
     Cut(Outcome),
-    /// Its four sectors are read, and hold these bytes.
+    /// Its first four sectors are read, and hold these bytes.
     Hold([u8; 4]),
+    /// It has so many sectors, each of zeros.
+    Zeros(u32),
+    /// It was never short of memory.
+    Ample,
+    /// A sector is written that holds this byte at this place, and zeros.
+    Mark(u32, u16, u8),
+    /// It is read.
+    Marked(u32, u16, u8),
+}
+
+/// Whether a device has so many sectors, each of zeros.
+fn is_of_zeros<D: Disk>(disk: &mut D, sectors: u32) -> bool {
+    let mut all = disk.sectors() == sectors;
+    for sector in 0..sectors {
+        all = is_full(disk, sector, 0) & all;
+    }
+    all
+}
+
+/// Whether the first four sectors hold these bytes.
+fn have<D: Disk>(disk: &mut D, bytes: [u8; 4]) -> bool {
+    let [a, b, c, d] = bytes;
+    is_full(disk, 0, a) & is_full(disk, 1, b) & is_full(disk, 2, c) & is_full(disk, 3, d)
+}
+
+/// A sector of zeros but for this byte at this place.
+fn marked(place: u16, byte: u8) -> [u8; 512] {
+    let mut bytes = [0; 512];
+    if place < 512 {
+        bytes[usize::from(place)] = byte;
+    }
+    bytes
+}
+
+/// Whether a call comes to what it says.
+fn comes<R: FaultRule>(disk: &mut FailingDisk<R>, step: &Step) -> bool {
+    match *step {
+        Step::Make(call) => call.comes(disk),
+        Step::Hold(bytes) => have(disk, bytes),
+        Step::Zeros(sectors) => is_of_zeros(disk, sectors),
+        Step::Mark(sector, place, byte) => put(disk, sector, &marked(place, byte)),
+        Step::Marked(sector, place, byte) => holds(disk, sector, &marked(place, byte)),
+        Step::Ample => !disk.short(),
+        Step::Arm(calls) => {
+            disk.arm(calls);
+            true
+        }
+        Step::Cut(_) => true,
+    }
+}
+
+/// A device comes through these steps, one list after another. What is left.
+fn follow<R: FaultRule>(rt: &impl Abort, disk: MemDisk, course: &[&[Step]]) -> MemDisk {
+    let mut disk = FailingDisk::<R>::new(disk);
+    for steps in course {
+        for step in *steps {
+            assert!(rt; comes(&mut disk, step));
+            if let Step::Cut(outcome) = step {
+                disk = FailingDisk::new(disk.into_inner().cut(*outcome));
+            }
+        }
+    }
+    disk.into_inner()
 }
 
 /// More calls than a test makes.
 const NEVER: u32 = 100;
-
-/// Whether a device of four sectors comes through these steps, and what is left.
-fn follow<R: FaultRule>(rt: &impl Abort, disk: MemDisk, steps: &[Step]) -> MemDisk {
-    let mut disk = FailingDisk::<R>::new(disk);
-    for step in steps {
-        let mut is_so = true;
-        match step {
-            Step::Make(call) => is_so = call.comes(&mut disk),
-            Step::Arm(calls) => disk.arm(*calls),
-            Step::Cut(outcome) => disk = FailingDisk::new(disk.into_inner().cut(*outcome)),
-            Step::Hold(bytes) => is_so = hold(&mut disk, &[0, 1, 2, 3], bytes),
-        }
-        assert!(rt; is_so);
-    }
-    disk.into_inner()
-}
 
 /// 1 and 2 are safe in the first two sectors, then 3 and 4 were written to the second and third, and
 /// a write of the fourth failed.
@@ -48,88 +93,29 @@ const WRITTEN: [Step; 8] = [
     Step::Arm(NEVER),
 ];
 
-/// A cut leaves what its word says, and the same sectors are still loose.
-const CUTS: [[Step; 6]; 4] = [
-    [
-        Step::Cut(Outcome::Keep),
-        Step::Hold([1, 3, 4, 0]),
-        Step::Cut(Outcome::Fill(9)),
-        Step::Hold([1, 9, 9, 9]),
-        Step::Cut(Outcome::Lose),
-        Step::Hold([1, 2, 0, 0]),
-    ],
-    [
-        Step::Cut(Outcome::Lose),
-        Step::Hold([1, 2, 0, 0]),
-        Step::Cut(Outcome::Fill(9)),
-        Step::Hold([1, 9, 9, 9]),
-        Step::Cut(Outcome::Lose),
-        Step::Hold([1, 2, 0, 0]),
-    ],
-    [
-        Step::Cut(Outcome::Fill(165)),
-        Step::Hold([1, 165, 165, 165]),
-        Step::Cut(Outcome::Fill(9)),
-        Step::Hold([1, 9, 9, 9]),
-        Step::Cut(Outcome::Lose),
-        Step::Hold([1, 2, 0, 0]),
-    ],
-    [
-        Step::Cut(Outcome::Fill(0)),
-        Step::Hold([1, 0, 0, 0]),
-        Step::Cut(Outcome::Fill(9)),
-        Step::Hold([1, 9, 9, 9]),
-        Step::Cut(Outcome::Lose),
-        Step::Hold([1, 2, 0, 0]),
-    ],
+/// After a cut the same sectors are still loose.
+const LOOSE: [Step; 4] = [
+    Step::Cut(Outcome::Fill(9)),
+    Step::Hold([1, 9, 9, 9]),
+    Step::Cut(Outcome::Lose),
+    Step::Hold([1, 2, 0, 0]),
 ];
 
-/// A sync that fails makes nothing safe, and one that succeeds all of it, the spoilt sector too.
-const SYNCS: [[Step; 9]; 3] = [
-    [
-        Step::Arm(0),
-        Step::Make(Call::SyncFails),
-        Step::Arm(NEVER),
-        Step::Make(Call::Sync),
-        Step::Cut(Outcome::Keep),
-        Step::Hold([1, 3, 4, 0]),
-        Step::Make(Call::Put(0, 5)),
-        Step::Cut(Outcome::Lose),
-        Step::Hold([1, 3, 4, 0]),
-    ],
-    [
-        Step::Arm(0),
-        Step::Make(Call::SyncFails),
-        Step::Arm(NEVER),
-        Step::Make(Call::Sync),
-        Step::Cut(Outcome::Lose),
-        Step::Hold([1, 3, 4, 0]),
-        Step::Make(Call::Put(0, 5)),
-        Step::Cut(Outcome::Lose),
-        Step::Hold([1, 3, 4, 0]),
-    ],
-    [
-        Step::Arm(0),
-        Step::Make(Call::SyncFails),
-        Step::Arm(NEVER),
-        Step::Make(Call::Sync),
-        Step::Cut(Outcome::Fill(9)),
-        Step::Hold([1, 3, 4, 0]),
-        Step::Make(Call::Put(0, 5)),
-        Step::Cut(Outcome::Lose),
-        Step::Hold([1, 3, 4, 0]),
-    ],
+/// A sync that fails makes nothing safe, and one that succeeds all of it.
+const SYNCED: [Step; 4] = [
+    Step::Arm(0),
+    Step::Make(Call::SyncFails),
+    Step::Arm(NEVER),
+    Step::Make(Call::Sync),
 ];
 
-#[test]
-fn a_cut_leaves_what_its_word_says(rt: HostRuntime) {
-    for steps in &CUTS {
-        follow::<Fuse>(&rt, follow::<Fuse>(&rt, memory(&rt, 4), &WRITTEN), steps);
-    }
-    for steps in &SYNCS {
-        follow::<Fuse>(&rt, follow::<Fuse>(&rt, memory(&rt, 4), &WRITTEN), steps);
-    }
-}
+/// So a cut leaves all of it, the spoilt sector too.
+const SAFE: [Step; 4] = [
+    Step::Hold([1, 3, 4, 0]),
+    Step::Make(Call::Put(0, 5)),
+    Step::Cut(Outcome::Lose),
+    Step::Hold([1, 3, 4, 0]),
+];
 
 /// A failed write changes no byte, and makes its sector loose.
 const FUSED: [Step; 6] = [
@@ -154,117 +140,280 @@ const FLAKED: [Step; 9] = [
     Step::Hold([4, 4, 8, 4]),
 ];
 
-#[test]
-fn a_failed_write_spoils_its_sector(rt: HostRuntime) {
-    follow::<Flaky>(&rt, follow::<Fuse>(&rt, memory(&rt, 4), &FUSED), &FLAKED);
-}
+/// A new device of four sectors passes six calls.
+const SIX: [Step; 7] = [
+    Step::Zeros(4),
+    Step::Make(Call::Put(0, 7)),
+    Step::Make(Call::Sync),
+    Step::Make(Call::Get(0, 7)),
+    Step::Make(Call::Put(3, 7)),
+    Step::Make(Call::Sync),
+    Step::Make(Call::Get(0, 7)),
+];
 
-/// Whether of six calls, writes, syncs and reads in turn, these succeed.
-fn six_come<D: Disk>(disk: &mut D, came: &[bool; 6]) -> bool {
-    let mut all = true;
-    for (place, is_good) in came.iter().enumerate() {
-        let has_come = match place % 3 {
-            0 => put(disk, place as u32 % 4, &[7; 512]),
-            1 => disk.sync().is_ok(),
-            _ => holds(disk, 0, &[7; 512]),
-        };
-        all = all & (has_come == *is_good);
-    }
-    all
-}
+/// A fuse passes as many calls as it is armed with, and fails each one after these.
+const FUSE_NONE: [Step; 7] = [
+    Step::Arm(0),
+    Step::Make(Call::PutFails(0, 7)),
+    Step::Make(Call::SyncFails),
+    Step::Make(Call::GetFails(0)),
+    Step::Make(Call::PutFails(3, 7)),
+    Step::Make(Call::SyncFails),
+    Step::Make(Call::GetFails(0)),
+];
 
-/// Whether a device of four sectors passes six calls, and of six more passes these once it is
-/// armed. Armed again with one call, it counts from then on: of two syncs the first alone succeeds,
-/// or the second. It is never short of memory.
-fn passes<D: Arm>(disk: &mut D, calls: u32, came: &[bool; 6], is_first: bool) -> bool {
-    let has_all = (disk.sectors() == 4) & six_come(disk, &[true; 6]);
-    disk.arm(calls);
-    let has_these = six_come(disk, came);
-    disk.arm(1);
-    let (first, second) = (disk.sync().is_ok(), disk.sync().is_ok());
-    has_all & has_these & (first == is_first) & (second != is_first) & !disk.short()
-}
+const FUSE_ONE: [Step; 7] = [
+    Step::Arm(1),
+    Step::Make(Call::Put(0, 7)),
+    Step::Make(Call::SyncFails),
+    Step::Make(Call::GetFails(0)),
+    Step::Make(Call::PutFails(3, 7)),
+    Step::Make(Call::SyncFails),
+    Step::Make(Call::GetFails(0)),
+];
 
-/// A fuse passes this many calls and fails each one after these.
-const FUSES: [(u32, [bool; 6]); 6] = [
-    (0, [false; 6]),
-    (1, [true, false, false, false, false, false]),
-    (2, [true, true, false, false, false, false]),
-    (3, [true, true, true, false, false, false]),
-    (6, [true; 6]),
-    (NEVER, [true; 6]),
+const FUSE_TWO: [Step; 7] = [
+    Step::Arm(2),
+    Step::Make(Call::Put(0, 7)),
+    Step::Make(Call::Sync),
+    Step::Make(Call::GetFails(0)),
+    Step::Make(Call::PutFails(3, 7)),
+    Step::Make(Call::SyncFails),
+    Step::Make(Call::GetFails(0)),
+];
+
+const FUSE_THREE: [Step; 7] = [
+    Step::Arm(3),
+    Step::Make(Call::Put(0, 7)),
+    Step::Make(Call::Sync),
+    Step::Make(Call::Get(0, 7)),
+    Step::Make(Call::PutFails(3, 7)),
+    Step::Make(Call::SyncFails),
+    Step::Make(Call::GetFails(0)),
+];
+
+const FUSE_ALL: [Step; 7] = [
+    Step::Arm(6),
+    Step::Make(Call::Put(0, 7)),
+    Step::Make(Call::Sync),
+    Step::Make(Call::Get(0, 7)),
+    Step::Make(Call::Put(3, 7)),
+    Step::Make(Call::Sync),
+    Step::Make(Call::Get(0, 7)),
+];
+
+const FUSE_NEVER: [Step; 7] = [
+    Step::Arm(NEVER),
+    Step::Make(Call::Put(0, 7)),
+    Step::Make(Call::Sync),
+    Step::Make(Call::Get(0, 7)),
+    Step::Make(Call::Put(3, 7)),
+    Step::Make(Call::Sync),
+    Step::Make(Call::Get(0, 7)),
 ];
 
 /// A flaky device fails one call and goes on.
-const FLAKES: [(u32, [bool; 6]); 6] = [
-    (0, [true; 6]),
-    (1, [false, true, true, true, true, true]),
-    (2, [true, false, true, true, true, true]),
-    (3, [true, true, false, true, true, true]),
-    (6, [true, true, true, true, true, false]),
-    (NEVER, [true; 6]),
+const FLAKE_NONE: [Step; 7] = [
+    Step::Arm(0),
+    Step::Make(Call::Put(0, 7)),
+    Step::Make(Call::Sync),
+    Step::Make(Call::Get(0, 7)),
+    Step::Make(Call::Put(3, 7)),
+    Step::Make(Call::Sync),
+    Step::Make(Call::Get(0, 7)),
+];
+
+const FLAKE_ONE: [Step; 7] = [
+    Step::Arm(1),
+    Step::Make(Call::PutFails(0, 7)),
+    Step::Make(Call::Sync),
+    Step::Make(Call::Get(0, 7)),
+    Step::Make(Call::Put(3, 7)),
+    Step::Make(Call::Sync),
+    Step::Make(Call::Get(0, 7)),
+];
+
+const FLAKE_TWO: [Step; 7] = [
+    Step::Arm(2),
+    Step::Make(Call::Put(0, 7)),
+    Step::Make(Call::SyncFails),
+    Step::Make(Call::Get(0, 7)),
+    Step::Make(Call::Put(3, 7)),
+    Step::Make(Call::Sync),
+    Step::Make(Call::Get(0, 7)),
+];
+
+const FLAKE_THREE: [Step; 7] = [
+    Step::Arm(3),
+    Step::Make(Call::Put(0, 7)),
+    Step::Make(Call::Sync),
+    Step::Make(Call::GetFails(0)),
+    Step::Make(Call::Put(3, 7)),
+    Step::Make(Call::Sync),
+    Step::Make(Call::Get(0, 7)),
+];
+
+const FLAKE_ALL: [Step; 7] = [
+    Step::Arm(6),
+    Step::Make(Call::Put(0, 7)),
+    Step::Make(Call::Sync),
+    Step::Make(Call::Get(0, 7)),
+    Step::Make(Call::Put(3, 7)),
+    Step::Make(Call::Sync),
+    Step::Make(Call::GetFails(0)),
+];
+
+const FLAKE_NEVER: [Step; 7] = [
+    Step::Arm(NEVER),
+    Step::Make(Call::Put(0, 7)),
+    Step::Make(Call::Sync),
+    Step::Make(Call::Get(0, 7)),
+    Step::Make(Call::Put(3, 7)),
+    Step::Make(Call::Sync),
+    Step::Make(Call::Get(0, 7)),
+];
+
+/// Armed again with one call, a fuse counts from then on: of two syncs the first alone succeeds. It
+/// is never short of memory.
+const FIRST: [Step; 4] = [
+    Step::Arm(1),
+    Step::Make(Call::Sync),
+    Step::Make(Call::SyncFails),
+    Step::Ample,
+];
+
+/// Of a flaky device's the second alone does.
+const SECOND: [Step; 4] = [
+    Step::Arm(1),
+    Step::Make(Call::SyncFails),
+    Step::Make(Call::Sync),
+    Step::Ample,
+];
+
+/// Calls on a device that was made: each succeeds, and it is never short of memory.
+const ROUND: [Step; 16] = [
+    Step::Make(Call::Put(0, 200)),
+    Step::Make(Call::Get(0, 200)),
+    Step::Make(Call::Sync),
+    Step::Ample,
+    Step::Make(Call::Put(1, 200)),
+    Step::Make(Call::Get(1, 200)),
+    Step::Make(Call::Sync),
+    Step::Ample,
+    Step::Make(Call::Put(2, 200)),
+    Step::Make(Call::Get(2, 200)),
+    Step::Make(Call::Sync),
+    Step::Ample,
+    Step::Make(Call::Put(3, 200)),
+    Step::Make(Call::Get(3, 200)),
+    Step::Make(Call::Sync),
+    Step::Ample,
+];
+
+/// Twenty of them.
+const ROUNDS: [&[Step]; 5] = [&ROUND, &ROUND, &ROUND, &ROUND, &ROUND];
+
+/// Sectors that lie far apart, and some that hold bytes only at their front or at their end, are
+/// written, synced, and written again. A sync makes each of them safe.
+const FAR: [Step; 15] = [
+    Step::Mark(7, 0, 0xA5),
+    Step::Mark(8, 511, 0x5A),
+    Step::Make(Call::Put(129, 1)),
+    Step::Make(Call::Put(0, 2)),
+    Step::Make(Call::Put(64, 3)),
+    Step::Make(Call::Sync),
+    Step::Make(Call::Put(64, 4)),
+    Step::Make(Call::Put(100, 5)),
+    Step::Cut(Outcome::Lose),
+    Step::Marked(7, 0, 0xA5),
+    Step::Marked(8, 511, 0x5A),
+    Step::Make(Call::Get(129, 1)),
+    Step::Make(Call::Get(0, 2)),
+    Step::Make(Call::Get(64, 3)),
+    Step::Make(Call::Get(100, 0)),
+];
+
+/// A cut leaves what its word says. What is done over so many sectors of zeros with a fuse, and then with a flaky device over what is
+/// left.
+const COURSES: &[(u32, &[&[Step]], &[&[Step]])] = &[
+    (
+        4,
+        &[
+            &WRITTEN,
+            &[Step::Cut(Outcome::Keep), Step::Hold([1, 3, 4, 0])],
+            &LOOSE,
+        ],
+        &[],
+    ),
+    (
+        4,
+        &[
+            &WRITTEN,
+            &[Step::Cut(Outcome::Lose), Step::Hold([1, 2, 0, 0])],
+            &LOOSE,
+        ],
+        &[],
+    ),
+    (
+        4,
+        &[
+            &WRITTEN,
+            &[
+                Step::Cut(Outcome::Fill(165)),
+                Step::Hold([1, 165, 165, 165]),
+            ],
+            &LOOSE,
+        ],
+        &[],
+    ),
+    (
+        4,
+        &[
+            &WRITTEN,
+            &[Step::Cut(Outcome::Fill(0)), Step::Hold([1, 0, 0, 0])],
+            &LOOSE,
+        ],
+        &[],
+    ),
+    (
+        4,
+        &[&WRITTEN, &SYNCED, &[Step::Cut(Outcome::Keep)], &SAFE],
+        &[],
+    ),
+    (
+        4,
+        &[&WRITTEN, &SYNCED, &[Step::Cut(Outcome::Lose)], &SAFE],
+        &[],
+    ),
+    (
+        4,
+        &[&WRITTEN, &SYNCED, &[Step::Cut(Outcome::Fill(9))], &SAFE],
+        &[],
+    ),
+    (4, &[&FUSED], &[&FLAKED]),
+    (4, &[&SIX, &FUSE_NONE, &FIRST], &[]),
+    (4, &[&SIX, &FUSE_ONE, &FIRST], &[]),
+    (4, &[&SIX, &FUSE_TWO, &FIRST], &[]),
+    (4, &[&SIX, &FUSE_THREE, &FIRST], &[]),
+    (4, &[&SIX, &FUSE_ALL, &FIRST], &[]),
+    (4, &[&SIX, &FUSE_NEVER, &FIRST], &[]),
+    (4, &[], &[&SIX, &FLAKE_NONE, &SECOND]),
+    (4, &[], &[&SIX, &FLAKE_ONE, &SECOND]),
+    (4, &[], &[&SIX, &FLAKE_TWO, &SECOND]),
+    (4, &[], &[&SIX, &FLAKE_THREE, &SECOND]),
+    (4, &[], &[&SIX, &FLAKE_ALL, &SECOND]),
+    (4, &[], &[&SIX, &FLAKE_NEVER, &SECOND]),
+    (4, &ROUNDS, &[]),
+    (0, &[&[Step::Zeros(0)]], &[]),
+    (1, &[&[Step::Zeros(1)]], &[]),
+    (130, &[&[Step::Zeros(130)]], &[]),
+    (130, &[&FAR], &[]),
 ];
 
 #[test]
-fn devices_fail_as_they_are_told(rt: HostRuntime) {
-    for (calls, came) in &FUSES {
-        assert!(rt; passes(&mut FuseDisk::new(memory(&rt, 4)), *calls, came, true));
+fn devices_in_memory_fail_and_are_cut(rt: HostRuntime) {
+    for (sectors, fuse, flaky) in COURSES {
+        let left = follow::<Fuse>(&rt, memory(&rt, *sectors), fuse);
+        follow::<Flaky>(&rt, left, flaky);
     }
-    for (calls, came) in &FLAKES {
-        assert!(rt; passes(&mut FlakyDisk::new(memory(&rt, 4)), *calls, came, false));
-    }
-}
-
-/// Twenty rounds of calls on a device that was made: each succeeds, and it is never short of
-/// memory.
-#[test]
-fn a_call_takes_no_memory(rt: HostRuntime) {
-    let mut disk = FuseDisk::new(memory(&rt, 4));
-    for turn in 0..20u32 {
-        let sector = turn % 4;
-        let calls = [Call::Put(sector, 200), Call::Get(sector, 200), Call::Sync];
-        assert!(rt; all_come(&mut disk, &calls) & !disk.short());
-    }
-}
-
-#[test]
-fn a_new_device_is_of_zeros(rt: HostRuntime) {
-    for sectors in [0, 1, 130] {
-        let mut disk = memory(&rt, sectors);
-        assert!(rt; disk.sectors() == sectors);
-        for sector in 0..sectors {
-            assert!(rt; holds(&mut disk, sector, &[0; 512]));
-        }
-    }
-}
-
-/// Sectors that lie far apart are written, synced, and written again.
-const FAR: [Call; 6] = [
-    Call::Put(129, 1),
-    Call::Put(0, 2),
-    Call::Put(64, 3),
-    Call::Sync,
-    Call::Put(64, 4),
-    Call::Put(100, 5),
-];
-
-const FAR_LEFT: [Call; 4] = [
-    Call::Get(129, 1),
-    Call::Get(0, 2),
-    Call::Get(64, 3),
-    Call::Get(100, 0),
-];
-
-/// Sectors that lie far apart, and some that hold bytes only at their front or at their end.
-#[test]
-fn a_sync_makes_each_sector_safe(rt: HostRuntime) {
-    let mut disk = memory(&rt, 130);
-    let (mut front, mut end) = ([0; 512], [0; 512]);
-    front[0] = 0xA5;
-    end[511] = 0x5A;
-    let are_put = put(&mut disk, 7, &front) & put(&mut disk, 8, &end);
-    assert!(rt; are_put & all_come(&mut disk, &FAR));
-    let mut disk = disk.cut(Outcome::Lose);
-    let are_there = holds(&mut disk, 7, &front) & holds(&mut disk, 8, &end);
-    assert!(rt; are_there & all_come(&mut disk, &FAR_LEFT));
 }

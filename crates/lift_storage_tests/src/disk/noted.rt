@@ -1,35 +1,25 @@
-//! A device on a file that notes how it is called.
-use crate::disk::calls::{Call, all_come, holds, put_each};
+//! A file that notes how it is called: what opens and makes it, and devices on it.
+use crate::disk::calls::{Call, all_come, is_full, put_each};
 use crate::disk::notes::{ALL, NotedFile, Notes, READS, SYNCS, WRITTEN_AT, file};
-use lift_disk::{Buffered, Disk, RunDisk, SectorFile, SystemFile, TracedFile};
-use std::process::Abort;
+use lift_disk::{Buffered, Disk, RunDisk, SectorFile, SystemFile, ToldFile, TracedFile};
 
 /// Of how many calls of the file one fails, a call of the device, and what the file has noted then.
 type Step = (u32, Call, [u64; 4]);
 
-/// A device of so many sectors on such a file.
-fn device<'n, R: AllocGlobal + Abort>(
-    rt: &R,
-    notes: &'n Notes,
-    sectors: u32,
-    piece: usize,
-) -> SectorFile<SystemFile<NotedFile<'n>>> {
-    let file = file(rt, notes, sectors as usize, piece);
-    SectorFile::over(TracedFile::over(file), sectors)
-}
-
-/// Each of these calls comes to what it says, and the file has noted this.
-fn follow<D: Disk>(rt: &impl Abort, disk: &mut D, notes: &Notes, from: usize, steps: &[Step]) {
+/// Whether each of these calls comes to what it says, and the file has noted this.
+fn follow<D: Disk>(disk: &mut D, notes: &Notes, from: usize, steps: &[Step]) -> bool {
+    let mut all = true;
     for (left, call, noted) in steps {
         notes.left.set(*left);
-        assert!(rt; call.comes(disk) & notes.are(from, noted));
+        all = call.comes(disk) & notes.are(from, noted) & all;
     }
+    all
 }
 
 /// Syncs, drops, and where the file is read and written last. Each call of the device is one of the
 /// file: at 512 times the sector, or a sync of its data. After the first sync, and after the first
 /// one that follows a failed call, what is cached is dropped, and the sync fails where that does.
-const PLACES: [Step; 15] = [
+const PLACES: &[Step] = &[
     (ALL, Call::Put(3, 1), [0, 0, 0, 1536]),
     (ALL, Call::Put(0, 1), [0, 0, 0, 0]),
     (ALL, Call::Get(5, 0), [0, 0, 2560, 0]),
@@ -50,7 +40,7 @@ const PLACES: [Step; 15] = [
 /// Reads, writes, syncs and drops. A call of the file that fails is a call of the device that
 /// fails, and isn't made again: after a sync that failed another one tells nothing of what was
 /// written before.
-const FAILURES: [Step; 6] = [
+const FAILURES: &[Step] = &[
     (0, Call::PutFails(3, 7), [0, 1, 0, 0]),
     (ALL, Call::Put(3, 7), [0, 2, 0, 0]),
     (0, Call::SyncFails, [0, 2, 1, 0]),
@@ -59,22 +49,8 @@ const FAILURES: [Step; 6] = [
     (ALL, Call::Get(3, 7), [2, 2, 2, 1]),
 ];
 
-#[test]
-fn each_call_is_one_of_the_file(rt: HostRuntime) {
-    for (from, steps) in [(SYNCS, PLACES.as_slice()), (READS, FAILURES.as_slice())] {
-        let notes = Notes::new();
-        follow(
-            &rt,
-            &mut device(&rt, &notes, 8, usize::MAX),
-            &notes,
-            from,
-            steps,
-        );
-    }
-}
-
 /// After a first sync calls that succeed leave nothing to be dropped, also where they are joined.
-const JOINED: [Step; 8] = [
+const JOINED: &[Step] = &[
     (ALL, Call::Put(3, 1), [0, 0, 0, 0]),
     (ALL, Call::Put(4, 1), [0, 0, 0, 0]),
     (ALL, Call::Sync, [1, 1, 0, 1536]),
@@ -87,7 +63,7 @@ const JOINED: [Step; 8] = [
 
 /// One read brings 16 sectors. A batch, which is its body, the next gate, a sync, its own gate and
 /// a sync, is two writes and two syncs.
-const NEIGHBOURS: [Step; 28] = [
+const NEIGHBOURS: &[Step] = &[
     (ALL, Call::Get(2, 0), [1, 0, 0, 0]),
     (ALL, Call::Get(3, 0), [1, 0, 0, 0]),
     (ALL, Call::Get(4, 0), [1, 0, 0, 0]),
@@ -119,7 +95,7 @@ const NEIGHBOURS: [Step; 28] = [
 ];
 
 /// A write that was held back and fails is told by the call that makes it, and isn't made again.
-const HELD_BACK: [Step; 6] = [
+const HELD_BACK: &[Step] = &[
     (ALL, Call::Put(3, 7), [0, 0, 0, 0]),
     (ALL, Call::Put(4, 8), [0, 0, 0, 0]),
     (0, Call::SyncFails, [0, 1, 0, 0]),
@@ -128,45 +104,7 @@ const HELD_BACK: [Step; 6] = [
     (ALL, Call::Get(3, 0), [2, 1, 1, 1]),
 ];
 
-/// The same by a device that reads ahead and joins writes, over this one.
-fn follow_over<D: RunDisk + Drop>(
-    rt: &impl Abort,
-    disk: D,
-    notes: &Notes,
-    from: usize,
-    steps: &[Step],
-) {
-    follow(rt, &mut Buffered::over(disk), notes, from, steps);
-}
-
-#[test]
-fn neighbours_are_moved_at_once(rt: HostRuntime) {
-    for (from, steps) in [
-        (SYNCS, JOINED.as_slice()),
-        (READS, NEIGHBOURS.as_slice()),
-        (READS, HELD_BACK.as_slice()),
-    ] {
-        let notes = Notes::new();
-        follow_over(
-            &rt,
-            device(&rt, &notes, 40, usize::MAX),
-            &notes,
-            from,
-            steps,
-        );
-    }
-}
-
-/// The most bytes that a call of the file moves, and how many reads and writes four reads and three
-/// writes of the device then are.
-const PIECES: [(usize, [u64; 2]); 4] = [
-    (512, [4, 3]),
-    (511, [8, 6]),
-    (256, [8, 6]),
-    (100, [24, 18]),
-];
-
-const MOVED: [Call; 7] = [
+const MOVED: &[Call] = &[
     Call::Put(3, 7),
     Call::Put(0, 8),
     Call::Put(4, 9),
@@ -176,21 +114,11 @@ const MOVED: [Call; 7] = [
     Call::Get(1, 0),
 ];
 
-/// A call of the file that moves a part of a sector is followed by calls for the rest.
-#[test]
-fn a_sector_is_moved_whole(rt: HostRuntime) {
-    for (piece, noted) in &PIECES {
-        let notes = Notes::new();
-        let mut disk = device(&rt, &notes, 40, *piece);
-        assert!(rt; all_come(&mut disk, &MOVED) & notes.are(READS, noted));
-    }
-}
-
 /// Whether each of 40 sectors, so far from one another, holds its own number.
 fn are_themselves<D: Disk>(disk: &mut D, leap: u8) -> bool {
     let (mut sector, mut all) = (0u8, true);
     for _ in 0..40 {
-        all = holds(disk, u32::from(sector), &[sector; 512]) & all;
+        all = is_full(disk, u32::from(sector), sector) & all;
         sector = sector.saturating_add(leap) % 40;
     }
     all
@@ -212,49 +140,134 @@ fn are_kept<D: RunDisk + Drop>(disk: D) -> bool {
     all & are_read(&mut Buffered::over(disk.into_inner()))
 }
 
-/// Whatever is written and read at once, also by calls of the file that move a part of it, each
-/// sector is read as it was written.
+/// What is done with a device of 40 sectors on such a file.
+#[derive(Clone, Copy)]
+enum Use {
+    /// These steps, with what the file has noted from this place on.
+    Alone(usize, &'static [Step]),
+    /// The same by a device that reads ahead and joins writes, over it.
+    Joined(usize, &'static [Step]),
+    /// Four reads and three writes; they are so many reads and writes of the file.
+    Moved(u64, u64),
+    /// Whatever is written and read at once, each sector is read as it was written.
+    Kept,
+}
+
+/// Whether all comes as it says.
+fn comes<D: RunDisk + Drop>(mut disk: D, notes: &Notes, done: &Use) -> bool {
+    match *done {
+        Use::Alone(from, steps) => follow(&mut disk, notes, from, steps),
+        Use::Joined(from, steps) => follow(&mut Buffered::over(disk), notes, from, steps),
+        Use::Moved(reads, writes) => {
+            all_come(&mut disk, MOVED) & notes.are(READS, &[reads, writes])
+        }
+        Use::Kept => are_kept(disk),
+    }
+}
+
+/// The most bytes that a call of the file moves, and what is done. A call that moves a part of a
+/// sector is followed by calls for the rest.
+const USES: &[(usize, Use)] = &[
+    (usize::MAX, Use::Alone(SYNCS, PLACES)),
+    (usize::MAX, Use::Alone(READS, FAILURES)),
+    (usize::MAX, Use::Joined(SYNCS, JOINED)),
+    (usize::MAX, Use::Joined(READS, NEIGHBOURS)),
+    (usize::MAX, Use::Joined(READS, HELD_BACK)),
+    (512, Use::Moved(4, 3)),
+    (511, Use::Moved(8, 6)),
+    (256, Use::Moved(8, 6)),
+    (100, Use::Moved(24, 18)),
+    (usize::MAX, Use::Kept),
+    (1000, Use::Kept),
+];
+
+/// The same of a device on this file.
+fn comes_on<F: ToldFile + Drop>(file: F, notes: &Notes, done: &Use) -> bool {
+    comes(SectorFile::over(TracedFile::over(file), 40), notes, done)
+}
+
 #[test]
-fn each_sector_is_read_as_itself(rt: HostRuntime) {
-    for piece in [usize::MAX, 1000] {
+fn each_call_is_one_of_the_file(rt: HostRuntime) {
+    for (piece, done) in USES {
         let notes = Notes::new();
-        assert!(rt; are_kept(device(&rt, &notes, 40, piece)), "{piece}");
+        assert!(rt; comes_on(file(&rt, &notes, 40, *piece), &notes, done));
     }
 }
 
-/// Whether a file of 300 sectors is made where the call after this many fails.
-fn is_made<R: AllocGlobal + Abort>(rt: &R, notes: &Notes, calls: u32) -> bool {
-    notes.left.set(calls);
-    TracedFile::zeroed(file(rt, notes, 300, usize::MAX), 300).is_ok()
+/// How a file is opened or made.
+#[derive(Clone, Copy)]
+enum Opening {
+    /// As it is, with no call.
+    Over,
+    /// Its length is set, each of 300 sectors is written, and that is made safe.
+    Zeroed,
+    /// Its lock has to be free, and it has to tell its length.
+    Locked,
+    /// It has to tell its length.
+    Measured,
 }
 
-/// A file that is made has its length, each of its sectors is written, and that is made safe, by
-/// seven calls, each of which has to succeed; opened, it is as it was, and so it is where another
-/// has its lock.
-#[test]
-fn a_file_is_made_with_its_sectors(rt: HostRuntime) {
-    let notes = Notes::new();
-    let _opened = TracedFile::over(file(&rt, &notes, 300, usize::MAX));
-    assert!(rt; !is_made(&rt, &notes, 0) & notes.are(READS, &[0; 9]));
-    for calls in 1..7u32 {
-        assert!(rt; !is_made(&rt, &notes, calls));
+/// Whether it is.
+fn is_opened<F: ToldFile + Drop>(file: F, opening: Opening) -> bool {
+    match opening {
+        Opening::Over => {
+            drop(TracedFile::over(file));
+            true
+        }
+        Opening::Zeroed => TracedFile::zeroed(file, 300).is_ok(),
+        Opening::Locked => TracedFile::locked(file).is_ok(),
+        Opening::Measured => TracedFile::measured(file).is_ok(),
     }
-    let notes = Notes::new();
-    assert!(rt; is_made(&rt, &notes, 7) & (notes.left.get() == 0));
-    assert!(rt; notes.are(WRITTEN_AT, &[131_072, 153_600, 153_600, 153_600]));
 }
 
-/// Whether a file is locked and whether it is measured where the call after so many fails.
-const OPENINGS: [(u32, bool, bool); 3] = [(0, false, false), (1, false, true), (2, true, true)];
+/// How many calls are left behind that, where it is.
+fn left_after<F: ToldFile + Drop>(file: F, notes: &Notes, opening: Opening) -> Option<u32> {
+    if is_opened(file, opening) {
+        Some(notes.left.get())
+    } else {
+        None
+    }
+}
 
-/// One that is opened has to tell its length, and its lock has to be free.
+/// How many sectors the file has, how it is opened, and the call after how many fails; how many are
+/// left where it succeeds, and what the file has noted from a place on. One that is made is so by
+/// seven calls, each of which has to succeed.
+const OPENINGS: &[(usize, Opening, u32, Option<u32>, usize, &[u64])] = &[
+    (300, Opening::Over, 0, Some(0), READS, &[0; 9]),
+    (300, Opening::Zeroed, 0, None, READS, &[0; 9]),
+    (300, Opening::Zeroed, 1, None, READS, &[]),
+    (300, Opening::Zeroed, 2, None, READS, &[]),
+    (300, Opening::Zeroed, 3, None, READS, &[]),
+    (300, Opening::Zeroed, 4, None, READS, &[]),
+    (300, Opening::Zeroed, 5, None, READS, &[]),
+    (300, Opening::Zeroed, 6, None, READS, &[]),
+    (
+        300,
+        Opening::Zeroed,
+        7,
+        Some(0),
+        WRITTEN_AT,
+        &[131_072, 153_600, 153_600, 153_600],
+    ),
+    (0, Opening::Locked, 0, None, READS, &[]),
+    (0, Opening::Locked, 1, None, READS, &[]),
+    (0, Opening::Locked, 2, Some(0), READS, &[]),
+    (0, Opening::Measured, 0, None, READS, &[]),
+    (0, Opening::Measured, 1, Some(0), READS, &[]),
+    (0, Opening::Measured, 2, Some(1), READS, &[]),
+];
+
 #[test]
 fn a_file_is_opened_by_calls_that_succeed(rt: HostRuntime) {
-    let notes = Notes::new();
-    for (left, is_locked, is_measured) in &OPENINGS {
-        notes.left.set(*left);
-        assert!(rt; TracedFile::locked(file(&rt, &notes, 0, 0)).is_ok() == *is_locked);
-        notes.left.set(*left);
-        assert!(rt; TracedFile::measured(file(&rt, &notes, 0, 0)).is_ok() == *is_measured);
+    for (sectors, opening, calls, left, from, noted) in OPENINGS {
+        let notes = Notes::new();
+        notes.left.set(*calls);
+        let is_open = is_opened(file(&rt, &notes, *sectors, usize::MAX), *opening);
+        let came = if is_open {
+            Some(notes.left.get())
+        } else {
+            None
+        };
+        assert!(rt; (came == *left) & notes.are(*from, noted));
     }
 }

@@ -95,26 +95,42 @@ pub(crate) struct NotedFile<'n> {
     notes: &'n Notes,
 }
 
+impl NotedFile<'_> {
+    /// The bytes that a call of so many moves, which is noted.
+    fn moved(&self, place: usize, offset: u64, count: usize) -> io::Result<&[Cell<u8>]> {
+        self.notes.moved(place, offset)?;
+        let there = self.bytes.get(offset as usize..).unwrap_or_default();
+        let moved = count.min(there.len()).min(self.piece);
+        Ok(&there[..moved])
+    }
+}
+
+/// Reads so many bytes.
+fn read(bytes: &mut [u8], there: &[Cell<u8>]) {
+    for (byte, kept) in bytes.iter_mut().zip(there) {
+        *byte = kept.get();
+    }
+}
+
+/// Writes so many.
+fn write(bytes: &[u8], there: &[Cell<u8>]) {
+    for (byte, kept) in bytes.iter().zip(there) {
+        kept.set(*byte);
+    }
+}
+
 impl FileExt for NotedFile<'_> {
     fn read_at(&self, buf: &mut [u8], offset: u64) -> io::Result<usize> {
-        self.notes.moved(READS, offset)?;
-        let there = self.bytes.get(offset as usize..).unwrap_or_default();
-        let moved = buf.len().min(there.len()).min(self.piece);
-        for (byte, kept) in buf.iter_mut().zip(there).take(moved) {
-            *byte = kept.get();
-        }
-        Ok(moved)
+        let there = self.moved(READS, offset, buf.len())?;
+        read(buf, there);
+        Ok(there.len().min(buf.len()))
     }
 
     fn write_at(&self, buf: &[u8], offset: u64) -> io::Result<usize> {
-        self.notes.moved(WRITES, offset)?;
-        let there = self.bytes.get(offset as usize..).unwrap_or_default();
-        let moved = buf.len().min(there.len()).min(self.piece);
-        for (byte, kept) in buf.iter().zip(there).take(moved) {
-            kept.set(*byte);
-        }
-        self.notes.add(TAKEN, moved as u64);
-        Ok(moved)
+        let there = self.moved(WRITES, offset, buf.len())?;
+        write(buf, there);
+        self.notes.add(TAKEN, there.len() as u64);
+        Ok(there.len().min(buf.len()))
     }
 }
 

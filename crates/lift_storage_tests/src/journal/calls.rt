@@ -1,7 +1,7 @@
 //! The calls of the device that a format, an opening, an append and a checkpoint make, and the
 //! bytes that they write.
 use crate::disk::calls::{holds, memory};
-use crate::journal::listing::{add, made};
+use crate::journal::listing::{add, add_batch, made};
 use crate::journal::noting::{Call, NotingDisk};
 use crate::journal::records::{Batch, DEMO};
 use crate::journal::registers::small;
@@ -10,12 +10,12 @@ use crate::plain::Plain;
 use arrayvec::ArrayVec;
 use lift_disk::Disk;
 use lift_journal::Journal;
-use std::process::Abort;
+use lift_register::Register;
 
 /// A format, an opening, a call of two persons, a batch of 63 stops, and two checkpoints: zeros in
 /// sectors 0 and 2 and the stamp; a sync and reads; a body, the next gate, and its own gate once
 /// these are synced; a base, and the pick once it is.
-const CALLS: [Call; 32] = [
+const CALLS: &[Call] = &[
     Call::Write(0, 0),
     Call::Write(2, 0),
     Call::Sync,
@@ -50,30 +50,46 @@ const CALLS: [Call; 32] = [
     Call::Sync,
 ];
 
-/// A journal of a call of two persons and of a batch of 63 stops.
-fn journal_over<D: Disk + Drop>(rt: &impl Abort, disk: D) -> Journal<D> {
-    let mut journal = made(rt, disk, DEMO);
-    let call = Plain::Allot(16, 1, [0, 5], 0, 2).record();
-    assert!(rt; add(&mut journal, &[call], Ok(())));
-    assert!(rt; add(&mut journal, &Batch::Stops(1, 63).records(), Ok(())));
-    journal
+/// Whether a journal is made of a call of two persons and of a batch of 63 stops, and then of the
+/// checkpoints of these registers.
+fn are_added<D: Disk>(journal: &mut Journal<D>, registers: &[&Register]) -> bool {
+    let call = Plain::Allot((16, 1, [0, 5], 0, 2)).record();
+    let mut all = add(journal, &[call], Ok(()));
+    all = add_batch(journal, &Batch::Stops(1, 63), Ok(())) & all;
+    for register in registers {
+        all = (journal.replace(register) == Ok(())) & all;
+    }
+    all
+}
+
+/// What is left of its device.
+fn left_of<D: Disk + Drop>(disk: D, registers: &[&Register]) -> Option<D> {
+    let mut journal = made(disk, DEMO)?;
+    if are_added(&mut journal, registers) {
+        Some(journal.into_disk())
+    } else {
+        None
+    }
+}
+
+/// Whether the calls of the device stand in this order.
+fn are_in_order<D: Disk + Drop>(inner: D, registers: &[&Register]) -> bool {
+    let calls = ArrayVec::new();
+    match left_of(NotingDisk { inner, calls }, registers) {
+        Some(disk) => disk.calls.as_slice() == CALLS,
+        None => false,
+    }
 }
 
 #[test]
 fn the_calls_stand_in_this_order(rt: HostRuntime) {
-    let disk = NotingDisk {
-        inner: memory(&rt, 130),
-        calls: ArrayVec::new(),
-    };
-    let mut journal = journal_over(&rt, disk);
-    assert!(rt; journal.replace(&small(&rt, 31)) == Ok(()));
-    assert!(rt; journal.replace(&small(&rt, 32)) == Ok(()));
-    assert!(rt; journal.into_disk().calls.as_slice() == CALLS.as_slice());
+    let (first, second) = (small(&rt, 31), small(&rt, 32));
+    assert!(rt; are_in_order(memory(&rt, 130), &[&first, &second]));
 }
 
 /// The sectors that are written and what they hold, beside the stops: the call after the header of
 /// its batch; car A's last stop and the count of calls done after the header of the checkpoint.
-const SECTORS: [(u32, &[[u8; 16]]); 9] = [
+const SECTORS: &[(u32, &[[u8; 16]])] = &[
     (0, &[OPEN]),
     (1, &[STAMP]),
     (2, &[OPEN]),
@@ -109,15 +125,25 @@ fn stops_sectors() -> ([u8; 512], [u8; 512]) {
     (text_of(&first), text_of(&second))
 }
 
-/// The call, the stops, and a checkpoint of car A's last stop in the second half.
-#[test]
-fn the_bytes_are_spelled(rt: HostRuntime) {
-    let mut journal = journal_over(&rt, memory(&rt, 130));
-    assert!(rt; journal.replace(&small(&rt, 31)) == Ok(()));
-    let mut disk = journal.into_disk();
-    for (sector, pieces) in &SECTORS {
-        assert!(rt; holds(&mut disk, *sector, &text_of(pieces)));
+/// Whether a device has the call, the stops, and the checkpoint in the second half.
+fn are_spelled<D: Disk>(disk: &mut D) -> bool {
+    let mut all = true;
+    for (sector, pieces) in SECTORS {
+        all = holds(disk, *sector, &text_of(pieces)) & all;
     }
     let (first, second) = stops_sectors();
-    assert!(rt; holds(&mut disk, 5, &first) & holds(&mut disk, 6, &second));
+    all & holds(disk, 5, &first) & holds(disk, 6, &second)
+}
+
+/// Whether it has them once they were made.
+fn are_made<D: Disk + Drop>(disk: D, register: &Register) -> bool {
+    match left_of(disk, &[register]) {
+        Some(mut disk) => are_spelled(&mut disk),
+        None => false,
+    }
+}
+
+#[test]
+fn the_bytes_are_spelled(rt: HostRuntime) {
+    assert!(rt; are_made(memory(&rt, 130), &small(&rt, 31)));
 }

@@ -3,7 +3,6 @@ use crate::journal::records::{Batch, as_batch};
 use lift_base::{Record, Shape};
 use lift_disk::Disk;
 use lift_journal::{Cursor, Journal, JournalFault, format};
-use std::process::Abort;
 
 /// Whether a device is large enough, and is formatted.
 pub(crate) fn make<D: Disk>(disk: &mut D, shape: Shape) -> bool {
@@ -16,14 +15,13 @@ pub(crate) fn make<D: Disk>(disk: &mut D, shape: Shape) -> bool {
     format(disk, shape).is_ok()
 }
 
-pub(crate) fn opened<D: Disk + Drop>(rt: &impl Abort, disk: D) -> Journal<D> {
-    Journal::open(disk).ok().expect(rt, "a journal")
-}
-
-/// An empty journal on a device.
-pub(crate) fn made<D: Disk + Drop>(rt: &impl Abort, mut disk: D, shape: Shape) -> Journal<D> {
-    assert!(rt; make(&mut disk, shape));
-    opened(rt, disk)
+/// An empty journal on a device, where that is large enough.
+pub(crate) fn made<D: Disk + Drop>(mut disk: D, shape: Shape) -> Option<Journal<D>> {
+    if make(&mut disk, shape) {
+        Journal::open(disk).ok()
+    } else {
+        None
+    }
 }
 
 /// Whether the journal takes these records, and their append ends so.
@@ -38,23 +36,33 @@ pub(crate) fn add<D: Disk>(
     }
 }
 
+/// Whether the append of this batch ends so.
+pub(crate) fn add_batch<D: Disk>(
+    journal: &mut Journal<D>,
+    batch: &Batch,
+    end: Result<(), JournalFault>,
+) -> bool {
+    add(journal, &batch.records(), end)
+}
+
 /// Whether each of these batches is appended.
 pub(crate) fn add_all<D: Disk>(journal: &mut Journal<D>, batches: &[Batch]) -> bool {
     let mut all = true;
     for next in batches {
-        all = add(journal, &next.records(), Ok(())) & all;
+        all = add_batch(journal, next, Ok(())) & all;
     }
     all
 }
 
-/// Whether a cursor is at these records; it goes after them.
+/// Whether a cursor is at this batch; it goes after it.
 pub(crate) fn is_next<D: Disk>(
     journal: &mut Journal<D>,
     cursor: &mut Cursor,
-    records: &[Record],
+    batch: &Batch,
 ) -> bool {
+    let records = batch.records();
     match journal.next(cursor) {
-        Ok(Some(found)) => found.as_slice() == records,
+        Ok(Some(found)) => found.as_slice() == records.as_slice(),
         _ => false,
     }
 }
@@ -64,7 +72,7 @@ pub(crate) fn lists<D: Disk>(journal: &mut Journal<D>, batches: &[Batch]) -> boo
     let mut cursor = journal.first();
     let mut all = true;
     for next in batches {
-        all = is_next(journal, &mut cursor, &next.records()) & all;
+        all = is_next(journal, &mut cursor, next) & all;
     }
     for _ in 0..2 {
         all = matches!(journal.next(&mut cursor), Ok(None)) & all;

@@ -26,7 +26,7 @@ pub(crate) enum Batch {
 }
 
 fn stop(number: u32) -> Record {
-    Plain::Stop(0, number, 0, Dir::Up).record()
+    Plain::Stop((0, number, 0, Dir::Up)).record()
 }
 
 impl Batch {
@@ -42,8 +42,8 @@ impl Batch {
             }
             Batch::Calls => {
                 let mut calls = ArrayVec::new();
-                let _ = calls.try_push(Plain::Allot(16, 1, [0, 5], 0, 1).record());
-                let _ = calls.try_push(Plain::Allot(16, 2, [0, 5], 0, 15).record());
+                let _ = calls.try_push(Plain::Allot((16, 1, [0, 5], 0, 1)).record());
+                let _ = calls.try_push(Plain::Allot((16, 2, [0, 5], 0, 15)).record());
                 calls
             }
         }

@@ -1,7 +1,7 @@
 //! A call that is stopped, a power cut, and a recovery that is stopped too and begun again: in the
 //! end the journal lists what stood there before the call, or what the call was to leave.
 use crate::disk::calls::{memory, put};
-use crate::journal::listing::{add, lists, make, opened};
+use crate::journal::listing::{add_batch, lists, make};
 use crate::journal::records::{Batch, DEMO};
 use crate::journal::registers::{is_checkpoint, medium, small};
 use crate::journal::sectors::{OPEN, header, stop_bytes, text_of};
@@ -14,7 +14,7 @@ use std::process::Abort;
 const NEVER: u32 = 1_000;
 
 /// No power cut, or one that leaves this.
-const CUTS: [Option<Outcome>; 6] = [
+const CUTS: &[Option<Outcome>] = &[
     None,
     Some(Outcome::Keep),
     Some(Outcome::Lose),
@@ -23,14 +23,27 @@ const CUTS: [Option<Outcome>; 6] = [
     Some(Outcome::Fill(255)),
 ];
 
-/// Whether a journal of two batches of one stop each, in this version, is written.
-fn are_two_put(disk: &mut MemDisk, version: u8) -> bool {
-    let mut all = make(disk, DEMO);
-    for (gate, number) in [(2u32, 1u8), (4, 2)] {
-        let body = [header(version, 1, number), stop_bytes(number)];
-        all = put(disk, gate, &text_of(&[OPEN])) & put(disk, gate + 1, &text_of(&body)) & all;
+/// One of them.
+fn cut_at(place: usize) -> Option<Outcome> {
+    match CUTS.get(place % 6) {
+        Some(cut) => *cut,
+        None => None,
     }
-    put(disk, 6, &[0; 512]) & disk.sync().is_ok() & all
+}
+
+/// Whether a batch of one stop, in this version, is written.
+fn is_one_put(disk: &mut MemDisk, gate: u32, version: u8, number: u8) -> bool {
+    let body = [header(version, 1, number), stop_bytes(number)];
+    put(disk, gate, &text_of(&[OPEN])) & put(disk, gate.saturating_add(1), &text_of(&body))
+}
+
+/// Whether a journal of two of them is written.
+fn are_two_put(disk: &mut MemDisk, version: u8) -> bool {
+    make(disk, DEMO)
+        & is_one_put(disk, 2, version, 1)
+        & is_one_put(disk, 4, version, 2)
+        & put(disk, 6, &[0; 512])
+        & disk.sync().is_ok()
 }
 
 /// What a journal lists: batches, or the checkpoint of a register.
@@ -41,10 +54,10 @@ enum Listed<'a> {
 }
 
 /// Two batches of one stop each.
-const TWO: [Batch; 2] = [Batch::Stops(1, 1), Batch::Stops(2, 1)];
+const TWO: &[Batch] = &[Batch::Stops(1, 1), Batch::Stops(2, 1)];
 
 /// The same and a batch of 63 stops.
-const THREE: [Batch; 3] = [Batch::Stops(1, 1), Batch::Stops(2, 1), Batch::Stops(3, 63)];
+const THREE: &[Batch] = &[Batch::Stops(1, 1), Batch::Stops(2, 1), Batch::Stops(3, 63)];
 
 /// A call of the journal.
 #[derive(Clone, Copy)]
@@ -81,6 +94,10 @@ impl Work<'_> {
     }
 }
 
+fn opened<D: Disk + Drop>(rt: &impl Abort, disk: D) -> Journal<D> {
+    Journal::open(disk).ok().expect(rt, "a journal")
+}
+
 /// Whether the journal lists this, batch by batch.
 fn shows<D: Disk>(journal: &mut Journal<D>, listed: &Listed) -> bool {
     match listed {
@@ -97,7 +114,7 @@ fn goes_on<D: Disk>(
 ) -> bool {
     match listed {
         Listed::Batches(batches) => match batches.last() {
-            Some(last) => add(journal, &last.records(), end),
+            Some(last) => add_batch(journal, last, end),
             None => false,
         },
         Listed::Checkpoint(register) => journal.replace(register) == end,
@@ -139,6 +156,17 @@ impl Failures {
     }
 }
 
+impl Work<'_> {
+    /// How many calls of the device the recovery makes.
+    fn calls_of_recovery(&self, failures: &Failures) -> u32 {
+        if self.is_done(failures.work, failures.cut.unwrap_or(Outcome::Keep)) {
+            self.calls_after
+        } else {
+            self.calls_before
+        }
+    }
+}
+
 /// Prepares the work, and makes its call, which fails exactly where a call of the device does.
 fn stopped<R: FaultRule>(
     rt: &impl Abort,
@@ -157,31 +185,52 @@ fn stopped<R: FaultRule>(
     journal
 }
 
-/// Begins a recovery on a device that is to fail: reopens the journal where no power is cut, else
-/// opens what the cut leaves. An `Err` is a fault of the device, and hands it back.
-fn recover<R: FaultRule>(
+/// Reopens the journal on a device that is to fail. An `Err` is a fault of the device, and hands it
+/// back.
+fn reopened<D: Arm + Drop>(
     rt: &impl Abort,
-    mut journal: Journal<FailingDisk<R>>,
-    failures: &Failures,
-) -> Result<Journal<FailingDisk<R>>, FailingDisk<R>> {
-    let calls = failures.recovery.saturating_sub(failures.less);
-    let Some(outcome) = failures.cut else {
-        journal.arm(calls);
-        return match journal.reopen() {
-            Ok(()) => Ok(journal),
-            Err(fault) => {
-                assert!(rt; fault == JournalFault::Disk);
-                Err(journal.into_disk())
-            }
-        };
-    };
-    let mut device = FailingDisk::new(journal.into_disk().into_inner().cut(outcome));
+    mut journal: Journal<D>,
+    calls: u32,
+) -> Result<Journal<D>, D> {
+    journal.arm(calls);
+    match journal.reopen() {
+        Ok(()) => Ok(journal),
+        Err(fault) => {
+            assert!(rt; fault == JournalFault::Disk);
+            Err(journal.into_disk())
+        }
+    }
+}
+
+/// Opens the journal on such a device likewise.
+fn opened_again<D: Arm + Drop>(
+    rt: &impl Abort,
+    mut device: D,
+    calls: u32,
+) -> Result<Journal<D>, D> {
     device.arm(calls);
     match Journal::open(device) {
         Ok(journal) => Ok(journal),
         Err((device, fault)) => {
             assert!(rt; fault == JournalFault::Disk);
             Err(device)
+        }
+    }
+}
+
+/// Begins a recovery on a device that is to fail: reopens the journal where no power is cut, else
+/// opens what the cut leaves.
+fn recover<R: FaultRule>(
+    rt: &impl Abort,
+    journal: Journal<FailingDisk<R>>,
+    failures: &Failures,
+) -> Result<Journal<FailingDisk<R>>, FailingDisk<R>> {
+    let calls = failures.recovery.saturating_sub(failures.less);
+    match failures.cut {
+        None => reopened(rt, journal, calls),
+        Some(outcome) => {
+            let device = FailingDisk::new(journal.into_disk().into_inner().cut(outcome));
+            opened_again(rt, device, calls)
         }
     }
 }
@@ -210,6 +259,13 @@ fn recovered<R: FaultRule>(
     }
 }
 
+/// Whether the journal lists what the call was to leave, where it is done; else what stood there
+/// before it, from which it goes on to that.
+fn is_right<D: Disk>(journal: &mut Journal<D>, work: &Work, is_done: bool) -> bool {
+    let is_there = is_done || shows(journal, &work.before) & goes_on(journal, &work.after, Ok(()));
+    is_there & shows(journal, &work.after)
+}
+
 /// One of the calls fails, the recovery's too, and then none.
 fn stop_at<R: FaultRule>(
     rt: &impl Abort,
@@ -218,20 +274,10 @@ fn stop_at<R: FaultRule>(
     failures: &Failures,
 ) -> MemDisk {
     let journal = stopped::<R>(rt, disk, work, failures);
-    let was_done = work.is_done(failures.work, failures.cut.unwrap_or(Outcome::Keep));
-    let calls = if was_done {
-        work.calls_after
-    } else {
-        work.calls_before
-    };
-    let mut journal = recovered(rt, journal, failures, calls);
+    let mut journal = recovered(rt, journal, failures, work.calls_of_recovery(failures));
     journal.arm(NEVER);
-    if !work.is_done(failures.work, failures.outcome()) {
-        assert!(rt; shows(&mut journal, &work.before));
-        // it goes on from there
-        assert!(rt; goes_on(&mut journal, &work.after, Ok(())));
-    }
-    assert!(rt; shows(&mut journal, &work.after));
+    let is_done = work.is_done(failures.work, failures.outcome());
+    assert!(rt; is_right(&mut journal, work, is_done));
     journal.into_disk().into_inner().cut(Outcome::Keep)
 }
 
@@ -241,11 +287,11 @@ fn stop_at<R: FaultRule>(
 fn stop_recoveries(rt: &impl Abort, mut disk: MemDisk, work: &Work, first: &Failures) -> MemDisk {
     let calls = work.calls_before.max(work.calls_after);
     for turn in 0..calls.saturating_add(6) {
-        let (mut recovery, mut cut_again) = (1, CUTS[turn as usize % 6]);
+        let (mut recovery, mut cut_again) = (1, cut_at(turn as usize));
         if turn >= 6 {
             recovery = turn - 4;
             let place = first.work.wrapping_add(recovery) as usize;
-            cut_again = CUTS[place % 6];
+            cut_again = cut_at(place);
         }
         let fuse = Failures {
             recovery,
@@ -266,7 +312,7 @@ fn stop_all<R: AllocGlobal + Abort>(rt: &R, work: &Work) {
         for cut in CUTS {
             let first = Failures {
                 work: failed,
-                cut,
+                cut: *cut,
                 recovery: 1,
                 cut_again: None,
                 less: 1,
@@ -284,8 +330,8 @@ fn a_long_append_recovers(rt: HostRuntime) {
     for version in [1, 2] {
         let work = Work {
             version,
-            before: Listed::Batches(&TWO),
-            after: Listed::Batches(&THREE),
+            before: Listed::Batches(TWO),
+            after: Listed::Batches(THREE),
             calls: 6,
             calls_before: 8,
             calls_after: 11,
@@ -301,7 +347,7 @@ fn a_checkpoint_of_old_batches_recovers(rt: HostRuntime) {
     let register = small(&rt, 1);
     let work = Work {
         version: 1,
-        before: Listed::Batches(&TWO),
+        before: Listed::Batches(TWO),
         after: Listed::Checkpoint(&register),
         calls: 6,
         calls_before: 8,

@@ -34,7 +34,7 @@ fn register_of<R: AllocGlobal + Abort>(rt: &R, kiosks: u8, lasts: &[Plain]) -> R
     let mut register = Register::empty(DEMO);
     for car in 0..2 {
         for kiosk in 0..kiosks {
-            let row = Plain::Row(kiosk.saturating_add(16), 1, [1, 0], car, 1, false);
+            let row = Plain::Row((kiosk.saturating_add(16), 1, [1, 0], car, 1), false);
             take(rt, &mut register, &building, &row);
         }
     }
@@ -46,20 +46,20 @@ fn register_of<R: AllocGlobal + Abort>(rt: &R, kiosks: u8, lasts: &[Plain]) -> R
 
 /// A register of two records: the last command of car A, with this number, and no call done.
 pub(crate) fn small<R: AllocGlobal + Abort>(rt: &R, number: u32) -> Register {
-    register_of(rt, 0, &[Plain::LastStop(0, number, 0, Dir::Up)])
+    register_of(rt, 0, &[Plain::LastStop((0, number, 0, Dir::Up))])
 }
 
 /// Of two kiosks, and that no call is done.
-const LASTS: [Plain; 3] = [
-    Plain::LastCall(16, 40, [1, 0], 0, 1),
-    Plain::LastCall(17, 24, [1, 0], 0, 1),
+const LASTS: &[Plain] = &[
+    Plain::LastCall((16, 40, [1, 0], 0, 1)),
+    Plain::LastCall((17, 24, [1, 0], 0, 1)),
     Plain::Done(0),
 ];
 
 /// A register of 67 records, in two batches: 32 open calls for each of two cars, two last commands,
 /// and no call done.
 pub(crate) fn medium<R: AllocGlobal + Abort>(rt: &R) -> Register {
-    register_of(rt, 32, &LASTS)
+    register_of(rt, 32, LASTS)
 }
 
 /// The place after these records, where they are the register's from this place on.
