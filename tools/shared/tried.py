@@ -85,8 +85,8 @@ def limit_files(most):
 
 
 def serving(liftd, image, building, sessions=1000000, words=(), **around):
-    """`liftd serve`, with further words, at a free port: its process, its port, and what it said in place of serving, nothing where it serves. A port that
-    another program took meanwhile is no refusal: the next one is tried."""
+    """`liftd serve`, with further words, at a free port: its process, its port, and what it said in place of serving, nothing where it
+    serves. A port that another program took meanwhile is no refusal: the next one is tried."""
     while True:
         port = free_port()
         told = [liftd, "serve", image, building, "--port", str(port), "--sessions", str(sessions), *words]
