@@ -84,12 +84,12 @@ def limit_files(most):
         resource.setrlimit(resource.RLIMIT_FSIZE, (most, most))
 
 
-def serving(liftd, image, building, sessions=1000000, **around):
-    """`liftd serve` at a free port: its process, its port, and what it said in place of serving, nothing where it serves. A port that
-    another program took meanwhile is no refusal: the next one is tried."""
+def serving(liftd, image, building, sessions=1000000, words=(), **around):
+    """`liftd serve`, with further words, at a free port: its process, its port, and what it said in place of serving, nothing where it
+    serves. A port that another program took meanwhile is no refusal: the next one is tried."""
     while True:
         port = free_port()
-        told = [liftd, "serve", image, building, "--port", str(port), "--sessions", str(sessions)]
+        told = [liftd, "serve", image, building, "--port", str(port), "--sessions", str(sessions), *words]
         server = subprocess.Popen(told, stdout=subprocess.PIPE, stderr=subprocess.PIPE, **around)
         if server.stdout.readline() == f"serving {port}\n".encode():
             return server, port, ""

@@ -3,7 +3,6 @@
 mod ahead;
 mod callers;
 mod group;
-mod loopback;
 mod rests;
 mod serving;
 mod words;

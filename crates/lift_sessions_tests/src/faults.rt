@@ -1,290 +1,363 @@
-//! Sessions whose reader or writer fails or never ends, and sessions that come to a limit.
-use crate::served::Told;
-use crate::visits::{
-    AMPLE, CAR, CASE, Case, KIOSK, Last, PLAIN, Row, Streams, Visit, comes_out, successes,
-};
-use lift_base::Dir;
-use lift_kiosk::{End, Limits};
-use std::alloc::{AllocError, Global};
-use std::test::Fail;
+//! Sessions whose reader or writer fails or never ends, and sessions that come to a limit. A kiosk has
+//! two calls, and a line that is none between them; a car is told its stop at floor 0, and is idle
+//! after it.
 
-/// A kiosk's two calls, and a line that is none between them.
-const KIOSK_VISIT: Visit = Visit {
-    input: b"CALL 1 5\nHELLO\nCALL 2 6\n",
-    output: b"READY 0\nCAR A\nBAD\nCAR A\n",
-    ends: (2, Some(0)),
-    ..KIOSK
-};
+/// A reader that fails at one of its calls: the lines before it were answered. The text comes again
+/// and again.
+const READS: &str = "
+case a reader of a kiosk that fails after 0 to 8 calls
+each 0 9
+reply car A
+reply car A
+endless
+gives #
+kiosk CALL 1 5|HELLO|CALL 2 6|
+wrote READY 0|
+ended read 0
+case a reader of a kiosk that fails after 9 to 14 calls
+each 9 15
+reply car A
+reply car A
+endless
+gives #
+kiosk CALL 1 5|HELLO|CALL 2 6|
+wrote READY 0|CAR A|
+ended read 1 A
+case a reader of a kiosk that fails after 15 to 23 calls
+each 15 24
+reply car A
+reply car A
+endless
+gives #
+kiosk CALL 1 5|HELLO|CALL 2 6|
+wrote READY 0|CAR A|BAD|
+ended read 1 A
+case a reader of a kiosk that fails after 24 to 29 calls
+each 24 30
+reply car A
+reply car A
+endless
+gives #
+kiosk CALL 1 5|HELLO|CALL 2 6|
+wrote READY 0|CAR A|BAD|CAR A|
+ended read 2 A
+case a reader of a car that fails after 0 to 10 calls
+each 0 11
+reply placed 0 up
+reply stopped
+endless
+gives #
+car PLACE 0 up|HELLO|STOP 1 0 up|
+wrote READY 0|
+ended read 0
+case a reader of a car that fails after 11 to 16 calls
+each 11 17
+reply placed 0 up
+reply stopped
+endless
+gives #
+car PLACE 0 up|HELLO|STOP 1 0 up|
+wrote READY 0|NEXT 0 up|
+ended read 0
+case a reader of a car that fails after 17 to 28 calls
+each 17 29
+reply placed 0 up
+reply stopped
+endless
+gives #
+car PLACE 0 up|HELLO|STOP 1 0 up|
+wrote READY 0|NEXT 0 up|BAD|
+ended read 0
+case a reader of a car that fails after 29 to 34 calls
+each 29 35
+reply placed 0 up
+reply stopped
+endless
+gives #
+car PLACE 0 up|HELLO|STOP 1 0 up|
+wrote READY 0|NEXT 0 up|BAD|IDLE|
+ended read 1
+";
 
-const KIOSK_CASE: Case = Case {
-    replies: &[Told::Car(0), Told::Car(0)],
-    ..CASE
-};
-
-/// A car is told its stop at floor 0, and is idle after it.
-const CAR_VISIT: Visit = Visit {
-    input: b"PLACE 0 up\nHELLO\nSTOP 1 0 up\n",
-    output: b"READY 0\nNEXT 0 up\nBAD\nIDLE\n",
-    ends: (1, None),
-    ..CAR
-};
-
-const CAR_CASE: Case = Case {
-    replies: &[Told::Placed(Some((0, Dir::Up))), Told::Stopped(None)],
-    ..CASE
-};
-
-/// Where a session ends early: this many bytes were written, and this command is known to be in.
-fn ends_so(
-    alloc: Global,
-    is_of_car: bool,
-    (streams, limits): (Streams, Limits),
-    (most, end, ends): (usize, End, Last),
-) -> Result<bool, AllocError> {
-    let (mut case, mut visit) = (KIOSK_CASE, KIOSK_VISIT);
-    if is_of_car {
-        case = CAR_CASE;
-        visit = CAR_VISIT;
-    }
-    case.streams = streams;
-    case.limits = limits;
-    visit.most = most;
-    visit.end = end;
-    visit.ends = ends;
-    comes_out(alloc, &case, &[visit])
+pub(crate) fn reads() -> &'static str {
+    READS
 }
 
-/// After at least this many calls of the reader, and fewer than this many, this many bytes are
-/// written, and this command is known to be in.
-const READS: [(bool, u64, u64, usize, Last); 8] = [
-    (false, 0, 9, 8, (0, None)),
-    (false, 9, 15, 14, (1, Some(0))),
-    (false, 15, 24, 18, (1, Some(0))),
-    (false, 24, 30, 24, (2, Some(0))),
-    (true, 0, 11, 8, (0, None)),
-    (true, 11, 17, 18, (0, None)),
-    (true, 17, 29, 22, (0, None)),
-    (true, 29, 35, 27, (1, None)),
-];
+/// A writer that fails, or takes nothing more, after so many bytes: these were written, and what was
+/// heard counts.
+const WRITES: &str = "
+case a writer of a kiosk that takes nothing after 0 to 7 bytes
+each 0 8
+reply car A
+reply car A
+takes #
+kiosk CALL 1 5|HELLO|CALL 2 6|
+wrote READY 0|CAR A|BAD|CAR A|
+ended write 0
+case a writer of a kiosk that fails after 0 to 7 bytes
+each 0 8
+reply car A
+reply car A
+takes #
+fails
+kiosk CALL 1 5|HELLO|CALL 2 6|
+wrote READY 0|CAR A|BAD|CAR A|
+ended write 0
+case a writer of a kiosk that takes nothing after 8 to 17 bytes
+each 8 18
+reply car A
+reply car A
+takes #
+kiosk CALL 1 5|HELLO|CALL 2 6|
+wrote READY 0|CAR A|BAD|CAR A|
+ended write 1 A
+case a writer of a kiosk that fails after 8 to 17 bytes
+each 8 18
+reply car A
+reply car A
+takes #
+fails
+kiosk CALL 1 5|HELLO|CALL 2 6|
+wrote READY 0|CAR A|BAD|CAR A|
+ended write 1 A
+case a writer of a kiosk that takes nothing after 18 to 23 bytes
+each 18 24
+reply car A
+reply car A
+takes #
+kiosk CALL 1 5|HELLO|CALL 2 6|
+wrote READY 0|CAR A|BAD|CAR A|
+ended write 2 A
+case a writer of a kiosk that fails after 18 to 23 bytes
+each 18 24
+reply car A
+reply car A
+takes #
+fails
+kiosk CALL 1 5|HELLO|CALL 2 6|
+wrote READY 0|CAR A|BAD|CAR A|
+ended write 2 A
+case a writer of a car that takes nothing after 0 to 21 bytes
+each 0 22
+reply placed 0 up
+reply stopped
+takes #
+car PLACE 0 up|HELLO|STOP 1 0 up|
+wrote READY 0|NEXT 0 up|BAD|IDLE|
+ended write 0
+case a writer of a car that fails after 0 to 21 bytes
+each 0 22
+reply placed 0 up
+reply stopped
+takes #
+fails
+car PLACE 0 up|HELLO|STOP 1 0 up|
+wrote READY 0|NEXT 0 up|BAD|IDLE|
+ended write 0
+case a writer of a car that takes nothing after 22 to 26 bytes
+each 22 27
+reply placed 0 up
+reply stopped
+takes #
+car PLACE 0 up|HELLO|STOP 1 0 up|
+wrote READY 0|NEXT 0 up|BAD|IDLE|
+ended write 1
+case a writer of a car that fails after 22 to 26 bytes
+each 22 27
+reply placed 0 up
+reply stopped
+takes #
+fails
+car PLACE 0 up|HELLO|STOP 1 0 up|
+wrote READY 0|NEXT 0 up|BAD|IDLE|
+ended write 1
+";
 
-/// A reader that fails at one of its calls: the lines before it were answered.
-#[test]
-fn readers_fail(rt: HostRuntime) -> Result<(), Fail> {
-    for (is_of_car, from, to, whole, ends) in &READS {
-        for calls in *from..*to {
-            let streams = Streams {
-                is_endless: true,
-                calls,
-                ..PLAIN
-            };
-            let wanted = (*whole, End::ReadFault, *ends);
-            let is_so = ends_so(rt.alloc(), *is_of_car, (streams, AMPLE), wanted)?;
-            assert!(rt; is_so, "{is_of_car} at {calls}");
-        }
-    }
-    Ok(())
+pub(crate) fn writes() -> &'static str {
+    WRITES
 }
 
-/// Where the writer took at least this many bytes, and fewer than this many, this command is known
-/// to be in.
-const WRITES: [(bool, usize, usize, Last); 5] = [
-    (false, 0, 8, (0, None)),
-    (false, 8, 18, (1, Some(0))),
-    (false, 18, 24, (2, Some(0))),
-    (true, 0, 22, (0, None)),
-    (true, 22, 27, (1, None)),
-];
+/// So many lines, and so many calls of the reader.
+const LIMITS: &str = "
+case a kiosk with 0 lines and 100 calls
+reply car A
+reply car A
+lines 0
+reads 100
+kiosk CALL 1 5|HELLO|CALL 2 6|
+wrote READY 0|
+ended limit 0
+case a kiosk with 1 lines and 100 calls
+reply car A
+reply car A
+lines 1
+reads 100
+kiosk CALL 1 5|HELLO|CALL 2 6|
+wrote READY 0|CAR A|
+ended limit 1 A
+case a kiosk with 3 lines and 24 calls
+reply car A
+reply car A
+lines 3
+reads 24
+kiosk CALL 1 5|HELLO|CALL 2 6|
+wrote READY 0|CAR A|BAD|CAR A|
+ended limit 2 A
+case a kiosk with 4 lines and 24 calls
+reply car A
+reply car A
+lines 4
+reads 24
+kiosk CALL 1 5|HELLO|CALL 2 6|
+wrote READY 0|CAR A|BAD|CAR A|
+ended limit 2 A
+case a kiosk with 4 lines and 25 calls
+reply car A
+reply car A
+lines 4
+reads 25
+kiosk CALL 1 5|HELLO|CALL 2 6|
+wrote READY 0|CAR A|BAD|CAR A|
+ended closed 2 A
+case a kiosk with 4 lines and 23 calls
+reply car A
+reply car A
+lines 4
+reads 23
+kiosk CALL 1 5|HELLO|CALL 2 6|
+wrote READY 0|CAR A|BAD|
+ended limit 1 A
+case a kiosk with 4 lines and 8 calls
+reply car A
+reply car A
+lines 4
+reads 8
+kiosk CALL 1 5|HELLO|CALL 2 6|
+wrote READY 0|
+ended limit 0
+case a kiosk with 4 lines and 0 calls
+reply car A
+reply car A
+lines 4
+reads 0
+kiosk CALL 1 5|HELLO|CALL 2 6|
+wrote READY 0|
+ended limit 0
+case a car with 0 lines and 100 calls
+reply placed 0 up
+reply stopped
+lines 0
+reads 100
+car PLACE 0 up|HELLO|STOP 1 0 up|
+wrote READY 0|
+ended limit 0
+case a car with 1 lines and 100 calls
+reply placed 0 up
+reply stopped
+lines 1
+reads 100
+car PLACE 0 up|HELLO|STOP 1 0 up|
+wrote READY 0|NEXT 0 up|
+ended limit 0
+case a car with 3 lines and 29 calls
+reply placed 0 up
+reply stopped
+lines 3
+reads 29
+car PLACE 0 up|HELLO|STOP 1 0 up|
+wrote READY 0|NEXT 0 up|BAD|IDLE|
+ended limit 1
+case a car with 4 lines and 29 calls
+reply placed 0 up
+reply stopped
+lines 4
+reads 29
+car PLACE 0 up|HELLO|STOP 1 0 up|
+wrote READY 0|NEXT 0 up|BAD|IDLE|
+ended limit 1
+case a car with 4 lines and 30 calls
+reply placed 0 up
+reply stopped
+lines 4
+reads 30
+car PLACE 0 up|HELLO|STOP 1 0 up|
+wrote READY 0|NEXT 0 up|BAD|IDLE|
+ended closed 1
+case a car with 4 lines and 28 calls
+reply placed 0 up
+reply stopped
+lines 4
+reads 28
+car PLACE 0 up|HELLO|STOP 1 0 up|
+wrote READY 0|NEXT 0 up|BAD|
+ended limit 0
+";
 
-/// A writer that fails, or takes nothing more, after this many bytes: these were written, and what
-/// was heard counts.
-#[test]
-fn writers_fail(rt: HostRuntime) -> Result<(), Fail> {
-    for (is_of_car, from, to, ends) in &WRITES {
-        for room in *from..*to {
-            for kind in 0..2u8 {
-                let streams = Streams {
-                    room,
-                    fails: kind == 1,
-                    ..PLAIN
-                };
-                let wanted = (room, End::WriteFault, *ends);
-                let is_so = ends_so(rt.alloc(), *is_of_car, (streams, AMPLE), wanted)?;
-                assert!(rt; is_so, "{is_of_car} at {room}");
-            }
-        }
-    }
-    Ok(())
+pub(crate) fn limits() -> &'static str {
+    LIMITS
 }
 
-/// With this many lines, and this many calls of the reader, this many bytes are written.
-const LIMITS: [(bool, u32, u32, usize, End, Last); 14] = [
-    (false, 0, 100, 8, End::Limit, (0, None)),
-    (false, 1, 100, 14, End::Limit, (1, Some(0))),
-    (false, 3, 24, 24, End::Limit, (2, Some(0))),
-    (false, 4, 24, 24, End::Limit, (2, Some(0))),
-    (false, 4, 25, 24, End::Closed, (2, Some(0))),
-    (false, 4, 23, 18, End::Limit, (1, Some(0))),
-    (false, 4, 8, 8, End::Limit, (0, None)),
-    (false, 4, 0, 8, End::Limit, (0, None)),
-    (true, 0, 100, 8, End::Limit, (0, None)),
-    (true, 1, 100, 18, End::Limit, (0, None)),
-    (true, 3, 29, 27, End::Limit, (1, None)),
-    (true, 4, 29, 27, End::Limit, (1, None)),
-    (true, 4, 30, 27, End::Closed, (1, None)),
-    (true, 4, 28, 22, End::Limit, (0, None)),
-];
+/// The text of each reader comes again and again, and a limit ends the session.
+const ENDLESS: &str = "
+case a line without an end
+kiosk #
+wrote READY 0|
+ended limit 0
+case lines without end
+lines 3
+looks 2
+reads 100
+kiosk |
+wrote READY 0|BAD|BAD|BAD|
+ended limit 0
+case a car's line without an end
+lines 3
+looks 2
+reads 100
+car #
+wrote READY 0|
+ended limit 0
+case its lines without end
+lines 3
+looks 2
+reads 100
+car |
+wrote READY 0|BAD|BAD|BAD|
+ended limit 0
+case commands without end
+reply placed 0 up
+reply stopped
+lines 3
+looks 2
+reads 100
+car PLACE 0 up|
+wrote READY 0|NEXT 0 up|IDLE|UNKNOWN|
+ended limit 0
+";
 
-/// Lines, and calls of the reader.
-#[test]
-fn limits_end_a_session(rt: HostRuntime) -> Result<(), Fail> {
-    for (is_of_car, lines, reads, whole, end, ends) in &LIMITS {
-        let limits = Limits {
-            lines: *lines,
-            looks: 2,
-            reads: *reads,
-        };
-        let wanted = (*whole, *end, *ends);
-        let is_so = ends_so(rt.alloc(), *is_of_car, (PLAIN, limits), wanted)?;
-        assert!(rt; is_so, "{is_of_car}: {lines} and {reads}");
-    }
-    Ok(())
+pub(crate) fn endless() -> &'static str {
+    ENDLESS
 }
-
-/// The text of each reader comes again and again.
-const ENDLESS: Streams = Streams {
-    is_endless: true,
-    ..PLAIN
-};
-
-const FEW: Limits = Limits {
-    lines: 3,
-    looks: 2,
-    reads: 100,
-};
-
-const ENDLESS_INPUTS: [Row; 5] = [
-    // a line without an end
-    (
-        Case {
-            streams: ENDLESS,
-            ..CASE
-        },
-        &[Visit {
-            input: b"#",
-            output: b"READY 0\n",
-            end: End::Limit,
-            ..KIOSK
-        }],
-    ),
-    // lines without end
-    (
-        Case {
-            streams: ENDLESS,
-            limits: FEW,
-            ..CASE
-        },
-        &[Visit {
-            input: b"\n",
-            output: b"READY 0\nBAD\nBAD\nBAD\n",
-            end: End::Limit,
-            ..KIOSK
-        }],
-    ),
-    (
-        Case {
-            streams: ENDLESS,
-            limits: FEW,
-            ..CASE
-        },
-        &[Visit {
-            input: b"#",
-            output: b"READY 0\n",
-            end: End::Limit,
-            ..CAR
-        }],
-    ),
-    (
-        Case {
-            streams: ENDLESS,
-            limits: FEW,
-            ..CASE
-        },
-        &[Visit {
-            input: b"\n",
-            output: b"READY 0\nBAD\nBAD\nBAD\n",
-            end: End::Limit,
-            ..CAR
-        }],
-    ),
-    // commands without end
-    (
-        Case {
-            streams: ENDLESS,
-            limits: FEW,
-            ..CAR_CASE
-        },
-        &[Visit {
-            input: b"PLACE 0 up\n",
-            output: b"READY 0\nNEXT 0 up\nIDLE\nUNKNOWN\n",
-            end: End::Limit,
-            ..CAR
-        }],
-    ),
-];
-
-/// A session's limits end it.
-#[test]
-fn endless_readers(rt: HostRuntime) -> Result<(), Fail> {
-    assert_eq!(rt;
-        successes(rt.alloc(), &ENDLESS_INPUTS)?,
-        ENDLESS_INPUTS.len()
-    );
-    Ok(())
-}
-
-const LONG: [Row; 2] = [
-    // a session takes a line of a million bytes as one
-    (
-        Case {
-            streams: Streams {
-                filling: 900_000,
-                ..PLAIN
-            },
-            ..KIOSK_CASE
-        },
-        &[Visit {
-            input: b"\nCALL 1 5\n",
-            output: b"READY 0\nBAD\nCAR A\n",
-            ends: (1, Some(0)),
-            ..KIOSK
-        }],
-    ),
-    // after 1,048,575 asks no turn is left, for lines of kiosks and for lines of cars
-    (
-        Case {
-            rounds: 1_048_575,
-            ..CASE
-        },
-        &[
-            Visit {
-                input: b"HELLO\nCALL 1 64\nCALL 1 5\nCALL 1 5\n",
-                output: b"READY 0\nBAD\nNO 1\nSPENT\n",
-                end: End::Spent,
-                ..KIOSK
-            },
-            Visit {
-                input: b"HELLO\nPLACE 64 up\nSTOP 1 5 up\nSTOP 1 5 up\n",
-                output: b"READY 0\nBAD\nNO 1\nSPENT\n",
-                end: End::Spent,
-                ..CAR
-            },
-        ],
-    ),
-];
 
 /// A long line, and a seat whose turns run out.
-#[test]
-fn long_sessions(rt: HostRuntime) -> Result<(), Fail> {
-    assert_eq!(rt; successes(rt.alloc(), &LONG)?, 2);
-    Ok(())
+const LONG: &str = "
+case a session takes a line of a million bytes as one
+reply car A
+reply car A
+filled 900000
+kiosk |CALL 1 5|
+wrote READY 0|BAD|CAR A|
+ended closed 1 A
+case after 1,048,575 asks no turn is left, for lines of kiosks and for lines of cars
+used 1048575
+kiosk HELLO|CALL 1 64|CALL 1 5|CALL 1 5|
+wrote READY 0|BAD|NO 1|SPENT|
+ended spent 0
+car HELLO|PLACE 64 up|STOP 1 5 up|STOP 1 5 up|
+wrote READY 0|BAD|NO 1|SPENT|
+ended spent 0
+";
+
+pub(crate) fn long() -> &'static str {
+    LONG
 }

@@ -13,8 +13,12 @@ mod faults;
 #[cfg(test)]
 mod kiosks;
 #[cfg(test)]
+mod recorder;
+#[cfg(test)]
+mod scenes;
+#[cfg(test)]
 mod served;
 #[cfg(test)]
 mod streams;
 #[cfg(test)]
-mod visits;
+mod words;

@@ -2,82 +2,40 @@
 ghost use Rattle.std.specs.Prelude.{◌≡◌, ◌<◌, length, vec_len, IfOk};
 ghost use Rattle.lift_desk.specs.Seats.{IsSeatOf, IsClerkOf, AreSeatsOf};
 
-use lift_base::{Body, Dir, Floor, Letter, Number, Party, Reason, Reply, Stop, Terminal};
-use lift_desk::{AskRefusal, ClerkSeat, Desk, DeskParts, Seat};
+use lift_base::{Body, Floor, Number, Party, Reply, Terminal};
+use lift_desk::{AskRefusal, ClerkSeat, Desk, DeskParts, Seat, ask_word, read_reply};
 use lift_kiosk::{DeskPort, Port};
 use std::alloc::{AllocError, Global};
 use std::cell::Cell;
 
-/// A reply, as tables name it.
-#[derive(Clone, Copy)]
-pub(crate) enum Told {
-    Car(u8),
-    Stopped(Option<(u8, Dir)>),
-    Placed(Option<(u8, Dir)>),
-    Refused(Reason),
-    Unknown,
-}
-
-/// An ask, as tables name it: its number first.
-#[derive(Clone, Copy, PartialEq, Eq)]
-pub(crate) enum Asked {
-    Call(u32, u8, u8),
-    Stop(u32, u8, Dir),
-    Place(u32, u8, Dir),
-}
-
-pub(crate) fn number(value: u32) -> Number {
-    Number::new(value).unwrap_or_default()
-}
-
-pub(crate) fn floor(number: u8) -> Floor {
-    Floor::new(number).unwrap_or_default()
-}
-
-pub(crate) fn car(index: u8) -> Letter {
-    Letter::new(index).unwrap_or_default()
-}
-
-fn stop_of(stop: Option<(u8, Dir)>) -> Option<Stop> {
-    let (at, dir) = stop?;
-    let floor = floor(at);
-    Some(Stop { floor, dir })
-}
-
 /// The reply of this place; Unknown after the last one.
-fn reply_at(replies: &[Told], place: usize) -> Reply {
-    match replies.get(place) {
-        Some(Told::Car(index)) => Reply::Car(car(*index)),
-        Some(Told::Stopped(stop)) => Reply::Stopped(stop_of(*stop)),
-        Some(Told::Placed(stop)) => Reply::Placed(stop_of(*stop)),
-        Some(Told::Refused(reason)) => Reply::Refused(*reason),
-        Some(Told::Unknown) | None => Reply::Unknown,
-    }
-}
-
-fn ask_of(number: Number, body: &Body) -> Asked {
-    let number = number.get();
-    match *body {
-        Body::Call(to, party) => Asked::Call(number, to.get(), party.get()),
-        Body::Stop(at, dir) => Asked::Stop(number, at.get(), dir),
-        Body::Place(at, dir) => Asked::Place(number, at.get(), dir),
+fn reply_at(replies: &[u64], place: usize) -> Reply {
+    let word = match replies.get(place) {
+        Some(word) => *word,
+        None => 0,
+    };
+    let read = read_reply(word);
+    match &read {
+        Some(reply) => *reply,
+        None => Reply::Unknown,
     }
 }
 
 /// A terminal's port at a desk of its own. The clerk looks when the port rests, and answers with
-/// the next of the replies.
+/// the next of the replies; with Unknown after the last one.
 #[derive(Drop)]
 pub(crate) struct Served<'d> {
     desk: &'d Desk,
     port: DeskPort<'d>,
     clerk: ClerkSeat,
-    replies: &'d [Told],
+    /// As the desk's words of the first turn.
+    replies: Vec<u64>,
     /// The clerk looks only after this many rests.
-    idle: u32,
-    /// What the clerk took.
-    pub taken: Vec<Asked>,
+    pub idle: u32,
+    /// What the clerk took, likewise.
+    pub taken: Vec<u64>,
     /// How many asks were tried.
-    asks: &'d Cell<usize>,
+    asks: &'d Cell<u32>,
     ghost clerk_at: { IsClerkOf desk.now clerk },
     ghost some: { 0 < length desk.now },
 }
@@ -88,9 +46,7 @@ impl<'d> Served<'d> {
         desk: &'d Desk,
         seat: Seat,
         clerk: ClerkSeat,
-        replies: &'d [Told],
-        idle: u32,
-        asks: &'d Cell<usize>,
+        asks: &'d Cell<u32>,
     ) -> Self
         requires seat { IsSeatOf desk.now seat }
         requires clerk { IsClerkOf desk.now clerk }
@@ -100,11 +56,18 @@ impl<'d> Served<'d> {
             desk,
             port: DeskPort::new(desk, seat),
             clerk,
-            replies,
-            idle,
+            replies: Vec::new(alloc),
+            idle: 0,
             taken: Vec::new(alloc),
             asks,
         }
+    }
+
+    /// The clerk's next reply, by its word. Whether there was memory for it.
+    pub(crate) fn add_reply(&mut self, word: u64) -> bool
+        ensures { self.new.port ≡ self.old.port }
+    {
+        self.replies.push(word).is_ok()
     }
 
     /// One turn of the clerk.
@@ -113,8 +76,8 @@ impl<'d> Served<'d> {
     {
         let terminal = Terminal::default();
         if let Some(ask) = self.desk.look(&mut self.clerk, terminal) {
-            let reply = reply_at(self.replies, self.taken.len());
-            let _kept = self.taken.push(ask_of(ask.number, &ask.body));
+            let reply = reply_at(self.replies.as_slice(), self.taken.len());
+            let _kept = self.taken.push(ask_word(1, ask.number, ask.body));
             self.desk.answer(&mut self.clerk, terminal, reply);
         }
     }
@@ -153,8 +116,8 @@ impl<'d> Port for Served<'d> {
 /// Asks and hears so often. Whether each ask was answered.
 pub(crate) fn use_turns(port: &mut Served, times: u32) -> bool {
     for _ in 0..times {
-        let body = Body::Call(floor(5), Party::default());
-        let is_stored = port.ask(number(1), body).is_ok();
+        let body = Body::Call(Floor::default(), Party::default());
+        let is_stored = port.ask(Number::default(), body).is_ok();
         port.turn();
         if port.hear().is_none() || !is_stored {
             return false;

@@ -8,10 +8,10 @@ fn fault() -> io::Error {
 
 /// Gives this text, a byte at each call, and fails at one call.
 #[derive(Drop)]
-pub(crate) struct Slow {
+pub(crate) struct Slow<'t> {
     /// This many letters C come before the text.
-    pub filling: usize,
-    pub text: &'static [u8],
+    pub filled: usize,
+    pub text: &'t [u8],
     pub given: usize,
     /// Whether the text comes again and again.
     pub is_endless: bool,
@@ -19,14 +19,14 @@ pub(crate) struct Slow {
     pub calls: u64,
 }
 
-impl Read for Slow {
+impl Read for Slow<'_> {
     fn read(&mut self, buf: &mut [u8]) -> io::Result<usize> {
         if self.calls == 0 {
             return Err(fault());
         }
         self.calls -= 1;
-        if self.filling > 0 && !buf.is_empty() {
-            self.filling -= 1;
+        if self.filled > 0 && !buf.is_empty() {
+            self.filled -= 1;
             buf[0] = b'C';
             return Ok(1);
         }

@@ -169,7 +169,7 @@ fn open_after<
     let words = Words::new();
     let building = demo(rt, alloc);
     let disk = Holding {
-        inner: formatted(rt, alloc, &building).into_inner(),
+        inner: formatted(rt, alloc, &building),
         words: &words,
     };
     let keeper = opened(rt, disk, &building);
@@ -178,8 +178,8 @@ fn open_after<
         rt,
         "a fault of serving",
     );
-    assert!(rt; words.followed.load(Ordering::SeqCst) == 1);
-    assert!(rt; !keeper.is_broken());
+    let is_followed = words.followed.load(Ordering::SeqCst) == 1;
+    assert!(rt; is_followed && !keeper.is_broken());
     keeper.register().open_count()
 }
 

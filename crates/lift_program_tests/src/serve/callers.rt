@@ -5,21 +5,16 @@ use std::io::{ErrorKind, Read, Write};
 use std::net::{Ipv4Addr, Net, Shutdown, SocketAddr, SocketAddrV4, TcpListener, TcpStream};
 use std::sync::atomic::Ordering;
 use std::thread;
-use std::time::{Clock, Duration, Instant};
+use std::time::{Clock, Duration};
 
 /// How long a connection waits for what it wants to hear, in seconds.
 const PATIENCE: u64 = 10;
 
 /// The connections that a script may have.
-const CALLERS: usize = 10;
+const CALLERS: usize = 5;
 
 /// The connections that end a server whose script went wrong.
 const LAST_ONES: u32 = 200;
-
-/// How long a kiosk tries to come back, and how long it waits between two tries, in milliseconds.
-const RETURN_MS: u64 = 1_000;
-
-const RETRY_MS: u64 = 20;
 
 /// How long a sync is held before the last connection ends, ms.
 const HELD_MS: u64 = 1_000;
@@ -67,67 +62,27 @@ fn is_gone(stream: &TcpStream, may_be_reset: bool) -> bool {
     }
 }
 
-/// The next byte, which stays unread; 0 where none comes. A connection that is let go then is reset.
-fn next_unread(stream: &TcpStream) -> u8 {
-    let mut heard = [0u8];
-    match stream.peek(&mut heard) {
-        Ok(1) => heard[0],
-        _ => 0,
-    }
-}
-
-/// Connects and says a line, again and again for a second while it is answered `BUSY`. The
-/// connection that is answered otherwise.
-fn comes_back<R: Clock + Net<Listener = TcpListener, Stream = TcpStream>>(
-    rt: &R,
-    port: u16,
-    text: &str,
-) -> Option<TcpStream> {
-    let begun = Instant::now(rt).ok()?;
-    for _ in 0..RETURN_MS / RETRY_MS {
-        let stream = connected(rt, port)?;
-        let is_said = says(&stream, text) && says(&stream, "\n");
-        let first = next_unread(&stream);
-        if !is_said || first == 0 || begun.elapsed(rt).ok()? > Duration::from_millis(RETURN_MS) {
-            return None;
-        }
-        if first != b'B' {
-            return Some(stream);
-        }
-        thread::sleep(rt, Duration::from_millis(RETRY_MS));
-    }
-    None
-}
-
 /// What a connection does that is there.
 fn does(stream: &TcpStream, kind: u8, text: &str) -> bool {
     match kind {
         b'>' => says(stream, text) && says(stream, "\n"),
-        b'~' => says(stream, text),
         b'<' => hears(stream, text.as_bytes()) && hears(stream, b"\n"),
-        b'.' => is_gone(stream, false),
         b'x' => is_gone(stream, true),
         b'-' => stream.shutdown(Shutdown::Write).is_ok() && is_gone(stream, false),
-        b'!' => next_unread(stream) != 0,
-        _ => false,
+        _ => kind == b'+',
     }
 }
 
-/// What is done beside the connections.
-fn waits<R: Clock + Net<Listener = TcpListener, Stream = TcpStream>>(
-    rt: &R,
-    port: u16,
-    words: &Words,
-    kind: u8,
-) -> bool {
+/// What is done beside the connections, where this is such a line.
+fn waits<R: Clock>(rt: &R, words: &Words, kind: u8) -> Option<bool> {
     match kind {
-        b'=' => end_server(rt, port, words),
-        b's' => return is_set(&words.held),
+        b's' => return Some(is_set(&words.held)),
         b'r' => words.released.store(1, Ordering::SeqCst),
         b'h' => thread::sleep(rt, Duration::from_millis(HELD_MS)),
-        _ => thread::sleep(rt, Duration::from_millis(COUNTED_MS)),
+        b'c' => thread::sleep(rt, Duration::from_millis(COUNTED_MS)),
+        _ => return None,
     }
-    true
+    Some(true)
 }
 
 /// Carries out one line of a script: a connection's digit, what it does, and the rest. Whether it is
@@ -143,21 +98,15 @@ fn follows_line<R: Clock + Net<Listener = TcpListener, Stream = TcpStream>>(
     let (Some(digit), Some(kind), Some(text)) = (bytes.first(), bytes.get(1), line.get(2..)) else {
         return false;
     };
+    if let Some(is_so) = waits(rt, words, *kind) {
+        return is_so;
+    }
     let caller = &mut callers[usize::from(digit.wrapping_sub(b'0')) % CALLERS];
-    match *kind {
-        b'+' => *caller = connected(rt, port),
-        b'*' => *caller = comes_back(rt, port, text),
-        b'=' | b's' | b'r' | b'h' | b'c' => return waits(rt, port, words, *kind),
-        _ => {}
+    if *kind == b'+' {
+        *caller = connected(rt, port);
     }
     match caller {
-        Some(stream) => {
-            let is_so = *kind == b'+' || *kind == b'*' || does(stream, *kind, text);
-            if *kind == b'!' {
-                *caller = None;
-            }
-            is_so
-        }
+        Some(stream) => does(stream, *kind, text),
         None => false,
     }
 }
@@ -177,18 +126,17 @@ fn end_server<R: Net<Listener = TcpListener, Stream = TcpStream>>(
 }
 
 /// Says that all went as the script has it; where it didn't, ends the server. Its lines: `1+`
-/// connection 1 is made; `1>TEXT` it says this line, `1~TEXT` these bytes; `1<TEXT` it hears just this
-/// line; `1.` it hears that the other end is closed, `1x` that, or that it is reset; `1-` it hears that
-/// after closing its own; `1!` it is reset; `1*TEXT` it is made and says this line, again for a second
-/// while it is `BUSY`; `1=` other connections are made and closed until the server has ended; `1s` a
-/// sync is held, `1h` a second goes by, `1c` an end is counted meanwhile, `1r` the sync is released.
+/// connection 1 is made; `1>TEXT` it says this line; `1<TEXT` it hears just this line; `1x` it hears
+/// that the other end is closed, or that it is reset; `1-` it hears the first after closing its own;
+/// `1s` a sync is held, `1h` a second goes by, `1c` an end is counted meanwhile, `1r` the sync is
+/// released.
 pub(crate) fn follow<R: Clock + Net<Listener = TcpListener, Stream = TcpStream>>(
     rt: &R,
     port: u16,
     words: &Words,
     script: &str,
 ) {
-    let mut callers = [None, None, None, None, None, None, None, None, None, None];
+    let mut callers = [None, None, None, None, None];
     for line in script.lines() {
         if !follows_line(rt, port, words, &mut callers, line) {
             words.released.store(1, Ordering::SeqCst);

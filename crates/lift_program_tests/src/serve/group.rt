@@ -2,7 +2,7 @@
 ghost use Rattle.std.specs.Prelude.{◌≡◌, []};
 
 use lift_building::Building;
-use lift_disk::{Disk, FuseDisk, MemDisk};
+use lift_disk::{Disk, MemDisk};
 use lift_journal::format;
 use lift_keeper::Keeper;
 use std::alloc::Global;
@@ -43,12 +43,12 @@ pub(crate) fn demo(rt: &impl Abort, alloc: Global) -> Building {
 }
 
 /// A device with an empty journal for a building.
-pub(crate) fn formatted(rt: &impl Abort, alloc: Global, building: &Building) -> FuseDisk {
+pub(crate) fn formatted(rt: &impl Abort, alloc: Global, building: &Building) -> MemDisk {
     let mut disk = MemDisk::new(alloc, 130).ok().expect(rt, "memory");
     format(&mut disk, building.shape(64))
         .ok()
         .expect(rt, "a fault");
-    FuseDisk::new(disk)
+    disk
 }
 
 /// The keeper that a device's journal begins with.

@@ -44,6 +44,21 @@ fn each_rest_takes_a_millisecond(rt: HostRuntime) {
     }
 }
 
+/// The shortest of the rests that an answer ends; each that comes after one takes a millisecond.
+fn shortest_answered<R: Wait + Clock + Abort>(
+    rt: &R,
+    pager: &Pager,
+    port: &DeskPort<'_>,
+) -> Duration {
+    let mut shortest = Duration::from_millis(1);
+    for _ in 0..RESTS {
+        assert!(rt; is_answered(pager, port));
+        shortest = shortest.min(rest(rt, pager));
+        assert!(rt; rest(rt, pager) >= Duration::from_millis(1));
+    }
+    shortest
+}
+
 /// An answer ends one rest and no more: what it woke is left behind it, and shortens none.
 #[test]
 fn an_answer_ends_one_rest(rt: HostRuntime) {
@@ -55,13 +70,22 @@ fn an_answer_ends_one_rest(rt: HostRuntime) {
     let seat = only_seat(&desk, &mut seats);
     let port = DeskPort::new(&desk, seat);
     let pager = Pager::new(Terminal::default());
-    let mut shortest = Duration::from_millis(1);
-    for _ in 0..RESTS {
-        assert!(rt; is_answered(&pager, &port));
-        shortest = shortest.min(rest(&rt, &pager));
-        assert!(rt; rest(&rt, &pager) >= Duration::from_millis(1));
+    assert!(rt; shortest_answered(&rt, &pager, &port) < Duration::from_millis(1));
+}
+
+/// The shortest of the rests of a terminal that asked and isn't answered.
+fn shortest_unanswered<R: Wait + Clock + Abort>(
+    rt: &R,
+    pager: &Pager,
+    port: &DeskPort<'_>,
+) -> Duration {
+    pager.asked(port, &mut RingCount::of(port));
+    assert!(rt; pager.scan_begins(1));
+    let mut shortest = rest(rt, pager);
+    for _ in 1..RESTS {
+        shortest = shortest.min(rest(rt, pager));
     }
-    assert!(rt; shortest < Duration::from_millis(1));
+    shortest
 }
 
 /// A rest whose answer doesn't come ends by itself, and takes no longer than it should. Each may
@@ -76,13 +100,7 @@ fn a_rest_waits_for_no_answer(rt: HostRuntime) {
     let seat = only_seat(&desk, &mut seats);
     let port = DeskPort::new(&desk, seat);
     let pager = Pager::new(Terminal::default());
-    pager.asked(&port, &mut RingCount::of(&port));
-    assert!(rt; pager.scan_begins(1));
-    let mut shortest = rest(&rt, &pager);
-    for _ in 1..RESTS {
-        shortest = shortest.min(rest(&rt, &pager));
-    }
-    assert!(rt; shortest < Duration::from_millis(10));
+    assert!(rt; shortest_unanswered(&rt, &pager, &port) < Duration::from_millis(10));
 }
 
 /// A system whose clock can't be read.

@@ -31,6 +31,13 @@ fn watch<R: Clock + Abort>(rt: &R, words: &Words) {
     panic!(rt; "serving has not ended");
 }
 
+/// A socket at a port that nobody has, with its number.
+fn bound<R: Net<Listener = TcpListener, Stream = TcpStream>>(rt: &R) -> Option<(TcpListener, u16)> {
+    let listener = TcpListener::bind(rt, address(0)).ok()?;
+    let port = listener.local_addr().ok()?.port();
+    Some((listener, port))
+}
+
 /// What gives back the keeper of a test.
 #[derive(Drop)]
 struct Own {
@@ -58,8 +65,7 @@ pub(crate) fn served<
 ) -> Option<Keeper<'b, D>>
     requires { keeper.state.batch ≡ [] }
 {
-    let listener = TcpListener::bind(rt, address(0)).ok()?;
-    let port = listener.local_addr().ok()?.port();
+    let (listener, port) = bound(rt)?;
     thread::scope(
         thread::scope_env(),
         rt,
@@ -67,13 +73,9 @@ pub(crate) fn served<
             requires sync { IsSync R.row }
             requires empty_batch { keeper.state.batch ≡ [] }
         {
-            if scope.spawn(move || watch(rt, words)).is_err() {
-                return None;
-            }
-            if scope
-                .spawn(move || follow(rt, port, words, script))
-                .is_err()
-            {
+            let is_watched = scope.spawn(move || watch(rt, words)).is_ok();
+            let is_followed = scope.spawn(move || follow(rt, port, words, script)).is_ok();
+            if !is_watched || !is_followed {
                 words.ended.store(1, Ordering::SeqCst);
                 return None;
             }

@@ -1,4 +1,0 @@
-//! Tests of `lift_program`.
-
-mod kept;
-mod streams;
