@@ -183,12 +183,13 @@ fn open_after<
     keeper.register().open_count()
 }
 
+/// A call is decided while a sync is held, and a letter comes after the last end.
 #[test]
-fn a_call_is_decided_while_a_sync_is_held(rt: HostRuntime) {
-    assert!(rt; open_after(&rt, rt.alloc(), 4, BOTH_CALL) == 2);
-}
-
-#[test]
-fn a_letter_comes_after_the_last_end(rt: HostRuntime) {
-    assert!(rt; open_after(&rt, rt.alloc(), 3, ONE_CALLS) == 1);
+fn letters_come_while_a_sync_is_held(rt: HostRuntime) {
+    for (sessions, script, calls) in [(4, BOTH_CALL, 2), (3, ONE_CALLS, 1)] {
+        assert!(rt;
+            open_after(&rt, rt.alloc(), sessions, script) == calls,
+            "{sessions}"
+        );
+    }
 }

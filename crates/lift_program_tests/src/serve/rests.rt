@@ -59,20 +59,6 @@ fn shortest_answered<R: Wait + Clock + Abort>(
     shortest
 }
 
-/// An answer ends one rest and no more: what it woke is left behind it, and shortens none.
-#[test]
-fn an_answer_ends_one_rest(rt: HostRuntime) {
-    let DeskParts {
-        desk,
-        mut seats,
-        clerk: _,
-    } = Desk::open(rt.alloc(), 1).ok().expect(&rt, "memory");
-    let seat = only_seat(&desk, &mut seats);
-    let port = DeskPort::new(&desk, seat);
-    let pager = Pager::new(Terminal::default());
-    assert!(rt; shortest_answered(&rt, &pager, &port) < Duration::from_millis(1));
-}
-
 /// The shortest of the rests of a terminal that asked and isn't answered.
 fn shortest_unanswered<R: Wait + Clock + Abort>(
     rt: &R,
@@ -88,10 +74,11 @@ fn shortest_unanswered<R: Wait + Clock + Abort>(
     shortest
 }
 
-/// A rest whose answer doesn't come ends by itself, and takes no longer than it should. Each may
-/// take longer where other threads run, but not all of them ten times as long.
+/// An answer ends one rest and no more: what it woke is left behind it, and shortens none. A rest
+/// whose answer doesn't come ends by itself, and takes no longer than it should: each may take longer
+/// where other threads run, but not all of them ten times as long.
 #[test]
-fn a_rest_waits_for_no_answer(rt: HostRuntime) {
+fn an_answer_ends_one_rest(rt: HostRuntime) {
     let DeskParts {
         desk,
         mut seats,
@@ -99,6 +86,8 @@ fn a_rest_waits_for_no_answer(rt: HostRuntime) {
     } = Desk::open(rt.alloc(), 1).ok().expect(&rt, "memory");
     let seat = only_seat(&desk, &mut seats);
     let port = DeskPort::new(&desk, seat);
+    let pager = Pager::new(Terminal::default());
+    assert!(rt; shortest_answered(&rt, &pager, &port) < Duration::from_millis(1));
     let pager = Pager::new(Terminal::default());
     assert!(rt; shortest_unanswered(&rt, &pager, &port) < Duration::from_millis(10));
 }
