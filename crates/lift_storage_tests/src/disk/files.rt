@@ -17,28 +17,9 @@ pub(crate) enum How {
     Create(u32),
 }
 
-/// A device, or why there is none.
-pub(crate) fn device<'r>(
-    rt: &'r HostRuntime,
-    path: &str,
-    how: How,
-) -> Result<HostDisk, FileFault<SystemFile<File>, SystemOpener<'r>>> {
-    let opener = SystemOpener::new(rt);
-    match how {
-        How::Open => FileDisk::open(opener, path),
-        How::Look => FileDisk::open_to_read(opener, path),
-        How::Create(sectors) => FileDisk::create(opener, path, sectors),
-    }
-}
-
-/// The device on a file of 130 sectors that is made again.
-pub(crate) fn created(rt: &HostRuntime, path: &str) -> Option<HostDisk> {
-    device(rt, path, How::Create(130)).ok()
-}
-
 /// What comes of it where a device is to come.
 #[derive(Clone, Copy, PartialEq, Eq)]
-enum Came {
+pub(crate) enum Came {
     Device,
     NotAFile,
     NothingTold,
@@ -46,15 +27,39 @@ enum Came {
     GivenBack,
 }
 
-/// What came.
-fn came_of<F: ToldFile + Drop, O: Drop>(device: &Result<FileDisk<F>, FileFault<F, O>>) -> Came {
-    match device {
-        Ok(_) => Came::Device,
-        Err(FileFault::NotAFile(_)) => Came::NotAFile,
-        Err(FileFault::Untold(_, _)) => Came::NothingTold,
-        Err(FileFault::Unopened(_)) => Came::NotOpened,
-        Err(FileFault::Failed(_)) => Came::GivenBack,
+/// Why there is none.
+fn reason_of<F: Drop, O: Drop>(fault: &FileFault<F, O>) -> Came {
+    match fault {
+        FileFault::NotAFile(_) => Came::NotAFile,
+        FileFault::Untold(_, _) => Came::NothingTold,
+        FileFault::Unopened(_) => Came::NotOpened,
+        FileFault::Failed(_) => Came::GivenBack,
     }
+}
+
+/// What came, and the device.
+fn parted<F: ToldFile + Drop, O: Drop>(
+    device: Result<FileDisk<F>, FileFault<F, O>>,
+) -> (Came, Option<FileDisk<F>>) {
+    match device {
+        Ok(device) => (Came::Device, Some(device)),
+        Err(fault) => (reason_of(&fault), None),
+    }
+}
+
+/// What comes to a file so, and the device.
+pub(crate) fn device(rt: &HostRuntime, path: &str, how: How) -> (Came, Option<HostDisk>) {
+    let opener = SystemOpener::new(rt);
+    parted(match how {
+        How::Open => FileDisk::open(opener, path),
+        How::Look => FileDisk::open_to_read(opener, path),
+        How::Create(sectors) => FileDisk::create(opener, path, sectors),
+    })
+}
+
+/// The device on a file of 130 sectors that is made again.
+pub(crate) fn created(rt: &HostRuntime, path: &str) -> Option<HostDisk> {
+    device(rt, path, How::Create(130)).1
 }
 
 /// Whether a device has so many sectors, and each of these calls comes to what it says.
@@ -67,9 +72,9 @@ type Coming = (How, Came, u32, &'static [Call]);
 
 fn comes(rt: &HostRuntime, path: &str, coming: &Coming) -> bool {
     let (how, wanted, sectors, calls) = coming;
-    let came = device(rt, path, *how);
-    let is_so = came_of(&came) == *wanted;
-    match came.ok() {
+    let (came, device) = device(rt, path, *how);
+    let is_so = came == *wanted;
+    match device {
         Some(mut disk) => is_so & has(&mut disk, *sectors, calls),
         None => is_so,
     }
@@ -155,9 +160,9 @@ fn is_held<D: RunDisk + Drop>(rt: &HostRuntime, path: &str, mut disk: D, course:
 
 fn is_followed(rt: &HostRuntime, path: &str, course: &Course) -> bool {
     let is_begun = are_done(rt, path, course.first);
-    match device(rt, path, course.how) {
-        Ok(disk) => is_begun & is_held(rt, path, disk, course) & are_done(rt, path, course.last),
-        Err(_) => false,
+    match device(rt, path, course.how).1 {
+        Some(disk) => is_begun & is_held(rt, path, disk, course) & are_done(rt, path, course.last),
+        None => false,
     }
 }
 

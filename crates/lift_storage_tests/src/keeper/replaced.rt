@@ -28,9 +28,9 @@ fn stops<D: Disk>(keeper: &mut Keeper<D>, told: u32) -> bool {
 
 /// Whether the gate of the second batch is open in the file.
 fn is_open(rt: &HostRuntime) -> bool {
-    match device(rt, IMAGE, How::Look) {
-        Ok(mut disk) => holds(&mut disk, SECOND_GATE, &text_of(&[OPEN])),
-        Err(_) => false,
+    match device(rt, IMAGE, How::Look).1 {
+        Some(mut disk) => holds(&mut disk, SECOND_GATE, &text_of(&[OPEN])),
+        None => false,
     }
 }
 
