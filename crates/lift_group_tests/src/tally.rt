@@ -1,4 +1,5 @@
 //! What a test counts.
+use lift_base::Reply;
 use std::process::Abort;
 
 /// How many answers were looked at, and how many of them were otherwise than they have to be.
@@ -20,6 +21,11 @@ impl Tally {
     pub(crate) fn want(&mut self, is_right: bool) {
         self.looked_at = self.looked_at.saturating_add(1);
         self.wrong = self.wrong.saturating_add(u32::from(!is_right));
+    }
+
+    /// Counts what a terminal heard.
+    pub(crate) fn want_reply(&mut self, heard: Option<Reply>, wanted: &Option<Reply>) {
+        self.want(heard == *wanted);
     }
 
     /// This many answers were looked at, and all were as they have to be.

@@ -26,17 +26,18 @@ pub(crate) fn next_stop() -> Option<Stop> {
     })
 }
 
-/// A terminal asks, and the clerk turns: what it hears.
+/// A terminal asks, and the clerk turns: it hears this.
 pub(crate) fn asks(
+    tally: &mut Tally,
     group: &mut Terminals,
     clerk: &mut Clerk<Device, Etd>,
-    who: Who,
-    told: u32,
-    body: Body,
-) -> Option<Reply> {
+    ask: (Who, u32, Body),
+    wanted: &Option<Reply>,
+) {
+    let (who, told, body) = ask;
     let _stored = group.ask(who, told, body);
     let _turned = turn(clerk);
-    group.hear(who)
+    tally.want_reply(group.hear(who), wanted);
 }
 
 /// How many commands a batch of the work has: two calls, a call, a stop.
@@ -59,13 +60,13 @@ pub(crate) fn hear(tally: &mut Tally, group: &mut Terminals, case: &Case, batch:
     let letter = case.answer(batch, car(0));
     match batch {
         0 => {
-            tally.want(group.hear(Who::Kiosk1) == letter);
-            tally.want(group.hear(Who::Kiosk2) == letter);
+            tally.want_reply(group.hear(Who::Kiosk1), &letter);
+            tally.want_reply(group.hear(Who::Kiosk2), &letter);
         }
-        1 => tally.want(group.hear(Who::Kiosk0) == letter),
+        1 => tally.want_reply(group.hear(Who::Kiosk0), &letter),
         _ => {
             let stopped = case.answer(batch, Some(Reply::Stopped(next_stop())));
-            tally.want(group.hear(Who::CarA) == stopped);
+            tally.want_reply(group.hear(Who::CarA), &stopped);
         }
     }
 }
@@ -80,18 +81,28 @@ pub(crate) fn ask_again(
     is_placed: bool,
 ) {
     let letter = case.answer_again(0, is_placed);
-    tally.want(asks(group, clerk, Who::Kiosk1, 1, call(8)) == letter);
-    tally.want(asks(group, clerk, Who::Kiosk2, 1, call(9)) == letter);
+    asks(tally, group, clerk, (Who::Kiosk1, 1, call(8)), &letter);
+    asks(tally, group, clerk, (Who::Kiosk2, 1, call(9)), &letter);
     if case.work.batches > 1 {
         let letter = case.answer_again(1, is_placed);
-        tally.want(asks(group, clerk, Who::Kiosk0, 2, call(8)) == letter);
-        let heard = asks(
-            group,
-            clerk,
-            Who::CarA,
-            case.work.stops.wrapping_add(1),
-            stop(),
-        );
-        tally.want(heard == Some(Reply::Stopped(next_stop())));
+        asks(tally, group, clerk, (Who::Kiosk0, 2, call(8)), &letter);
+        let told = case.work.stops.wrapping_add(1);
+        let stopped = Some(Reply::Stopped(next_stop()));
+        asks(tally, group, clerk, (Who::CarA, told, stop()), &stopped);
     }
+}
+
+/// Car A tells where it is, and kiosk 0's passenger waits where it stops next.
+pub(crate) fn stands(tally: &mut Tally, group: &mut Terminals, clerk: &mut Clerk<Device, Etd>) {
+    let placed = Some(Reply::Placed(next_stop()));
+    asks(tally, group, clerk, (Who::CarA, 0, stand()), &placed);
+}
+
+/// Kiosk 0 asks for the first time, or again, and is told its letter.
+pub(crate) fn calls_first(
+    tally: &mut Tally,
+    group: &mut Terminals,
+    clerk: &mut Clerk<Device, Etd>,
+) {
+    asks(tally, group, clerk, (Who::Kiosk0, 1, call(5)), &car(0));
 }

@@ -1,9 +1,9 @@
 //! Images that work begins over, and those that it leaves.
 use crate::deeds::{Deed, at_desk};
 use crate::device::Device;
-use crate::faults::asking::{asks, stand, stop};
+use crate::faults::asking::{asks, calls_first, stand, stop};
 use crate::faults::case::Work;
-use crate::groups::{blank, call, car, formatted};
+use crate::groups::{blank, formatted};
 use crate::tally::Tally;
 use crate::terminals::{Terminals, Who};
 use lift_base::Reply;
@@ -37,12 +37,12 @@ pub(crate) fn begin(
     stops: u32,
 ) {
     for told in 0..stops {
-        let heard = asks(group, clerk, Who::CarA, told.wrapping_add(1), stop());
-        tally.want(heard == Some(Reply::Stopped(None)));
+        let ask = (Who::CarA, told.wrapping_add(1), stop());
+        asks(tally, group, clerk, ask, &Some(Reply::Stopped(None)));
     }
-    let heard = asks(group, clerk, Who::CarA, 0, stand());
-    tally.want(heard == Some(Reply::Placed(None)));
-    tally.want(asks(group, clerk, Who::Kiosk0, 1, call(5)) == car(0));
+    let placed = Some(Reply::Placed(None));
+    asks(tally, group, clerk, (Who::CarA, 0, stand()), &placed);
+    calls_first(tally, group, clerk);
 }
 
 /// The device that this work begins over, after its stops and the call.

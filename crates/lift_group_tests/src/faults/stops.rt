@@ -2,15 +2,15 @@
 //! it: by reopening at the same desk, or after a power cut at a new one.
 use crate::deeds::{Deed, at_desk};
 use crate::device::{Device, NEVER, armed_for, cut};
-use crate::faults::asking::{ask, ask_again, asks, commands_of, hear, next_stop, stand};
+use crate::faults::asking::{ask, ask_again, calls_first, commands_of, hear, stands};
 use crate::faults::case::{APPENDED, CHECKPOINTED, Case, MOVED, Way, Work, counts};
 use crate::faults::images::{copy, image_of, is_new};
 use crate::faults::showing::shows;
-use crate::groups::{call, car, group};
+use crate::groups::group;
+use crate::relay::turns::allocates;
 use crate::relays::Parts;
 use crate::tally::Tally;
-use crate::terminals::{Terminals, Who, turn};
-use lift_base::Reply;
+use crate::terminals::{Terminals, turn};
 use lift_building::Building;
 use lift_clerk::{Clerk, Counts, reopening_shows_letters};
 use lift_disk::{Arm, Outcome};
@@ -28,10 +28,18 @@ pub(crate) fn arms(
     clerk: &mut Clerk<Device, Etd>,
     case: &Case,
 ) {
-    let heard = asks(group, clerk, Who::CarA, 0, stand());
-    tally.want(heard == Some(Reply::Placed(next_stop())));
-    tally.want(asks(group, clerk, Who::Kiosk0, 1, call(5)) == car(0));
+    stands(tally, group, clerk);
+    calls_first(tally, group, clerk);
     clerk.arm(armed_for(case.failing, case.is_once));
+}
+
+/// A turn of the clerk, and what it comes to.
+fn turns_to(
+    tally: &mut Tally,
+    clerk: &mut Clerk<Device, Etd>,
+    wanted: Result<Counts, KeeperFault>,
+) {
+    tally.want(turn(clerk) == wanted);
 }
 
 /// The clerk's turns, one for each batch.
@@ -43,7 +51,7 @@ pub(crate) fn turns(
 ) {
     for batch in 0..case.work.batches {
         tally.want(ask(group, batch, case.work.stops));
-        tally.want(turn(clerk) == case.comes_to(batch, commands_of(batch)));
+        turns_to(tally, clerk, case.comes_to(batch, commands_of(batch)));
         hear(tally, group, case, batch);
     }
 }
@@ -67,7 +75,8 @@ pub(crate) fn flushes<R: Wait>(
 ) {
     for batch in 0..case.work.batches {
         tally.want(ask(group, batch, case.work.stops));
-        tally.want(parts.allocate(rt) == counts(commands_of(batch)));
+        let taken = commands_of(batch);
+        allocates(rt, tally, parts, taken, taken);
     }
     for batch in 0..case.work.batches {
         tally.want(flush(rt, parts) == case.comes_to(batch, commands_of(batch)));
@@ -75,10 +84,15 @@ pub(crate) fn flushes<R: Wait>(
     }
 }
 
-/// A reopening whose device is armed with this many calls.
-fn reopen(clerk: &mut Clerk<Device, Etd>, armed: u32) -> Result<(), KeeperFault> {
+/// A reopening whose device is armed with this many calls, and what it comes to.
+pub(crate) fn reopens_to(
+    tally: &mut Tally,
+    clerk: &mut Clerk<Device, Etd>,
+    armed: u32,
+    wanted: Result<(), KeeperFault>,
+) {
     clerk.arm(armed);
-    reopening_shows_letters(clerk)
+    tally.want(reopening_shows_letters(clerk) == wanted);
 }
 
 /// Just what is in is there, and is answered again, and so is the letter that was heard before; what
@@ -91,11 +105,10 @@ pub(crate) fn go_on(
 ) {
     tally.want(shows(clerk, case));
     if case.batches_in() < 2 {
-        tally.want(asks(group, clerk, Who::Kiosk0, 1, call(5)) == car(0));
+        calls_first(tally, group, clerk);
     }
     ask_again(tally, group, clerk, case, false);
-    let heard = asks(group, clerk, Who::CarA, 0, stand());
-    tally.want(heard == Some(Reply::Placed(next_stop())));
+    stands(tally, group, clerk);
     ask_again(tally, group, clerk, case, true);
     tally.want(!clerk.short());
 }
@@ -109,9 +122,9 @@ fn goes_on_here(
     case: &Case,
 ) {
     tally.want(clerk.keeper().is_broken() == case.recovers().is_err());
-    tally.want(turn(clerk) == case.rests());
-    tally.want(reopen(clerk, NEVER) == Ok(()));
-    tally.want(turn(clerk) == Ok(counts(0)));
+    turns_to(tally, clerk, case.rests());
+    reopens_to(tally, clerk, NEVER, Ok(()));
+    turns_to(tally, clerk, Ok(counts(0)));
     go_on(tally, group, clerk, case);
 }
 
@@ -123,11 +136,12 @@ pub(crate) fn recovers_here(
     clerk: &mut Clerk<Device, Etd>,
     case: &Case,
 ) {
-    tally.want(turn(clerk) == case.comes_to(case.work.batches, 0));
+    turns_to(tally, clerk, case.comes_to(case.work.batches, 0));
     if case.cut.is_some() {
         return;
     }
-    tally.want(reopen(clerk, armed_for(case.recovery, case.is_once)) == case.recovers());
+    let armed = armed_for(case.recovery, case.is_once);
+    reopens_to(tally, clerk, armed, case.recovers());
     if case.cut_again.is_none() {
         goes_on_here(tally, group, clerk, case);
     }
