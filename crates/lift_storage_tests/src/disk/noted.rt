@@ -220,15 +220,6 @@ fn is_opened<F: ToldFile + Drop>(file: F, opening: Opening) -> bool {
     }
 }
 
-/// How many calls are left behind that, where it is.
-fn left_after<F: ToldFile + Drop>(file: F, notes: &Notes, opening: Opening) -> Option<u32> {
-    if is_opened(file, opening) {
-        Some(notes.left.get())
-    } else {
-        None
-    }
-}
-
 /// How many sectors the file has, how it is opened, and the call after how many fails; how many are
 /// left where it succeeds, and what the file has noted from a place on. One that is made is so by
 /// seven calls, each of which has to succeed.
