@@ -157,12 +157,32 @@ fn use_turns(desk: &Desk, seat: &mut Seat, clerk: &mut ClerkSeat, times: u32) ->
     heard
 }
 
-fn refusal_of(word: &str) -> Option<AskRefusal> {
-    match word {
-        "waiting" => Some(AskRefusal::Waiting),
-        "spent" => Some(AskRefusal::Spent),
-        _ => None,
+// Each result has one name, and another name is of none.
+fn is_refusal(refusal: Option<AskRefusal>, name: &str) -> bool {
+    match refusal {
+        Some(AskRefusal::Waiting) => name == "waiting",
+        Some(AskRefusal::Spent) => name == "spent",
+        None => name.is_empty(),
     }
+}
+
+fn is_reply(reply: Option<Reply>, name: &str) -> bool {
+    match (reply, words_of(name)) {
+        (Some(_), Some(words)) => reply == reply_of(words.as_slice()),
+        (Some(_), None) => false,
+        (None, _) => name == "nothing",
+    }
+}
+
+fn is_pending(pending: Option<Number>, name: &str) -> bool {
+    match pending {
+        Some(_) => pending == number_of_word(name),
+        None => name == "none",
+    }
+}
+
+fn is_count(count: u32, name: &str) -> bool {
+    number_up_to(name, u32::MAX) == Some(count)
 }
 
 // A step at one terminal, with what is to come of it: `ask 7`, `ask 8 waiting`, `hear car B`, `hear
@@ -176,40 +196,41 @@ fn comes_out(desk: &Desk, seat: &mut Seat, clerk: &mut ClerkSeat, step: &str) ->
     let (word, behind) = rest.split_once(' ').unwrap_or((rest, ""));
     let value = number_up_to(word, u32::MAX).unwrap_or(0);
     match key {
-        "ask" => desk.ask(seat, number(value), call(5, 3)).err() == refusal_of(behind),
-        "hear" => match words_of(rest) {
-            Some(words) => desk.hear(seat) == reply_of(words.as_slice()),
+        "ask" => match number_of_word(word) {
+            Some(number) => is_refusal(desk.ask(seat, number, call(5, 3)).err(), behind),
             None => false,
         },
-        "pending" => seat.pending() == number_of_word(word),
-        "scan" => u32::from(scan(desk, clerk)) == value,
-        "meet" => desk.meet(seat, clerk),
+        "hear" => is_reply(desk.hear(seat), rest),
+        "pending" => is_pending(seat.pending(), rest),
+        "scan" => is_count(u32::from(scan(desk, clerk)), rest),
+        "meet" => desk.meet(seat, clerk) && rest.is_empty(),
         "tell" => {
             desk.tell(seat, clerk);
-            true
+            rest.is_empty()
         }
-        "terminal" => u32::from(seat.terminal().get()) == value,
-        "rounds" => use_turns(desk, seat, clerk, value) == value,
+        "terminal" => is_count(u32::from(seat.terminal().get()), rest),
+        "rounds" => is_count(use_turns(desk, seat, clerk, value), rest),
         _ => false,
     }
 }
 
-// How many of these steps come out as they should.
-fn successes(desk: &Desk, seat: &mut Seat, clerk: &mut ClerkSeat, steps: &str) -> u32
+// How many of these steps come out before the first one that doesn't, and whether all do.
+fn successes(desk: &Desk, seat: &mut Seat, clerk: &mut ClerkSeat, steps: &str) -> (u32, bool)
     requires { IsSeatOf desk.now seat.old × IsClerkOf desk.now clerk.old }
     ensures { IsSeatOf desk.now seat.new × IsClerkOf desk.now clerk.new }
 {
     let mut count = 0u32;
     for step in steps.lines() {
-        if comes_out(desk, seat, clerk, step) {
-            count = count.saturating_add(1);
+        if !comes_out(desk, seat, clerk, step) {
+            return (count, false);
         }
+        count = count.saturating_add(1);
     }
-    count
+    (count, true)
 }
 
 // The same, at the last terminal of a new desk.
-fn successes_at_last(alloc: Global, terminals: usize, steps: &str) -> u32 {
+fn successes_at_last(alloc: Global, terminals: usize, steps: &str) -> (u32, bool) {
     let Ok(
         DeskParts {
             desk,
@@ -218,7 +239,7 @@ fn successes_at_last(alloc: Global, terminals: usize, steps: &str) -> u32 {
         },
     ) = open(alloc, terminals)
     else {
-        return 0;
+        return (0, false);
     };
     let mut seat = last_seat(&desk, &mut seats);
     successes(&desk, &mut seat, &mut clerk, steps)
@@ -262,8 +283,8 @@ fn steps_come_out(rt: HostRuntime) {
         ),
         ("turns run out", 1, ALL_TURNS, 6),
     ] {
-        let right = successes_at_last(rt.alloc(), terminals, steps);
-        assert!(rt; right == count, "{name}: {right}");
+        let (right, are_all) = successes_at_last(rt.alloc(), terminals, steps);
+        assert!(rt; are_all && right == count, "{name}: {right}");
     }
 }
 

@@ -2,12 +2,12 @@
 use crate::recorder::Recorder;
 use crate::served::{Served, only_seat, open, use_turns};
 use crate::streams::{Narrow, Slow};
-use crate::words::{ask_of, bytes_of, index_of, reply_word_of, stop_of};
+use crate::words::{ask_of, bytes_of, index_of, last_of, reply_word_of, stop_of};
 use crate::{cars, drives, faults, kiosks};
 use lift_base::text::{Counted, Watched, number_up_to, words_of};
-use lift_base::{Floor, Letter, Number};
+use lift_base::{Floor, Number};
 use lift_car::{Ending, drive};
-use lift_desk::{DeskParts, ask_word};
+use lift_desk::{DeskParts, read_ask};
 use lift_kiosk::{End, LastLetter, Limits, Port};
 use std::alloc::Global;
 use std::cell::Cell;
@@ -41,7 +41,8 @@ struct Scene<'d> {
     streams: Streams,
     begins: LastLetter,
     wrote: Vec<u8>,
-    came: Came,
+    /// None before the first one, and once its end was compared.
+    came: Option<Came>,
     /// What `#` stands for.
     each: u32,
     /// How many asks were compared, and how many halts.
@@ -64,20 +65,6 @@ const PLAIN: Streams = Streams {
     takes: usize::MAX,
     fails: false,
 };
-
-/// Nothing came yet.
-const NOTHING: Came = Came {
-    end: "",
-    last: 0,
-    index: None,
-};
-
-fn floor(number: u32) -> Floor {
-    if number > 63 {
-        return Floor::default();
-    }
-    Floor::new(number as u8).unwrap_or_default()
-}
 
 fn name_of(end: End) -> &'static str {
     match end {
@@ -152,11 +139,11 @@ impl Scene<'_> {
             fails: streams.fails,
         });
         let (last, limits) = (self.begins, self.limits);
-        self.came = if is_of_car {
+        self.came = Some(if is_of_car {
             talk_of_car(reader, &mut writer, &mut self.port, last.number, limits)
         } else {
             talk_of_kiosk(reader, &mut writer, &mut self.port, last, limits)
-        };
+        });
         let Narrow { taken, .. } = writer.into_inner();
         self.wrote = taken;
     }
@@ -171,8 +158,9 @@ impl Scene<'_> {
                     let most = self.streams.takes.min(bytes.len());
                     return self.wrote.as_slice() == &bytes[..most];
                 }
+                let is_first = self.came.is_none();
                 self.talk(key == "car", bytes);
-                true
+                is_first
             }
             None => false,
         }
@@ -188,16 +176,15 @@ impl Scene<'_> {
     }
 
     /// `ended closed 1 A`, `ended refused 4 11`: the last session or drive.
-    fn has_ended(&self, words: &[&str]) -> bool {
-        match words {
-            [end, last, index @ ..] => {
-                let index = match index.first() {
-                    Some(word) => index_of(word),
-                    None => None,
+    fn has_ended(&mut self, words: &[&str]) -> bool {
+        match (words, self.came.take()) {
+            ([end, last, behind @ ..], Some(came)) => {
+                let is_index = match (behind, came.index) {
+                    ([], None) => true,
+                    ([word], Some(index)) => index_of(word) == Some(index),
+                    _ => false,
                 };
-                self.came.end == *end
-                    && number_up_to(last, u32::MAX) == Some(self.came.last)
-                    && self.came.index == index
+                is_index && came.end == *end && number_up_to(last, u32::MAX) == Some(came.last)
             }
             _ => false,
         }
@@ -208,7 +195,7 @@ impl Scene<'_> {
         let next = self.asked;
         self.asked = next.saturating_add(1);
         match (ask_of(words), self.port.taken.get(next)) {
-            (Some(ask), Some(taken)) => ask_word(1, ask.number, ask.body) == *taken,
+            (Some(ask), Some(taken)) => read_ask(*taken) == Some(ask),
             _ => false,
         }
     }
@@ -231,16 +218,10 @@ impl Scene<'_> {
         }
     }
 
-    /// What numbers set: what is known before (`begins 5 B`), and of the clerk, the limits and the
-    /// streams what their names say. `put 3` has the car at that floor, and `stands 3` asks that.
-    fn sets(&mut self, key: &str, number: u32, index: Option<u8>) -> bool {
+    /// What numbers set: of the clerk, the limits and the streams what their names say. `put 3` has the
+    /// car at that floor, and `stands 3` asks that.
+    fn sets(&mut self, key: &str, number: u32) -> bool {
         match key {
-            "begins" => {
-                self.begins = LastLetter {
-                    number: Number::new(number).unwrap_or_default(),
-                    letter: Letter::new(index.unwrap_or(255)),
-                }
-            }
             "idle" => self.port.idle = number,
             "lines" => self.limits.lines = number,
             "looks" => self.limits.looks = number,
@@ -249,8 +230,10 @@ impl Scene<'_> {
             "gives" => self.streams.gives = u64::from(number),
             "takes" => self.streams.takes = number as usize,
             "used" => return use_turns(&mut self.port, number),
-            "put" => self.car.car.position.floor = floor(number),
-            "stands" => return self.car.car.position.floor == floor(number),
+            "put" if number <= 63 => {
+                self.car.car.position.floor = Floor::new(number as u8).unwrap_or_default()
+            }
+            "stands" => return u32::from(self.car.car.position.floor.get()) == number,
             _ => return false,
         }
         true
@@ -262,14 +245,14 @@ impl Scene<'_> {
             "turn" => self.port.turn(),
             "endless" => self.streams.is_endless = true,
             "fails" => self.streams.fails = true,
-            "drive" => {
+            "drive" if self.came.is_none() => {
                 let end = drive(
                     &mut self.car,
                     &mut self.port,
                     self.begins.number,
                     self.limits,
                 );
-                self.came = came_of(end.end, end.last.get());
+                self.came = Some(came_of(end.end, end.last.get()));
             }
             "all" => {
                 return self.asked == self.port.taken.len() && self.halted == self.car.halts.len();
@@ -288,16 +271,12 @@ impl Scene<'_> {
     }
 
     fn follows_number(&mut self, key: &str, words: &[&str]) -> bool {
-        let index = match words {
-            [_, word] => index_of(word),
-            _ => None,
-        };
-        match words.first() {
-            Some(word) => match self.number_of(word) {
-                Some(number) => self.sets(key, number, index),
+        match words {
+            [word] => match self.number_of(word) {
+                Some(number) => self.sets(key, number),
                 None => false,
             },
-            None => false,
+            _ => false,
         }
     }
 
@@ -311,6 +290,13 @@ impl Scene<'_> {
                 None => false,
             },
             "ask" => self.asks(words),
+            "begins" => match last_of(words) {
+                Some(last) => {
+                    self.begins = last;
+                    true
+                }
+                None => false,
+            },
             _ => self.follows_number(key, words),
         }
     }
@@ -341,7 +327,8 @@ impl Scene<'_> {
     }
 }
 
-/// Whether a case comes out. Where memory is refused for its desk it doesn't.
+/// Whether a case comes out, with the end of each session and drive. Where memory is refused for its
+/// desk it doesn't.
 fn comes_out(alloc: Global, front: &str, lines: &str, each: u32) -> bool {
     let Ok(
         DeskParts {
@@ -366,12 +353,12 @@ fn comes_out(alloc: Global, front: &str, lines: &str, each: u32) -> bool {
             letter: None,
         },
         wrote: Vec::new(alloc),
-        came: NOTHING,
+        came: None,
         each,
         asked: 0,
         halted: 0,
     };
-    scene.follows(front) && scene.follows(lines)
+    scene.follows(front) && scene.follows(lines) && scene.came.is_none()
 }
 
 /// A case's lines behind `each 0 9`, which has it carried out for 0 to 8 in turn; `#` stands for that.
@@ -399,18 +386,18 @@ fn comes_out_each(alloc: Global, front: &str, case: &str) -> (u32, bool) {
     (count, true)
 }
 
-/// How many cases of a text come out before the first one that doesn't. Each begins with a line
-/// `case NAME` and is of one terminal at a desk of its own; `front` stands before its lines.
-fn successes(alloc: Global, front: &str, text: &str) -> u32 {
+/// How many cases of a text come out before the first one that doesn't, and whether all do. Each begins
+/// with a line `case NAME` and is of one terminal at a desk of its own; `front` stands before its lines.
+fn successes(alloc: Global, front: &str, text: &str) -> (u32, bool) {
     let mut count = 0u32;
     for case in text.split("\ncase ").skip(1) {
         let (times, is_right) = comes_out_each(alloc, front, case);
         count = count.saturating_add(times);
         if !is_right {
-            break;
+            return (count, false);
         }
     }
-    count
+    (count, true)
 }
 
 /// Each text with the lines before each of its cases, and how many cases it has.
@@ -426,7 +413,7 @@ fn cases_come_out(rt: HostRuntime) {
         ("endless", "endless", faults::endless(), 5),
         ("long", "", faults::long(), 2),
     ] {
-        let right = successes(rt.alloc(), front, text);
-        assert!(rt; right == count, "{name}: {right}");
+        let (right, are_all) = successes(rt.alloc(), front, text);
+        assert!(rt; are_all && right == count, "{name}: {right}");
     }
 }

@@ -1,7 +1,8 @@
 //! Words of a script: replies, asks and stops. There is none where they are spelled otherwise.
 use lift_base::text::{dir_of_word, letter_of_word, number_of_word, number_up_to, party_of_words};
-use lift_base::{Body, Dir, Floor, Number, Reason, Reply, Stop};
+use lift_base::{Body, Floor, Number, Reason, Reply, Stop};
 use lift_desk::{Ask, reply_word};
+use lift_kiosk::LastLetter;
 use std::alloc::Global;
 
 /// A floor, 0 to 63.
@@ -11,30 +12,29 @@ fn floor_of(word: &str) -> Option<Floor> {
 }
 
 /// A floor and a direction, as `0 up`.
-fn place_of(words: &[&str]) -> Option<(Floor, Dir)> {
+pub(crate) fn stop_of(words: &[&str]) -> Option<Stop> {
     match words {
-        [floor, dir] => Some((floor_of(floor)?, dir_of_word(dir)?)),
+        [floor, dir] => Some(Stop {
+            floor: floor_of(floor)?,
+            dir: dir_of_word(dir)?,
+        }),
         _ => None,
     }
 }
 
-pub(crate) fn stop_of(words: &[&str]) -> Option<Stop> {
-    let (floor, dir) = place_of(words)?;
-    Some(Stop { floor, dir })
-}
-
 /// `car A`, `stopped`, `stopped 5 up`, `placed`, `placed 5 up`, `refused 11` or `unknown`.
 pub(crate) fn reply_of(words: &[&str]) -> Option<Reply> {
-    let (kind, behind) = words.split_first()?;
-    match *kind {
-        "car" => Some(Reply::Car(letter_of_word(behind.first()?)?)),
-        "stopped" => Some(Reply::Stopped(stop_of(behind))),
-        "placed" => Some(Reply::Placed(stop_of(behind))),
-        "refused" => {
-            let number = number_up_to(behind.first()?, 255)?;
+    match words {
+        ["car", letter] => Some(Reply::Car(letter_of_word(letter)?)),
+        ["stopped"] => Some(Reply::Stopped(None)),
+        ["stopped", stop @ ..] => Some(Reply::Stopped(Some(stop_of(stop)?))),
+        ["placed"] => Some(Reply::Placed(None)),
+        ["placed", stop @ ..] => Some(Reply::Placed(Some(stop_of(stop)?))),
+        ["refused", reason] => {
+            let number = number_up_to(reason, 255)?;
             Some(Reply::Refused(Reason::from_number(number as u8)?))
         }
-        "unknown" => Some(Reply::Unknown),
+        ["unknown"] => Some(Reply::Unknown),
         _ => None,
     }
 }
@@ -58,13 +58,24 @@ pub(crate) fn ask_of(words: &[&str]) -> Option<Ask> {
         let body = Body::Call(floor_of(floor)?, party_of_words(party)?);
         return Some(Ask { number, body });
     }
-    let (floor, dir) = place_of(behind)?;
-    let body = if *kind == "stop" {
-        Body::Stop(floor, dir)
-    } else {
-        Body::Place(floor, dir)
+    let Stop { floor, dir } = stop_of(behind)?;
+    let body = match *kind {
+        "stop" => Body::Stop(floor, dir),
+        "place" => Body::Place(floor, dir),
+        _ => return None,
     };
     Some(Ask { number, body })
+}
+
+/// `5` or `5 B`: the number of a command and the letter that it got.
+pub(crate) fn last_of(words: &[&str]) -> Option<LastLetter> {
+    let (number, letter) = match words {
+        [number] => (number, None),
+        [number, letter] => (number, Some(letter_of_word(letter)?)),
+        _ => return None,
+    };
+    let number = number_of_word(number)?;
+    Some(LastLetter { number, letter })
 }
 
 /// A car's index or a reason's number, by a letter or a number.
