@@ -139,7 +139,7 @@ impl<'a> Disk for Holding<'a> {
 }
 
 /// Both parts of a clerk that the test runs.
-type Parts<'d, 'b, 's> = Relay<'d, 'b, Holding<'s>, Counting<'s>>;
+type Parts<'d, 'b, 's, 'p> = Relay<'d, 'b, Holding<'s>, Counting<'p>>;
 
 /// Both cars say where they are, in one batch each of both parts.
 fn placed<R: Wait>(rt: &R, terminals: &mut Terminals, relay: &mut Parts) -> bool {
@@ -184,28 +184,26 @@ fn runs_beside<R: Threads + Wait + Sync>(
 }
 
 /// Whether both parts come through that, and both calls are open at the end.
-fn is_decided<R: Threads + Wait + Abort + Sync>(
-    rt: &R,
-    alloc: Global,
-    building: &Building,
-    shared: &Shared,
-) -> bool {
+fn is_decided<R: Threads + Wait + Abort + Sync>(rt: &R, alloc: Global) -> bool {
+    let building = group(rt, alloc);
+    let shared = Shared::new();
     let DeskParts { desk, seats, clerk } = open(rt, alloc);
     let mut terminals = Terminals::of(&desk, seats);
-    let inner = formatted(rt, alloc, building).into_inner();
-    let device = Holding { inner, shared };
-    let keeper = Keeper::open(device, building).ok().expect(rt, "refused");
-    let clerk = begin_over(&desk, clerk, keeper, Counting { shared });
+    let device = Holding {
+        inner: formatted(rt, alloc, &building).into_inner(),
+        shared: &shared,
+    };
+    let keeper = Keeper::open(device, &building).ok().expect(rt, "refused");
+    let clerk = begin_over(&desk, clerk, keeper, Counting { shared: &shared });
     let mut relay = Relay::of(rt, alloc, clerk);
     let is_placed = placed(rt, &mut terminals, &mut relay);
     shared.armed.store(1, Ordering::SeqCst);
-    let runs = runs_beside(rt, &mut terminals, &mut relay, shared);
+    let runs = runs_beside(rt, &mut terminals, &mut relay, &shared);
     let clerk = relay.joined(rt);
     is_placed & runs & (clerk.keeper().register().open_count() == 2)
 }
 
 #[test]
 fn second_batch_is_decided_while_the_first_is_synced(rt: HostRuntime) {
-    let building = group(&rt, rt.alloc());
-    assert!(rt; is_decided(&rt, rt.alloc(), &building, &Shared::new()));
+    assert!(rt; is_decided(&rt, rt.alloc()));
 }
