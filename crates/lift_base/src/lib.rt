@@ -16,7 +16,8 @@ pub use command::{Body, Reason, Reply};
 pub use count::ProofCount;
 pub use history::{Content, Entry, Last, MOST_DONE, Record, Row, Shape, count_unchanged};
 pub use limits::{
-    MOST_CARS, MOST_ENTRIES, MOST_FLOORS, MOST_HALTS, MOST_KIOSKS, MOST_ROWS, MOST_TERMINALS,
+    MOST_BATCHES, MOST_CARS, MOST_ENTRIES, MOST_FLOORS, MOST_HALTS, MOST_KIOSKS, MOST_ROWS,
+    MOST_TERMINALS,
 };
 pub use lists::push_some;
 pub use memory::{

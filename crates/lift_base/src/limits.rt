@@ -15,6 +15,9 @@ pub const MOST_KIOSKS: usize = 47;
 /// The most floors of a building.
 pub const MOST_FLOORS: usize = 64;
 
+/// The most batches that wait between an allocator and its flusher.
+pub const MOST_BATCHES: usize = 4;
+
 /// The most open calls of a car.
 pub const MOST_ROWS: usize = 32;
 

@@ -5,7 +5,7 @@ ghost use Rattle.lift_journal.specs.Order.{IsEntry};
 
 use crate::fault::Fault;
 use arrayvec::ArrayVec;
-use lift_base::{Dir, Entry, Floor, Letter, Number, Record, Shape, push_some};
+use lift_base::{Dir, Entry, Floor, Letter, MOST_ENTRIES, Number, Record, Shape, push_some};
 use lift_disk::{Disk, FileDisk, FileOpener};
 use lift_journal::{Journal, Visitor};
 
@@ -23,7 +23,7 @@ fn stop() -> Record
 }
 
 /// This many stops.
-fn stops(count: usize) -> ArrayVec<Record, 63>
+fn stops(count: usize) -> ArrayVec<Record, MOST_ENTRIES>
     requires { count ≤ 63 }
     ensures count { length result.items ≡ count }
     ensures lawful { All IsLawful result.items }
@@ -77,7 +77,7 @@ struct Count {
 impl Visitor for Count {
     ghost takes = { λ old records new. Unit {0} };
 
-    fn visit(&mut self, records: &ArrayVec<Record, 63>) {
+    fn visit(&mut self, records: &ArrayVec<Record, MOST_ENTRIES>) {
         self.batches = self.batches.saturating_add(1);
         self.records = self.records.saturating_add(records.len() as u64);
     }

@@ -98,7 +98,7 @@ fn kiosks_in(floors: u32, value: &Value) -> Result<ArrayVec<Floor, MOST_KIOSKS>,
         kiosks.items) result (floors_in Field.Kiosks (is_between 1 47) floors (view value.now)) }
 {
     let items = items_in(Field::Kiosks, value)?;
-    if items.is_empty() || items.len() > 47 {
+    if items.is_empty() || items.len() > MOST_KIOSKS {
         return Err(BuildingFault::OutOfRange(Field::Kiosks));
     }
     kiosks_among(floors, items)
@@ -255,7 +255,7 @@ fn cars_in(floors: u32, value: &Value) -> Result<ArrayVec<Car, MOST_CARS>, Build
     ensures { Gives (λ cars. map car_view cars.items) result (cars_in floors (view value.now)) }
 {
     let items = items_in(Field::Cars, value)?;
-    if items.is_empty() || items.len() > 16 {
+    if items.is_empty() || items.len() > MOST_CARS {
         return Err(BuildingFault::OutOfRange(Field::Cars));
     }
     cars_among(floors, items)

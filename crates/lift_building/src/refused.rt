@@ -6,8 +6,8 @@ ghost use Rattle.toml.specs.Errors.{IsMemory};
 use std::marker::Model;
 use toml::de::Error;
 
-/// That no memory was left. Only `of` below makes one, from the error of a parse that was refused a
-/// growth.
+/// Evidence that no memory was left. Only `of` below makes one, from the error of a parse that was
+/// refused a growth.
 #[derive(Clone, Copy, PartialEq)]
 pub struct NoMemory {
     made: (),

@@ -244,8 +244,8 @@ impl Trip {
         Some(())
     }
 
-    /// What is asked of the car: its next stop, the pass of a call, and the stop that a halt is
-    /// stand here.
+    /// What is asked of the car. Its next stop, the pass of a call and the stop of a halt are
+    /// answered here.
     fn asked(&self, building: &Building, words: &[&str], came: &mut Came) -> Option<()> {
         match words {
             ["halts"] => self.halts(came)?,

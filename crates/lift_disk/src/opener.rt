@@ -67,6 +67,7 @@ pub struct SystemOpener<'r> {
 }
 
 impl<'r> SystemOpener<'r> {
+    /// Over this runtime.
     pub fn new(rt: &'r LibcRuntime) -> SystemOpener<'r> {
         SystemOpener { rt }
     }

@@ -1,16 +1,15 @@
 //! The reading of a batch.
-ghost use Rattle.std.specs.Prelude.{◌≡◌, ◌≤◌, ◌-◌, ◌+◌, ◌++◌, ◌↔◌, IsTrue, IfSome, Some};
+ghost use Rattle.std.specs.Prelude.{◌≡◌, ◌≤◌, ◌-◌, ◌+◌, ◌++◌, ◌↔◌, IsTrue, Some};
 ghost use Rattle.std.specs.Prelude.{List, IsFalse, [], ◌∷◌, ◌<◌, length, take, drop, replicate};
 ghost use Rattle.lift_base.specs.declared.history.Record.{Record as RecordValue};
 ghost use Rattle.lift_record.specs.Header.{IsHeaderSpelling};
-ghost use Rattle.lift_record.specs.Record.{IsSpellingOf, dir_byte};
-ghost use Rattle.lift_record.specs.declared.version.Version.{Version as VersionValue};
+ghost use Rattle.lift_record.specs.Record.{IsSpellingOf};
 ghost use Rattle.lift_journal.specs.Seen.{IsRecordsIn, IsTailOf};
 
 use crate::batch::RecordList;
 use crate::bytes::sixteen;
-use lift_base::{Dir, Entry, Floor, Letter, Number, Record, push_some};
-use lift_record::{Header, Version, decode, decode_header};
+use lift_base::push_some;
+use lift_record::{Header, Version, decode, decode_header, decode_stop};
 
 /// The header at the front of a body, if it is one and has this number.
 pub fn header_of(first: &[u8; 512], number: u32) -> Option<Header>
@@ -23,57 +22,6 @@ pub fn header_of(first: &[u8; 512], number: u32) -> Option<Header>
     } else {
         None
     }
-}
-
-/// The kind of a stop's record.
-const STOP: u8 = 2;
-
-fn dir_of(byte: u8) -> Option<Dir>
-    ensures { IfSome result (λ dir. dir_byte dir ≡ byte) }
-{
-    match byte {
-        0 => Some(Dir::Up),
-        1 => Some(Dir::Down),
-        _ => None,
-    }
-}
-
-/// The stop that these bytes spell, in either version. Most records are stops, and here each of
-/// their numbers is looked at once.
-fn stop_of(bytes: &[u8; 16]) -> Option<Record>
-    ensures { IfSome result (λ content. (version : VersionValue)
-        → IsSpellingOf version bytes.now content) }
-{
-    let [
-        kind,
-        car,
-        floor,
-        dir,
-        third,
-        party,
-        status,
-        blank,
-        a,
-        b,
-        c,
-        d,
-        e,
-        f,
-        g,
-        h,
-    ] = *bytes;
-    let content = u32::from_be_bytes([third, party, status, blank]);
-    let number = u32::from_be_bytes([a, b, c, d]);
-    let end = u32::from_be_bytes([e, f, g, h]);
-    if kind != STOP || content != 0 || number == 0 || end != 0 {
-        return None;
-    }
-    Some(Record::Entry(Entry::Stop {
-        car: Letter::new(car)?,
-        number: Number::new(number)?,
-        floor: Floor::new(floor)?,
-        dir: dir_of(dir)?,
-    }))
 }
 
 /// Adds the record that these bytes spell, if they spell one.
@@ -101,7 +49,7 @@ fn push_next(version: Version, text: &[u8], at: usize, records: &mut RecordList)
     ensures none { IsFalse result → (content : RecordValue)
         → ¬ IsSpellingOf version (take 16 (drop at text.now)) content }
 {
-    let stop = stop_of(&sixteen(text, at));
+    let stop = decode_stop(&sixteen(text, at));
     if stop.is_none() {
         return push_decoded(version, &sixteen(text, at), records);
     }

@@ -1,4 +1,4 @@
-//! Where a formatted device goes on. This reads and writes nothing.
+//! Where a formatted device goes on: it is synced and read here, and never written.
 ghost use Rattle.std.specs.Prelude.{ℕ, ◌≡◌, ◌⊎◌, ◌≤◌, ◌<◌, ◌+◌, ◌-◌, ◌*◌, ◌++◌, [], ◌∷◌, IsErrOf};
 ghost use Rattle.std.specs.Prelude.{IfOk, IfErr, OnOk, OnErr, List};
 ghost use Rattle.lift_base.specs.declared.history.Shape.{Shape as ShapeValue};

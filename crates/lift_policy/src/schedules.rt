@@ -42,7 +42,7 @@ pub fn schedules_at(
     ensures positions { positions_of result ≡ positions.now }
 {
     let mut schedules: [Option<Schedule>; MOST_CARS] = Default::default();
-    for index in 0..16u8 {
+    for index in 0..MOST_CARS as u8 {
         let place = usize::from(index);
         schedules[place] = schedule_at(register, index, &positions[place]);
     }

@@ -58,7 +58,7 @@ pub fn building_in<B: TextOpener>(opener: B, alloc: Global, path: &str) -> Resul
     building_of(alloc, &bytes)
 }
 
-/// What it comes to.
+/// An image that was refused: the fault that is reported, and what that comes from.
 fn refused<F: Drop, O: Drop>(cause: FileFault<F, O>) -> Refused<F, O>
     ensures fault { IsFileFault OfImage result.fault }
     ensures told { IsImageFault cause result.fault }

@@ -200,6 +200,7 @@ impl<'w, B: TextOpener, I: FileOpener, L: Listens, S: AsStr, R: Read + Drop, E: 
     R,
     E,
 > {
+    /// These words, what opens by them, and this input.
     pub fn new(openers: Openers<B, I, L>, words: &'w [S], reader: R) -> Self
         ensures files { result.files ≡ openers.files }
         ensures socket { result.socket ≡ openers.socket }

@@ -28,6 +28,7 @@ pub struct SystemSocket<'r> {
 }
 
 impl<'r> SystemSocket<'r> {
+    /// Over this runtime.
     pub fn new(rt: &'r LibcRuntime) -> SystemSocket<'r> {
         SystemSocket { rt }
     }

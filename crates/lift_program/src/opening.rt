@@ -46,6 +46,7 @@ pub struct SystemTextOpener<'r> {
 }
 
 impl<'r> SystemTextOpener<'r> {
+    /// Over this runtime.
     pub fn new(rt: &'r LibcRuntime) -> SystemTextOpener<'r> {
         SystemTextOpener { rt }
     }

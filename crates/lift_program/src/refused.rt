@@ -27,8 +27,8 @@ use std::io;
 use std::io::ErrorKind;
 use std::marker::Model;
 
-/// That no memory was left. Only the calls below make one, each where it was refused: by evidence of
-/// the crate below, by the grammar of the words, or by the system's error.
+/// Evidence that no memory was left. Only the calls below make one, each where it was refused: by
+/// evidence of the crate below, by the grammar of the words, or by the system's error.
 #[derive(Clone, Copy)]
 pub struct NoMemory {
     made: (),

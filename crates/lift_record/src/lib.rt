@@ -4,8 +4,10 @@
 
 mod headers;
 mod records;
+mod stops;
 mod version;
 
 pub use headers::{Header, decode_header, encode_header};
 pub use records::{decode, encode, is_lawful};
+pub use stops::decode_stop;
 pub use version::Version;

@@ -58,7 +58,7 @@ fn dir_to_byte(dir: Dir) -> u8
     }
 }
 
-fn dir_from_byte(byte: u8) -> Option<Dir>
+pub(crate) fn dir_from_byte(byte: u8) -> Option<Dir>
     ensures valid { IsSome result ↔ (byte < 2) }
     ensures value { IfSome result (λ dir. dir_byte dir ≡ byte) }
 {

@@ -9,7 +9,7 @@ use arrayvec::ArrayVec;
 use lift_base::{Last, Letter, MOST_CARS, MOST_ROWS, MOST_TERMINALS, Row, Stop, count_unchanged};
 
 /// Takes a stop of a car into the car's rows. Those that it doesn't change aren't written.
-fn keep_open(rows: &mut ArrayVec<Row, 32>, stop: &Stop)
+fn keep_open(rows: &mut ArrayVec<Row, MOST_ROWS>, stop: &Stop)
     ensures rows { rows.new.items ≡ flat_map (row_after stop.now) rows.old.items }
     ensures fewer { length rows.new.items ≤ length rows.old.items }
 {

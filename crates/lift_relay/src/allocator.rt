@@ -218,7 +218,7 @@ impl<'d, 'b, P: Policy + Drop> Allocator<'d, 'b, P> {
         self.send_and_scan(rt)
     }
 
-    /// The turn.
+    /// The turn itself, under one clause for both of its ends.
     fn send_and_scan<R: Wait>(&mut self, rt: &R) -> Counts
         ensures { IsAllocation (P.chooses self.old.policy) self.old self.new result }
     {

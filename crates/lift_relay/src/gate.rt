@@ -79,13 +79,13 @@ pub(crate) struct Question {
     made: (),
 }
 
-/// That the gate has said to go on, for one turn.
+/// Evidence that the gate has said to go on, for one turn.
 #[derive(Drop)]
 pub(crate) struct Yes {
     made: (),
 }
 
-/// That the gate has said not to go on.
+/// Evidence that the gate has said not to go on.
 #[derive(Drop)]
 pub(crate) struct No {
     made: (),

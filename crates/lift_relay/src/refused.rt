@@ -5,7 +5,8 @@ ghost use Rattle.std.specs.Prelude.{◌≡◌, IfOk, IfErr};
 use std::marker::Model;
 use std::thread::{Promise, PromisedHandle, Scope, SpawnError};
 
-/// That no thread could be made. Only `spawn` below makes one, where it was refused the thread.
+/// Evidence that no thread could be made. Only `spawn` below makes one, where it was refused the
+/// thread.
 #[derive(Clone, Copy, PartialEq, Eq)]
 pub struct NoThread {
     made: (),

@@ -10,7 +10,7 @@ use crate::batch::Batch;
 use crate::line::{EndView, Ends, FirstBatch, InOrder, LineStart, QueueContents};
 use crossbeam_queue::protocol::{Join, Lesson, Outcome};
 use crossbeam_queue::{Pass, RuledArrayQueue};
-use lift_base::{Memory, passed_queue, two_owners};
+use lift_base::{MOST_BATCHES, Memory, passed_queue, two_owners};
 use std::alloc::Global;
 use std::marker::Model;
 use std::sync::{Arc, Wait};
@@ -47,7 +47,9 @@ impl Side {
         ensures { IfOk result (λ sides. AreSides first sides.0 sides.1) }
     {
         let (queue, mut pass) = passed_queue::<Batch, EndView, InOrder, FirstBatch, LineStart>(
-            alloc, 4, first,
+            alloc,
+            MOST_BATCHES,
+            first,
         )?;
         let other = queue.another::<Ends>(&mut pass);
         let (line, theirs) = two_owners(alloc, queue)?;

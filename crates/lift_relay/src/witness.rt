@@ -2,8 +2,8 @@
 
 ghost use Rattle.lift_relay.specs.Heard.{FailureHeard};
 
-/// That a device has just failed, as it hadn't since it was last opened. Only this file makes one, in
-/// which no call waits: so whoever waits with a witness can't notify it of a failure.
+/// Evidence that a device has just failed, as it hadn't since it was last opened. Only this file
+/// makes one, in which no call waits: so whoever waits with a witness can't notify it of a failure.
 #[derive(Drop)]
 pub struct Failed {
     made: (),

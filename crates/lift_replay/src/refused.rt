@@ -12,7 +12,8 @@ use lift_disk::MemDisk;
 use std::alloc::Global;
 use std::marker::Model;
 
-/// That no memory was left. Only the calls below make one, each where a growth was refused it.
+/// Evidence that no memory was left. Only the calls below make one, each where a growth was refused
+/// it.
 #[derive(Clone, Copy, PartialEq, Eq)]
 pub struct NoMemory {
     made: (),

@@ -10,7 +10,9 @@ ghost use Rattle.lift_replay.specs.Report.{fault_text, refused_text, building_te
 
 use crate::refused::{NoMemory, add, add_char};
 use itoa::Buffer;
-use lift_base::{Dir, Floor, Halt, Letter, Number, Party, Reason, Reply, Row, Stop, Terminal};
+use lift_base::{
+    Dir, Floor, Halt, Letter, MOST_CARS, Number, Party, Reason, Reply, Row, Stop, Terminal,
+};
 use lift_building::BuildingFault;
 use lift_register::Register;
 
@@ -193,7 +195,7 @@ pub fn push_rows(report: &mut String, register: &Register) -> Result<(), NoMemor
         ++ register_text register.now) }
 {
     push_rows_head(report, register.open_count() as usize, register.done())?;
-    for index in 0..16u8 {
+    for index in 0..MOST_CARS as u8 {
         match Letter::new(index) {
             Some(car) => push_rows_of(report, register, car)?,
             None => unreachable!(),

@@ -199,7 +199,7 @@ fn run_text<W: Outlet>(alloc: Global, text: &str, writer: &mut W) -> Result<Verd
 /// Carries out a script: reads it whole, and writes its report in pieces of whole lines. The
 /// verdict is Bad where the script, its building or one of its lines is malformed. After `Read`
 /// nothing was written, and after `Memory` or `Write` a prefix of the report.
-// (in a frame of its own: whoever does something else beside scripts has none for them)
+// (not inlined, so that a program's other commands have no frame of its locals)
 #[inline(never)]
 pub fn run<R: Read + Drop, W: Outlet>(
     alloc: Global,

@@ -137,7 +137,7 @@ fn add_cut<W: Outlet>(
 
 /// Carries out lines at a station, up to a power cut or to the end of the run. After a power cut it
 /// first reports how many calls are open.
-// (in a frame of its own, where those of the station's making were)
+// (not inlined: its frame then lies where that of the station's making was)
 #[inline(never)]
 fn run_station<W: Outlet>(
     alloc: Global,
@@ -181,7 +181,7 @@ fn run_station<W: Outlet>(
 /// Opens a desk for the building, and a keeper over what the device has, and carries out lines
 /// there, up to a power cut or to the end of the run. After a power cut it first reports how many
 /// calls are open.
-// (in a frame of its own, where that of the building's reading was)
+// (not inlined: its frame then lies where that of the building's reading was)
 #[inline(never)]
 pub fn add_segment<W: Outlet>(
     alloc: Global,

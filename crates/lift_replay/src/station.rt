@@ -40,7 +40,7 @@ pub struct Station<'d, 'b> {
 
 /// The keeper over a device in memory that fails no call by itself, and reads as a register of the
 /// building: there an opening isn't refused.
-// (in a frame of its own, which is free again for the lines)
+// (not inlined: its frame is free again for the lines)
 #[inline(never)]
 pub fn keeper_over(disk: FuseDisk, building: &Building) -> Keeper<'_, FuseDisk>
     requires unarmed { IsUnarmed (fuse_state_of disk) }
@@ -79,7 +79,7 @@ pub fn first_disk(alloc: Global, building: &Building) -> Result<MemDisk, NoMemor
 
 impl<'d, 'b> Station<'d, 'b> {
     /// At a new desk nobody has asked, and after an opening no car has reported where it is.
-    // (in a frame of its own, which is free again for the lines)
+    // (not inlined: its frame is free again for the lines)
     #[inline(never)]
     pub fn new(
         building: &'b Building,
@@ -108,7 +108,7 @@ impl<'d, 'b> Station<'d, 'b> {
     }
 
     /// The power is cut: what is left of the device.
-    // (few lines cut the power: in a frame of its own it costs the others nothing)
+    // (not inlined: few lines cut the power, and the others have no frame of its locals)
     #[inline(never)]
     pub fn cut(self, outcome: Outcome) -> MemDisk
         ensures left { IsLeftBy outcome (fuse_state_of self.entry.clerk.keeper.writer.device)

@@ -203,7 +203,6 @@ impl<'d> Terminals<'d> {
         if !waits {
             self.first = MOST_TERMINALS as u8;
             self.end = 0;
-            return Ok(());
         }
         Ok(())
     }

@@ -42,7 +42,7 @@ pub enum Outcome<'d> {
     Visited(SeatReturn<'d>, End),
 }
 
-/// That a connection was attended to, and what came of it. Only `attend` makes one.
+/// Evidence that a connection was attended to, and what came of it. Only `attend` makes one.
 #[derive(Drop)]
 pub struct Attendance<'d> {
     outcome: Outcome<'d>,

@@ -28,7 +28,7 @@ struct Open {
     closer: Closer,
 }
 
-/// That a connection was let in. It asks for one seat. Only `enter` makes one.
+/// Evidence that a connection was let in. It asks for one seat. Only `enter` makes one.
 #[derive(Drop)]
 pub struct Ticket {
     number: u64,
@@ -88,8 +88,9 @@ impl Connection {
     }
 }
 
-/// That the end of a connection that was let in is to be counted. It can't be let go: a thread whose
-/// work returns that one was counted takes it, or the count itself. Only `enter` makes one.
+/// Evidence that the end of a connection that was let in is to be counted. It can't be let go: a
+/// thread whose work returns that one was counted takes it, or the count itself. Only `enter` makes
+/// one.
 pub(crate) struct DueEnd {
     number: u64,
 }
@@ -125,7 +126,7 @@ impl DueEnd {
     }
 }
 
-/// That the end of the connection of this number was counted. Only `leave` makes one.
+/// Evidence that the end of the connection of this number was counted. Only `leave` makes one.
 #[derive(Drop)]
 pub(crate) struct CountedEnd {
     number: u64,

@@ -20,6 +20,7 @@ mod serving;
 mod shared;
 mod socket;
 mod speaking;
+mod unused;
 mod waking;
 
 pub use attending::{Attendance, Outcome, attend};

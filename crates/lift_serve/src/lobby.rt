@@ -30,8 +30,8 @@ impl<'d> Model for Lobby<'d> {
     ghost invariant = { λ l. IsLobbyOf l.desk.now l.places.items };
 }
 
-/// That the seat of this place was taken out of a lobby. It can't be let go: only `put_back` ends
-/// it, so a seat that was taken out is put back. Only `take` makes one.
+/// Evidence that the seat of this place was taken out of a lobby. It can't be let go: only
+/// `put_back` ends it, so a seat that was taken out is put back. Only `take` makes one.
 pub struct Vacancy<'d> {
     held: Snapshot<HeldSeat<'d>>,
 }
@@ -44,8 +44,8 @@ impl<'d> Model for Vacancy<'d> {
     ghost view = { λ v. v.held.value };
 }
 
-/// That a lobby was asked for a terminal's seat, which was taken out, or which its desk hasn't. Only
-/// `take` makes one.
+/// Evidence that a lobby was asked for a terminal's seat, which was taken out, or which its desk
+/// hasn't. Only `take` makes one.
 #[derive(Drop)]
 pub struct NoSeat<'d> {
     desk: &'d Desk,
@@ -84,8 +84,8 @@ impl<'d> NoSeat<'d> {
     }
 }
 
-/// That this place of a terminal, with its seat and what is known of it, was put back into a lobby.
-/// Only `put_back` makes one.
+/// Evidence that this place of a terminal, with its seat and what is known of it, was put back into
+/// a lobby. Only `put_back` makes one.
 #[derive(Drop)]
 pub struct SeatReturn<'d> {
     held: Snapshot<HeldSeat<'d>>,

@@ -10,7 +10,8 @@ use crate::prepared::shortages::{ServingEnd, Shortages, closer_of, open_desk};
 use crate::seating::new_pagers;
 use crate::serving::ServeFault;
 use crate::socket::ListeningCloser;
-use lift_desk::{ClerkSeat, Desk, DeskParts, Seat};
+use crate::unused::UnusedClerkSeat;
+use lift_desk::{Desk, Seat};
 use std::alloc::Global;
 
 /// A desk with all its seats, a pager for each terminal that there can be, what shuts the socket down,
@@ -18,7 +19,7 @@ use std::alloc::Global;
 pub(crate) struct OpenedDesk {
     pub(crate) desk: Desk,
     pub(crate) seats: Vec<Seat>,
-    pub(crate) clerk: ClerkSeat,
+    pub(crate) clerk: UnusedClerkSeat,
     pub(crate) pagers: Vec<Pager>,
     pub(crate) closer: ListeningCloser,
     pub(crate) shortages: Shortages,
@@ -46,7 +47,7 @@ pub(crate) fn open(
         ⊎ (end.fault ≡ Some ServeFault.Memory)) }
     ensures unserved { IfErr result (λ end. end.ended ≡ None) }
 {
-    let DeskParts { desk, seats, clerk } = match open_desk(alloc, terminals) {
+    let (desk, seats, clerk) = match open_desk(alloc, terminals) {
         Ok(parts) => parts,
         Err(shortage) => return Err(shortages.unserved(shortage)),
     };

@@ -16,10 +16,10 @@ use std::marker::Model;
 use std::snapshot::Snapshot;
 use std::thread::{Promise, PromisedHandle, Scope};
 
-/// That no more connections are accepted in a serving that is bound so: all have ended that were to
-/// end, or all are given up, since the serving itself was refused a thread, for the accepting or for the
-/// allocator. Only the calls below make one: of `Connections`, which have counted the ends, or where
-/// that thread was refused.
+/// Evidence that no more connections are accepted in a serving that is bound so: all have ended
+/// that were to end, or all are given up, since the serving itself was refused a thread, for the
+/// accepting or for the allocator. Only the calls below make one: of `Connections`, which have
+/// counted the ends, or where that thread was refused.
 #[derive(Drop)]
 pub struct Over {
     have_ended: bool,

@@ -1,4 +1,4 @@
-//! A seat's port that wakes the clerk, and sleeps between two looks.
+//! A seat's port that wakes the allocator, and sleeps between two looks.
 
 ghost use Rattle.std.specs.Prelude.{◌≡◌, ◌≢◌, ◌↔◌, ◌+◌, OnOk, OnErr, None, Err, true};
 ghost use Rattle.lift_kiosk.specs.Desk.{place_of};
@@ -25,8 +25,8 @@ impl<'r, R: Wait + Clock> Rest for Sleep<'r, R> {
     }
 }
 
-/// A terminal's port at the desk. It wakes the clerk after each ask, once that is stored, and it
-/// rests by sleeping for a millisecond, or until its answer is stored.
+/// A terminal's port at the desk. It wakes the allocator after each ask, once that is stored, and
+/// it rests by sleeping for a millisecond, or until its answer is stored.
 #[derive(Drop)]
 pub struct RestingPort<'d, 'r, R: Wait + Clock> {
     port: DeskPort<'d>,
@@ -38,7 +38,7 @@ pub struct RestingPort<'d, 'r, R: Wait + Clock> {
 }
 
 impl<'d, 'r, R: Wait + Clock> RestingPort<'d, 'r, R> {
-    /// The port, with the runtime that it sleeps by, the clerk's bell and its terminal's pager.
+    /// The port, with the runtime that it sleeps by, the allocator's bell and its terminal's pager.
     pub fn new(port: DeskPort<'d>, rt: &'r R, bell: &'r AskBell, pager: &'r Pager) -> Self
         ensures port { result.port ≡ port.entry }
         ensures rests { result.rests ≡ 0 }

@@ -299,7 +299,7 @@ where
         Ok(opened) => opened,
         Err(end) => return unserved(end, keeper, witness),
     };
-    let clerk = keeper.at(&desk, clerk, policy);
+    let clerk = clerk.at(&desk, keeper, policy);
     let building = clerk.keeper().building();
     let lobby = Mutex::new(lobby_of(&clerk, &pagers, seats));
     let parts = match Parts::of(alloc, clerk, witness) {

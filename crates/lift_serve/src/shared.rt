@@ -43,6 +43,7 @@ impl<'a, 'd> Shared<'a, 'd> {
     pub(crate) fn over<R: Wait>(self, rt: &R) -> Over
         ensures { IsEndAt self.entry.bound.now result }
     {
+        // (it is over when this is called, and no clause knows what the lock holds)
         for _ in rt.forever() {
             if let Some(over) = self.is_over(rt) {
                 return over;

@@ -66,8 +66,8 @@ impl ListeningCloser {
     }
 }
 
-/// That a connection was accepted. It can't be let go: it is let in, or there was no memory for that,
-/// or no more are.
+/// Evidence that a connection was accepted. It can't be let go: it is let in, or there was no
+/// memory for that, or no more are.
 pub(crate) struct Arrival {
     stream: TcpStream,
 }

@@ -64,6 +64,7 @@ impl Leaving {
     {
         let place = goal_of(pass, row);
         let persons = u16::from(row.party.get());
+        // (33 calls of 15 persons at most: it never wraps)
         self.persons[place] = self.persons[place].wrapping_add(persons);
     }
 

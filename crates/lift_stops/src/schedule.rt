@@ -125,6 +125,7 @@ const FEW_ROWS: usize = 8;
 #[derive(Drop)]
 pub struct Schedule {
     position: Position,
+    /// Those of a car, at most 32, or one more while it is weighed.
     rows: ArrayVec<Row, 33>,
     is_listed: bool,
     /// Whether a new call was weighed by the list.

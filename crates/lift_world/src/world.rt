@@ -19,7 +19,8 @@ use crate::lists::{
     reserve_both, taken_of,
 };
 use lift_base::{
-    Body, Entry, Letter, MOST_CARS, Memory, Number, Position, Terminal, push, reserve_one,
+    Body, Entry, Letter, MOST_BATCHES, MOST_CARS, Memory, Number, Position, Terminal, push,
+    reserve_one,
 };
 use lift_building::Building;
 use lift_policy::Command;
@@ -289,7 +290,7 @@ impl<'b> World<'b> {
         ensures { result ≡ may_take self.now terminal }
     {
         !self.power.is_off()
-            && self.queue.len() <= 4
+            && self.queue.len() <= MOST_BATCHES
             && count_answers(&self.answered, terminal) < count_asks(&self.asked, terminal)
             && !self.is_unanswered(terminal)
     }

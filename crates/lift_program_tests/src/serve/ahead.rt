@@ -18,8 +18,8 @@ use std::sync::atomic::Ordering;
 use std::thread::Threads;
 use std::time::Clock;
 
-/// Both cars say where they are. Kiosk 1 calls, and kiosk 0 once the sync for that call is held. Both
-/// hear, and are gone.
+/// Both cars say where they are. Kiosk 1 calls, and kiosk 0, of which another connection is refused
+/// meanwhile, once the sync for that call is held. Both hear, and are gone.
 const BOTH_CALL: &str = "\
 1+
 1>CAR A
@@ -39,6 +39,10 @@ const BOTH_CALL: &str = "\
 3<READY 0
 4>KIOSK 0
 4<READY 0
+1+
+1>KIOSK 0
+1<BUSY
+1-
 3>CALL 1 2
 3s
 4>CALL 1 5
@@ -186,7 +190,7 @@ fn open_after<
 /// A call is decided while a sync is held, and a letter comes after the last end.
 #[test]
 fn letters_come_while_a_sync_is_held(rt: HostRuntime) {
-    for (sessions, script, calls) in [(4, BOTH_CALL, 2), (3, ONE_CALLS, 1)] {
+    for (sessions, script, calls) in [(5, BOTH_CALL, 2), (3, ONE_CALLS, 1)] {
         assert!(rt;
             open_after(&rt, rt.alloc(), sessions, script) == calls,
             "{sessions}"

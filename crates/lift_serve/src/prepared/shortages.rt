@@ -19,8 +19,9 @@ use crate::over::Over;
 use crate::pace::Pager;
 use crate::serving::ServeFault;
 use crate::socket::{Listening, ListeningCloser};
+use crate::unused::UnusedClerkSeat;
 use lift_base::{MOST_TERMINALS, two_owners};
-use lift_desk::{Desk, DeskParts};
+use lift_desk::{Desk, DeskParts, Seat};
 use lift_disk::Disk;
 use lift_policy::Policy;
 use lift_relay::{Allocator, Flusher, HeldClerk, split_held};
@@ -34,9 +35,9 @@ use std::thread::Scope;
 /// How much is read of a connection at once, in bytes.
 const AHEAD: usize = 512;
 
-/// That a thread or memory was refused. Only the calls below that were refused it make one, of which
-/// none asks for more than the serving has a use for. It can't be let go: it is noted, or nobody is
-/// served for it.
+/// Evidence that a thread or memory was refused. Only the calls below that were refused it make
+/// one, of which none asks for more than the serving has a use for. It can't be let go: it is
+/// noted, or nobody is served for it.
 pub struct Shortage {
     fault: ServeFault,
     ghost begun: { fault ≢ ServeFault.Network },
@@ -86,8 +87,8 @@ impl Model for ServingEnd {
 }
 
 impl ServingEnd {
-    /// That no thread could be had for the serving itself, and else the first that was refused to the
-    /// rest.
+    /// Its fault: that no thread could be had for the serving itself, and else the first that was
+    /// refused to the rest.
     pub fn fault(&self) -> Option<ServeFault>
         ensures { result ≡ self.now.fault }
     {
@@ -250,19 +251,22 @@ pub(crate) fn closer_of(
     }
 }
 
-/// A desk of so many terminals, with all its seats.
-pub(crate) fn open_desk(alloc: Global, terminals: usize) -> Result<DeskParts, Shortage>
+/// A desk of so many terminals with all its seats, of which the clerk's are for a clerk alone.
+pub(crate) fn open_desk(
+    alloc: Global,
+    terminals: usize,
+) -> Result<(Desk, Vec<Seat>, UnusedClerkSeat), Shortage>
     requires { (1 ≤ terminals) × (terminals ≤ 63) }
-    ensures count { IfOk result (λ parts. length parts.desk ≡ terminals) }
-    ensures seats { IfOk result (λ parts. parts.seats.items ≡ seats_from 0 parts.desk) }
-    ensures seats_at { IfOk result (λ parts. AreSeatsOf parts.desk parts.seats.items) }
-    ensures clerk { IfOk result (λ parts. parts.clerk ≡ clerk_of parts.desk) }
-    ensures clerk_at { IfOk result (λ parts. IsClerkOf parts.desk parts.clerk) }
-    ensures owes { IfOk result (λ parts. OwesNothing parts.clerk) }
+    ensures count { IfOk result (λ parts. length parts.0 ≡ terminals) }
+    ensures seats { IfOk result (λ parts. parts.1.items ≡ seats_from 0 parts.0) }
+    ensures seats_at { IfOk result (λ parts. AreSeatsOf parts.0 parts.1.items) }
+    ensures clerk { IfOk result (λ parts. parts.2 ≡ clerk_of parts.0) }
+    ensures clerk_at { IfOk result (λ parts. IsClerkOf parts.0 parts.2) }
+    ensures owes { IfOk result (λ parts. OwesNothing parts.2) }
     ensures lack { IfErr result (λ shortage. shortage ≡ ServeFault.Memory) }
 {
     match Desk::open(alloc, terminals) {
-        Ok(parts) => Ok(parts),
+        Ok(DeskParts { desk, seats, clerk }) => Ok((desk, seats, UnusedClerkSeat::new(clerk))),
         Err(_) => Err(no_memory()),
     }
 }

@@ -5,7 +5,7 @@ use crate::disk::calls::memory;
 use crate::journal::listing::{add_all, add_batch, is_next, lists, made, make};
 use crate::journal::records::{Batch, DEMO};
 use arrayvec::ArrayVec;
-use lift_base::Record;
+use lift_base::{MOST_ENTRIES, Record};
 use lift_disk::{Arm, Disk, FlakyDisk};
 use lift_journal::{Cursor, Journal, JournalFault, Visitor};
 
@@ -18,7 +18,7 @@ struct Counter {
 impl Visitor for Counter {
     ghost takes = { λ old records new. ⊤ };
 
-    fn visit(&mut self, records: &ArrayVec<Record, 63>) {
+    fn visit(&mut self, records: &ArrayVec<Record, MOST_ENTRIES>) {
         self.seen = self
             .seen
             .wrapping_mul(64)

@@ -5,7 +5,7 @@ ghost use Rattle.lift_journal.specs.Order.{IsEntry};
 
 use crate::plain::Plain;
 use arrayvec::ArrayVec;
-use lift_base::{Dir, Record, Shape};
+use lift_base::{Dir, MOST_ENTRIES, Record, Shape};
 use lift_record::is_lawful;
 
 /// Ten floors, two cars, two kiosks, and halves of 64 sectors.
@@ -30,7 +30,7 @@ fn stop(number: u32) -> Record {
 }
 
 impl Batch {
-    pub(crate) fn records(&self) -> ArrayVec<Record, 63> {
+    pub(crate) fn records(&self) -> ArrayVec<Record, MOST_ENTRIES> {
         match *self {
             Batch::Stops(first, count) => {
                 let mut stops = ArrayVec::from([stop(first); 63]);
@@ -57,7 +57,7 @@ fn is_entry(record: &Record) -> bool
 }
 
 /// These records as a batch, where there are 1 to 63 and the journal takes each.
-pub(crate) fn as_batch(records: &[Record]) -> Option<ArrayVec<Record, 63>>
+pub(crate) fn as_batch(records: &[Record]) -> Option<ArrayVec<Record, MOST_ENTRIES>>
     ensures some { IfSome result (λ batch. 1 ≤ length batch.items) }
     ensures lawful { IfSome result (λ batch. All IsLawful batch.items) }
     ensures entries { IfSome result (λ batch. All IsEntry batch.items) }
