@@ -1,17 +1,41 @@
 -- Filling or copying the loose sectors, one after another.
-use Rattle.std.proofs.Common.{◌≡◌, ◌<◌, ◌≤◌, ℕ, zero, suc, Bool, true, false, List, [], ◌∷◌, length, replicate, get_or, slice_get, Some, refl, sym, ◌∙◌, ap, ⊎_elim, arith}
+use Rattle.std.proofs.Common.{◌≡◌, ◌≢◌, ◌<◌, ◌≤◌, ◌+◌, ℕ, zero, suc, Bool, true, false, List, [], ◌∷◌, length, replicate, get_or, slice_get, slice_set, Some, refl, sym, ◌∙◌, ap, subst, ⊎_elim, arith}
 use Rattle.std.specs.Option.{unwrap_or}
-use Rattle.std.proofs.lemmas.List.{same_lists, length-replicate}
-use Rattle.std.proofs.lemmas.Bool.{cases_lt}
-use Rattle.std.proofs.lemmas.Option.{unwrap_or-slice_get}
+use Rattle.std.proofs.lemmas.List.{same_lists, length-replicate, length-set}
+use Rattle.std.proofs.lemmas.Bool.{cases_lt, false≢true}
+use Rattle.std.proofs.lemmas.Option.{get_or_from_slice_get, slice_get-get_or, unwrap_or-slice_get}
 use Rattle.lift_disk.specs.Disk.{Image}
 use Rattle.lift_disk.specs.Memory.{IsFlagged}
+use Rattle.lift_disk.specs.lemmas.History.{same_or_not, set_here, set_other}
 
 -- those below this number are filled
 pub record IsFilledTo (byte end : ℕ) (loose : List Bool) (old new : Image) : Type 0 where
   pub size : length new ≡ length old
   pub below : (i : ℕ) → i < end → IsFlagged loose i → slice_get new i ≡ Some (replicate 512 byte)
   pub others : (i : ℕ) → ¬ IsFlagged loose i → slice_get new i ≡ slice_get old i
+
+-- a loose one is filled
+pub filled_more : (byte at : ℕ) (loose : List Bool) (old now : Image) → at < length now → length loose ≡ length old → get_or loose at false ≡ true → IsFilledTo byte at loose old now
+    → IsFilledTo byte (at + 1) loose old (slice_set now at (replicate 512 byte))
+filled_more byte at loose old now there sized set so_far =
+    let bytes : List ℕ = replicate 512 byte in
+    let here : IsFlagged loose at = slice_get-get_or loose at false (omega (arith, there, sized, so_far.size)) ∙ ap (λ b. Some b) set in
+    record {
+      size = length-set now at bytes ∙ so_far.size;
+      below = λ i before is. ⊎_elim (λ (same : i ≡ at). ap (slice_get (slice_set now at bytes)) same ∙ set_here now at bytes there)
+          (λ (other : i ≢ at). set_other now at i bytes other ∙ so_far.below i (omega (arith, before, other)) is) (same_or_not i at);
+      others = λ i not. set_other now at i bytes (λ (same : i ≡ at). not (subst (IsFlagged loose) (sym same) here)) ∙ so_far.others i not;
+    }
+
+-- another one stays
+pub filled_past : (byte at : ℕ) (loose : List Bool) (old now : Image) → get_or loose at false ≡ false → IsFilledTo byte at loose old now → IsFilledTo byte (at + 1) loose old now
+filled_past byte at loose old now unset so_far = record {
+  size = so_far.size;
+  below = λ i before is.
+      let other : i ≢ at = λ same. false≢true (sym unset ∙ get_or_from_slice_get loose at true false (subst (IsFlagged loose) same is)) in
+      so_far.below i (omega (arith, before, other)) is;
+  others = so_far.others;
+}
 
 -- those below this number are copied, and no other differs but flagged ones
 pub record IsCopiedTo (end : ℕ) (flags : List Bool) (from to : Image) : Type 0 where

@@ -1,5 +1,6 @@
 pub mod Fills
 pub mod Cuts
+mod Places
 mod Passed
 mod OnFile
 mod Synced

@@ -96,9 +96,6 @@ module _ (first : Image) (calls : List Call) (now synced : Image) (loose : List 
   within_run : ChangesWithin (IsFlagged loose) now (with_run from run now)
   within_run = run_loose (IsFlagged loose) run from now announced
 
-  pub run_kept : ChangesWithin (IsFlagged loose) now synced → ChangesWithin (IsFlagged loose) (with_run from run now) synced
-  run_kept kept = left_with (IsFlagged loose) now (with_run from run now) synced within_run kept
-
   pub run_goes_on : (begun : Image) (later : List Call) (made2 writes2 : ℕ) (trace2 : List Access) → begun ≡ first → later ≡ calls ++ writes_of from run → made2 ≡ made + 1
       → GoesOn (memory_state first calls now synced loose steady failures made writes trace) (memory_state begun later (with_run from run now) synced loose steady failures made2 writes2 trace2)
   run_goes_on begun later made2 writes2 trace2 same is one =

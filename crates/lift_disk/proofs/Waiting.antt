@@ -3,7 +3,7 @@ use Rattle.std.proofs.Common.{◌≡◌, ◌≢◌, ◌⊎◌, ◌↔◌, ◌<�
 use Rattle.std.proofs.lemmas.Option.{slice_get-get_or}
 use Rattle.std.proofs.lemmas.List.{length-set}
 use Rattle.lift_disk.specs.Trace.{Access}
-use Rattle.lift_disk.specs.Disk.{DiskState, Image, ChangesWithin, Elapses, GoesOn, SectorIsWritten, ReadsAsWritten, Touches, TouchesNothing, LeavesAsBefore, IsSteadyAt, KeepsWrites}
+use Rattle.lift_disk.specs.Disk.{DiskState, Image, ChangesWithin, Elapses, GoesOn, SectorIsWritten, ReadsAsWritten, Touches, LeavesAsBefore, IsSteadyAt, KeepsWrites}
 use Rattle.lift_disk.specs.Runs.{IsInRun, with_run, Announces, buffered, waiting, Rests, Loosens, run_outside, run_loose, left_with}
 use Rattle.lift_disk.specs.lemmas.History.{set_here}
 use Rattle.lift_disk.specs.lemmas.Moments.{changes_nothing, changes_more, changes_twice, changes_both}

@@ -2,6 +2,7 @@ pub mod Trace
 pub mod FileCalls
 pub mod Traced
 pub mod Disk
+pub mod Places
 pub mod Calls
 pub mod Noted
 pub mod Memory

@@ -13,6 +13,7 @@ use Rattle.lift_disk.specs.FileCalls.FileCall.{Read as ReadBytes, Write as Write
 use Rattle.lift_disk.specs.FileCalls.FileCall.{ReadSectors, SetLength, SyncAll, GetLength, DropCached}
 use Rattle.lift_disk.specs.FileCalls.FileCall.{Lock}
 use Rattle.lift_disk.specs.Disk.{Image}
+use Rattle.lift_disk.specs.Places.{all_now}
 use Rattle.lift_disk.specs.Calls.{Call, writes_of}
 use Rattle.lift_disk.specs.Calls.Call.{Write as Written, Sync as Synced}
 
@@ -34,13 +35,13 @@ file_call_of called.DropCached = DropCached
 file_call_of called.Lock = Lock
 
 abbrev pub first_after : Change → Image → Image
-first_after (change.First image) first = image.now
+first_after (change.First sectors) first = all_now sectors.now
 first_after (change.Write sector bytes) first = first
 first_after (change.WriteRun sector run) first = first
 first_after (change.Sync loose) first = first
 
 abbrev pub calls_after : Change → List Call → List Call
-calls_after (change.First image) calls = []
+calls_after (change.First sectors) calls = []
 calls_after (change.Write sector bytes) calls = calls ++ Written sector bytes.now ∷ []
 calls_after (change.WriteRun sector run) calls = calls ++ writes_of sector run.now
 calls_after (change.Sync loose) calls = calls ++ Synced loose.now ∷ []

@@ -3,13 +3,15 @@ use Rattle.std.specs.Prelude.{◌≡◌, ◌+◌, ◌↔◌, ℕ, Option, Some, 
 use Rattle.lift_disk.specs.Disk.{DiskState, Image, MayLeave, GoesOn, Touches, TouchesNothing}
 use Rattle.lift_disk.specs.Disk.{StaysLoose, IsFilled}
 use Rattle.lift_disk.specs.Memory.{memory_state}
+use Rattle.lift_disk.specs.Places.{all_now, all_safe}
 use Rattle.lift_disk.specs.declared.memory.MemDisk.{MemDisk}
 use Rattle.lift_disk.specs.declared.outcome.Outcome.{Outcome}
 use Rattle.lift_disk.specs.declared.outcome.Outcome.TheVariants.{Keep, Lose, Fill}
 
 abbrev pub state_of : MemDisk → DiskState
-state_of m = memory_state m.history.first m.history.calls m.image.items m.synced.items m.loose.items
-    m.is_steady m.failures.count m.calls.count m.writes.count m.trace.calls
+state_of m = memory_state m.history.first m.history.calls (all_now m.sectors.places.items)
+    (all_safe m.sectors.places.items) m.sectors.loose.items m.is_steady m.failures.count
+    m.calls.count m.writes.count m.trace.calls
 
 -- which sector a failed call makes loose
 abbrev pub SpoilsSector : Option ℕ → DiskState → DiskState → Type 0

@@ -6,13 +6,14 @@ ghost use Rattle.lift_disk.specs.Disk.{Image};
 ghost use Rattle.lift_disk.specs.Calls.{Call, calls_code, image_code, writes_of};
 ghost use Rattle.lift_disk.specs.Calls.Call.{Write, Sync};
 
+use crate::two_places::TwoPlaces;
 use std::marker::Model;
 
 /// What is recorded.
 #[derive(Clone, Copy, Drop)]
 enum Change<'a> {
-    /// The device begins with these sectors, and no call.
-    First(&'a [[u8; 512]]),
+    /// The device begins with what was written last in these sectors, and no call.
+    First(&'a [TwoPlaces]),
     /// These bytes are written to the sector.
     Write(u32, &'a [u8; 512]),
     /// These are written, from the sector on.
@@ -34,6 +35,7 @@ impl Model for ProofHistory {
 
 impl ProofHistory {
     ghost use Rattle.lift_disk.specs.Noted.{first_after, calls_after};
+    ghost use Rattle.lift_disk.specs.Places.{all_now};
 
     /// No sector, and no call.
     fn new() -> ProofHistory
@@ -51,12 +53,12 @@ impl ProofHistory {
         ProofHistory {}
     }
 
-    /// A device that begins with these sectors, and no call.
+    /// A device that begins with what was written last in these sectors, and no call.
     #[inline(always)]
-    pub(crate) fn begin(image: &[[u8; 512]]) -> ProofHistory
-        ensures { (result.first ≡ image.now) × (result.calls ≡ []) }
+    pub(crate) fn begin(sectors: &[TwoPlaces]) -> ProofHistory
+        ensures { (result.first ≡ all_now sectors.now) × (result.calls ≡ []) }
     {
-        ProofHistory::new().then(&Change::First(image))
+        ProofHistory::new().then(&Change::First(sectors))
     }
 
     /// Records a write.

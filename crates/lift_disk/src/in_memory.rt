@@ -1,14 +1,16 @@
 //! The work on the sectors of a device in memory, and on the flags of those that no sync has made
 //! safe.
-ghost use Rattle.std.specs.Prelude.{◌≡◌, ◌≤◌, ◌+◌, ℕ, length, replicate, slice_get, Some, false};
-ghost use Rattle.std.specs.Prelude.{IfOk};
+ghost use Rattle.std.specs.Prelude.{◌≡◌, ◌≤◌, ◌<◌, ◌+◌, [], ℕ, length, replicate, slice_get};
+ghost use Rattle.std.specs.Prelude.{slice_index_or, slice_set, Some, false, IfOk};
 ghost use Rattle.lift_disk.specs.Disk.{ChangesWithin};
 ghost use Rattle.lift_disk.specs.Memory.{IsFlagged, IsWithin, LeavesBy};
+ghost use Rattle.lift_disk.specs.Places.{all_now, all_safe};
 ghost use Rattle.lift_disk.specs.Runs.{HoldsRun, with_run};
 
 use crate::Outcome;
 use crate::runs::MOST_AHEAD;
 use crate::span::Span;
+use crate::two_places::TwoPlaces;
 use lift_base::{Memory, push};
 use std::alloc::Global;
 
@@ -23,97 +25,151 @@ pub(crate) fn clear(flags: &mut Vec<bool>, span: Span)
     }
 }
 
-/// Writes the flagged sectors over those of the same places. The others are the same already.
-pub(crate) fn copy_flagged(from: &[[u8; 512]], flags: &[bool], span: Span, to: &mut Vec<[u8; 512]>)
-    requires sized { length flags.now ≡ length from.now }
+/// What was written last in this sector.
+#[inline]
+pub(crate) fn now_at(sectors: &[TwoPlaces], index: usize) -> &[u8; 512]
+    requires { index < length (all_now sectors.now) }
+    ensures { result.now ≡ slice_index_or (all_now sectors.now) index [] }
+{
+    sectors[index].now()
+}
+
+/// Writes these bytes in this sector. What is safe in it stays.
+#[inline]
+pub(crate) fn write_at(sectors: &mut Vec<TwoPlaces>, index: usize, bytes: &[u8; 512])
+    requires { index < length (all_now sectors.old.items) }
+    ensures now { all_now sectors.new.items
+        ≡ slice_set (all_now sectors.old.items) index bytes.now }
+    ensures safe { all_safe sectors.new.items ≡ all_safe sectors.old.items }
+{
+    sectors[index].write(bytes);
+}
+
+/// Makes safe what was written last in this sector.
+#[inline]
+fn save_at(sectors: &mut Vec<TwoPlaces>, index: usize)
+    requires { index < length (all_now sectors.old.items) }
+    ensures now { all_now sectors.new.items ≡ all_now sectors.old.items }
+    ensures safe { all_safe sectors.new.items ≡ slice_set (all_safe sectors.old.items) index
+        (slice_index_or (all_now sectors.old.items) index []) }
+{
+    sectors[index].save();
+}
+
+/// What is safe in this sector is there again.
+#[inline]
+fn take_back_at(sectors: &mut Vec<TwoPlaces>, index: usize)
+    requires { index < length (all_now sectors.old.items) }
+    ensures now { all_now sectors.new.items ≡ slice_set (all_now sectors.old.items) index
+        (slice_index_or (all_safe sectors.old.items) index []) }
+    ensures safe { all_safe sectors.new.items ≡ all_safe sectors.old.items }
+{
+    sectors[index].take_back();
+}
+
+/// Makes safe what was written last in the flagged sectors. In the others it is already.
+pub(crate) fn save_flagged(flags: &[bool], span: Span, sectors: &mut Vec<TwoPlaces>)
+    requires sized { length flags.now ≡ length (all_now sectors.old.items) }
     requires bound { span.end ≤ length flags.now }
     requires spanned { (i : ℕ) → IsFlagged flags.now i → IsWithin span.from span.end i }
-    requires kept { ChangesWithin (IsFlagged flags.now) from.now to.old.items }
-    ensures { to.new.items ≡ from.now }
+    requires kept { ChangesWithin (IsFlagged flags.now) (all_now sectors.old.items)
+        (all_safe sectors.old.items) }
+    ensures now { all_now sectors.new.items ≡ all_now sectors.old.items }
+    ensures safe { all_safe sectors.new.items ≡ all_now sectors.old.items }
 {
     for i in span.from..span.end {
         if flags[i] {
-            to[i] = from[i];
+            save_at(sectors, i);
         }
     }
 }
 
-/// Writes these sectors over as many others.
-pub(crate) fn copy(from: &[[u8; 512]], to: &mut Vec<[u8; 512]>)
-    requires { length to.old.items ≡ length from.now }
-    ensures { to.new.items ≡ from.now }
+/// What is safe in these sectors is there again. In the others it still is.
+fn take_back(sectors: &mut Vec<TwoPlaces>, lost: &[bool])
+    requires sized { length lost.now ≡ length (all_now sectors.old.items) }
+    requires kept { ChangesWithin (IsFlagged lost.now) (all_now sectors.old.items)
+        (all_safe sectors.old.items) }
+    ensures now { all_now sectors.new.items ≡ all_safe sectors.old.items }
+    ensures safe { all_safe sectors.new.items ≡ all_safe sectors.old.items }
 {
-    to.copy_from_slice(from);
+    for i in 0..lost.len() {
+        if lost[i] {
+            take_back_at(sectors, i);
+        }
+    }
 }
 
 /// Copies this many sectors from this place on to the front of the buffer.
 pub(crate) fn read_sectors(
-    sectors: &[[u8; 512]],
+    sectors: &[TwoPlaces],
     from: usize,
     count: usize,
     buffer: &mut [[u8; 512]; MOST_AHEAD],
 )
     requires count { count ≤ 16 }
-    requires inside { from + count ≤ length sectors.now }
-    ensures { HoldsRun from count buffer.new sectors.now }
+    requires inside { from + count ≤ length (all_now sectors.now) }
+    ensures { HoldsRun from count buffer.new (all_now sectors.now) }
 {
     for i in 0..count {
-        buffer[i] = sectors[from + i];
+        buffer[i] = *now_at(sectors, from + i);
     }
 }
 
 /// Writes these sectors over those from this place on.
-pub(crate) fn write_sectors(sectors: &mut Vec<[u8; 512]>, from: usize, run: &[[u8; 512]])
-    requires inside { from + length run.now ≤ length sectors.old.items }
-    ensures { sectors.new.items ≡ with_run from run.now sectors.old.items }
+pub(crate) fn write_sectors(sectors: &mut Vec<TwoPlaces>, from: usize, run: &[[u8; 512]])
+    requires inside { from + length run.now ≤ length (all_now sectors.old.items) }
+    ensures now { all_now sectors.new.items ≡ with_run from run.now (all_now sectors.old.items) }
+    ensures safe { all_safe sectors.new.items ≡ all_safe sectors.old.items }
 {
     for i in 0..run.len() {
-        sectors[from + i] = run[i];
+        write_at(sectors, from + i, &run[i]);
     }
 }
 
 /// Fills the loose sectors with this byte.
-fn fill(sectors: &mut Vec<[u8; 512]>, loose: &[bool], byte: u8)
-    requires { length loose.now ≡ length sectors.old.items }
-    ensures size { length sectors.new.items ≡ length sectors.old.items }
+fn fill(sectors: &mut Vec<TwoPlaces>, loose: &[bool], byte: u8)
+    requires { length loose.now ≡ length (all_now sectors.old.items) }
+    ensures size { length (all_now sectors.new.items) ≡ length (all_now sectors.old.items) }
     ensures loose { (i : ℕ) → IsFlagged loose.now i
-        → slice_get sectors.new.items i ≡ Some (replicate 512 byte) }
+        → slice_get (all_now sectors.new.items) i ≡ Some (replicate 512 byte) }
     ensures others { (i : ℕ) → ¬ IsFlagged loose.now i
-        → slice_get sectors.new.items i ≡ slice_get sectors.old.items i }
+        → slice_get (all_now sectors.new.items) i ≡ slice_get (all_now sectors.old.items) i }
+    ensures safe { all_safe sectors.new.items ≡ all_safe sectors.old.items }
 {
+    let bytes = [byte; 512];
     for i in 0..loose.len() {
         if loose[i] {
-            sectors[i] = [byte; 512];
+            write_at(sectors, i, &bytes);
         }
     }
 }
 
 /// What a power cut makes of the sectors.
-pub(crate) fn leave(
-    outcome: Outcome,
-    now: &mut Vec<[u8; 512]>,
-    synced: &[[u8; 512]],
-    loose: &[bool],
-)
-    requires sized { length loose.now ≡ length now.old.items }
-    requires kept { ChangesWithin (IsFlagged loose.now) now.old.items synced.now }
-    ensures left { LeavesBy outcome now.old.items synced.now loose.now now.new.items }
-    ensures within { ChangesWithin (IsFlagged loose.now) now.old.items now.new.items }
+pub(crate) fn leave(outcome: Outcome, sectors: &mut Vec<TwoPlaces>, loose: &[bool])
+    requires sized { length loose.now ≡ length (all_now sectors.old.items) }
+    requires kept { ChangesWithin (IsFlagged loose.now) (all_now sectors.old.items)
+        (all_safe sectors.old.items) }
+    ensures left { LeavesBy outcome (all_now sectors.old.items) (all_safe sectors.old.items)
+        loose.now (all_now sectors.new.items) }
+    ensures within { ChangesWithin (IsFlagged loose.now) (all_now sectors.old.items)
+        (all_now sectors.new.items) }
+    ensures safe { all_safe sectors.new.items ≡ all_safe sectors.old.items }
 {
     match outcome {
         Outcome::Keep => {}
-        Outcome::Lose => copy(synced, now),
-        Outcome::Fill(byte) => fill(now, loose, byte),
+        Outcome::Lose => take_back(sectors, loose),
+        Outcome::Fill(byte) => fill(sectors, loose, byte),
     }
 }
 
-/// This many sectors of zeros.
-pub(crate) fn zeros(alloc: Global, count: u32) -> Result<Vec<[u8; 512]>, Memory>
-    ensures { IfOk result (λ v. v.items ≡ replicate count (replicate 512 0)) }
+/// This many sectors of zeros, all of them safe.
+pub(crate) fn zeros(alloc: Global, count: u32) -> Result<Vec<TwoPlaces>, Memory>
+    ensures now { IfOk result (λ v. all_now v.items ≡ replicate count (replicate 512 0)) }
+    ensures safe { IfOk result (λ v. all_safe v.items ≡ replicate count (replicate 512 0)) }
 {
     let mut sectors = Vec::new(alloc);
     for _i in 0..count {
-        push(&mut sectors, [0; 512])?;
+        push(&mut sectors, TwoPlaces::zeros())?;
     }
     Ok(sectors)
 }

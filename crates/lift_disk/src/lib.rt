@@ -9,6 +9,7 @@ mod file;
 mod file_calls;
 mod in_memory;
 mod memory;
+mod memory_sectors;
 mod opener;
 mod outcome;
 mod rule;
@@ -18,6 +19,7 @@ mod span;
 mod told;
 mod trace;
 mod traced;
+mod two_places;
 
 pub use buffered::Buffered;
 pub use disk::{Arm, Disk, DiskFault};

@@ -1,16 +1,14 @@
 //! A device in memory. Proofs know its calls, so they know what a crash at any past moment might
 //! have left.
-ghost use Rattle.std.specs.Prelude.{◌≡◌, ◌≤◌, ◌<◌, ◌+◌, ◌^◌, ◌++◌, [], ◌∷◌, ℕ, length};
-ghost use Rattle.std.specs.Prelude.{true, false, refl, OnOk, OnErr, IfOk, IfSome, ⊤};
+ghost use Rattle.std.specs.Prelude.{◌≡◌, ◌<◌, refl, IfOk, IfSome, ⊤};
 ghost use Rattle.std.proofs.Common.{inl};
-ghost use Rattle.lift_disk.specs.Disk.{ChangesWithin};
 ghost use Rattle.lift_disk.specs.Blank.{IsBlankDisk};
-ghost use Rattle.lift_disk.specs.Memory.{IsFlagged, IsWithin, image_after, no_other};
+ghost use Rattle.lift_disk.specs.Memory.{image_after, no_other};
+ghost use Rattle.lift_disk.specs.Places.{all_now};
 
 use crate::call::ProofHistory;
-use crate::in_memory::{clear, copy_flagged, leave, no_flags, read_sectors, write_sectors, zeros};
+use crate::memory_sectors::MemorySectors;
 use crate::runs::{Ahead, RunDisk};
-use crate::span::Span;
 use crate::trace::{Made, ProofTrace};
 use crate::{Disk, DiskFault, Outcome};
 use lift_base::{Memory, ProofCount};
@@ -21,23 +19,13 @@ use std::alloc::Global;
 #[derive(Drop)]
 pub struct MemDisk {
     history: ProofHistory,
-    image: Vec<[u8; 512]>,
-    synced: Vec<[u8; 512]>,
-    loose: Vec<bool>,
-    /// No sector outside of it is loose, so that a sync need not look at them all.
-    span: Span,
+    sectors: MemorySectors,
     is_steady: bool,
     failures: ProofCount,
     calls: ProofCount,
     writes: ProofCount,
     trace: ProofTrace,
-    ghost sized: { length loose.items ≡ length image.items },
-    ghost fits: { length image.items < 2 ^ 32 },
-    ghost spanned: { (i : ℕ) → IsFlagged loose.items i → IsWithin span.from span.end i },
-    ghost order: { span.from ≤ span.end },
-    ghost bound: { span.end ≤ length image.items },
-    ghost recorded: { image_after history.calls history.first ≡ image.items },
-    ghost kept: { ChangesWithin (IsFlagged loose.items) image.items synced.items },
+    ghost recorded: { image_after history.calls history.first ≡ all_now sectors.places.items },
 }
 
 impl MemDisk {
@@ -47,13 +35,10 @@ impl MemDisk {
     pub fn new(alloc: Global, sectors: u32) -> Result<MemDisk, Memory>
         ensures blank { IfOk result (λ disk. IsBlankDisk sectors (state_of disk)) }
     {
-        let image = zeros(alloc, sectors)?;
+        let sectors = MemorySectors::new(alloc, sectors)?;
         Ok(MemDisk {
-            history: ProofHistory::begin(&image),
-            image,
-            synced: zeros(alloc, sectors)?,
-            loose: no_flags(alloc, sectors)?,
-            span: Span::none(),
+            history: ProofHistory::begin(sectors.as_slice()),
+            sectors,
             is_steady: true,
             failures: ProofCount::new(),
             calls: ProofCount::new(),
@@ -72,8 +57,7 @@ impl MemDisk {
         self.is_steady = false;
         if let Some(i) = sector {
             self.writes = ProofCount::next(&self.writes);
-            self.loose[i as usize] = true;
-            self.span = self.span.with(i);
+            self.sectors.loosen(i);
         }
     }
 
@@ -82,8 +66,8 @@ impl MemDisk {
         ensures image { IsLeftBy outcome (state_of self.old) (state_of self.new).image }
         ensures cut { IsCut (state_of self.old) (state_of self.new) }
     {
-        leave(outcome, &mut self.image, &self.synced, &self.loose);
-        self.history = ProofHistory::begin(&self.image);
+        self.sectors.leave(outcome);
+        self.history = ProofHistory::begin(self.sectors.as_slice());
     }
 
     /// Cuts the power. It takes no memory; what a crash might have left before is no longer asked.
@@ -107,18 +91,19 @@ impl Disk for MemDisk {
     ghost counts_now = { λ m _ t left le now. inl now };
 
     ghost only_now = { λ m _ left since.
-        no_other m.history.first m.history.calls m.image.items m.loose.items left since };
+        no_other m.history.first m.history.calls (all_now m.sectors.places.items)
+        m.sectors.loose.items left since };
 
-    ghost may_lose = { λ m _. m.kept };
+    ghost may_lose = { λ m _. m.sectors.kept };
 
     fn sectors(&self) -> u32 {
-        self.image.len() as u32
+        self.sectors.count()
     }
 
     fn read(&mut self, sector: u32, buffer: &mut [u8; 512]) -> Result<(), DiskFault> {
         self.calls = ProofCount::next(&self.calls);
         self.trace = self.trace.then(&Made::Read(u64::from(sector)));
-        *buffer = self.image[sector as usize];
+        *buffer = *self.sectors.get(sector);
         Ok(())
     }
 
@@ -127,19 +112,15 @@ impl Disk for MemDisk {
         self.calls = ProofCount::next(&self.calls);
         self.writes = ProofCount::next(&self.writes);
         self.trace = self.trace.then(&Made::Write(u64::from(sector), bytes));
-        self.image[sector as usize] = *bytes;
-        self.loose[sector as usize] = true;
-        self.span = self.span.with(sector);
+        self.sectors.write(sector, bytes);
         Ok(())
     }
 
     fn sync(&mut self) -> Result<(), DiskFault> {
-        self.history.note_sync(&self.loose);
+        self.history.note_sync(self.sectors.loose());
         self.calls = ProofCount::next(&self.calls);
         self.trace = self.trace.then(&Made::Sync);
-        copy_flagged(&self.image, &self.loose, self.span, &mut self.synced);
-        clear(&mut self.loose, self.span);
-        self.span = Span::none();
+        self.sectors.sync();
         self.is_steady = true;
         Ok(())
     }
@@ -149,14 +130,13 @@ impl RunDisk for MemDisk {
     ghost has_given = { λ _ _ _. ⊤ };
 
     fn announce(&mut self, sector: u32) {
-        self.loose[sector as usize] = true;
-        self.span = self.span.with(sector);
+        self.sectors.loosen(sector);
     }
 
     fn read_run(&mut self, sector: u32, count: usize, buffer: &mut Ahead) -> Result<(), DiskFault> {
         self.calls = ProofCount::next(&self.calls);
         self.trace = self.trace.then(&Made::Read(u64::from(sector)));
-        read_sectors(&self.image, sector as usize, count, buffer);
+        self.sectors.read_run(sector, count, buffer);
         Ok(())
     }
 
@@ -167,7 +147,7 @@ impl RunDisk for MemDisk {
         self.trace = self
             .trace
             .then(&Made::WriteRun(u64::from(sector), run.as_flattened()));
-        write_sectors(&mut self.image, sector as usize, run);
+        self.sectors.write_run(sector, run);
         Ok(())
     }
 }

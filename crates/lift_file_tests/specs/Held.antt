@@ -24,8 +24,8 @@ pub record OpensRun (from count : ℕ) (old new : DiskState) : Type 0 where
 pub last_moment : (f : MemoryFile) (left : Image) → (held f).left_since (held f).moment left
     → MayLeave (held f) left
 last_moment f left since =
-    no_other f.disk.history.first f.disk.history.calls f.disk.image.items f.disk.loose.items left
+    no_other f.disk.history.first f.disk.history.calls (held f).image f.disk.sectors.loose.items left
     since
 
 pub stays_kept : (f : MemoryFile) → MayLeave (held f) (held f).synced
-stays_kept f = f.disk.kept
+stays_kept f = f.disk.sectors.kept

@@ -21,13 +21,6 @@ image_after-push (Write sector bytes ∷ calls) call image =
     image_after-push calls call (slice_set image sector bytes)
 image_after-push (Sync loose ∷ calls) call image = image_after-push calls call image
 
-pub length-image_after : (calls : List Call) (image : Image)
-    → length (image_after calls image) ≡ length image
-length-image_after [] image = refl
-length-image_after (Write sector bytes ∷ calls) image =
-    length-image_after calls (slice_set image sector bytes) ∙ length-set image sector bytes
-length-image_after (Sync loose ∷ calls) image = length-image_after calls image
-
 pub set_other : {X : Type 0} (xs : List X) (i k : ℕ) (x : X) → k ≢ i
     → slice_get (slice_set xs i x) k ≡ slice_get xs k
 set_other [] i k x other = refl

@@ -112,10 +112,10 @@ impl<'a> Disk for Holding<'a> {
     ghost counts_now = { λ d _ t left le now. inl now };
 
     ghost only_now = { λ d _ left since.
-        no_other d.inner.history.first d.inner.history.calls d.inner.image.items d.inner.loose.items
-        left since };
+        no_other d.inner.history.first d.inner.history.calls (state_of d.inner).image
+        d.inner.sectors.loose.items left since };
 
-    ghost may_lose = { λ d _. d.inner.kept };
+    ghost may_lose = { λ d _. d.inner.sectors.kept };
 
     fn sectors(&self) -> u32 {
         self.inner.sectors()
