@@ -13,8 +13,8 @@ use crate::rows::{push_row, same_lasts, same_rows, serve_car};
 use crate::rules::{is_possible_call, is_possible_stop, last_fits, note_ranges, persons};
 use arrayvec::ArrayVec;
 use lift_base::{
-    Content, Entry, Last, Letter, MOST_CARS, MOST_DONE, MOST_KIOSKS, MOST_ROWS, MOST_TERMINALS, Party,
-    Record, Row, Shape, Stop, Terminal,
+    Content, Entry, Last, Letter, MOST_CARS, MOST_DONE, MOST_KIOSKS, MOST_ROWS, MOST_TERMINALS,
+    Party, Record, Row, Shape, Stop, Terminal,
 };
 use lift_building::Building;
 use std::marker::Model;
