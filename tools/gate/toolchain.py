@@ -1,20 +1,13 @@
 """The toolchain's command `rt` as a module, and the top of the repository."""
-import importlib.machinery
-import importlib.util
 import os
+import pathlib
 import shutil
 import sys
 
 sys.dont_write_bytecode = True
-TOP = os.path.dirname(os.path.dirname(os.path.dirname(os.path.realpath(__file__))))
+sys.path.insert(0, str(pathlib.Path(__file__).resolve().parent.parent / "shared"))
+import tried
+
+TOP = str(tried.TOP)
 ONE = ["--jobs", "1"]
-
-
-def load(path):
-    loader = importlib.machinery.SourceFileLoader("rt", path)
-    made = importlib.util.module_from_spec(importlib.util.spec_from_loader("rt", loader))
-    loader.exec_module(made)
-    return made
-
-
-rt = load(os.path.realpath(shutil.which("rt")))
+rt = tried.loaded(os.path.realpath(shutil.which("rt")))

@@ -3,14 +3,17 @@
 `1+` it is made; `1>TEXT` it says this line, `1~TEXT` these bytes; `1<TEXT` it hears just this line; `1.` it hears that the other end is
 closed, and nothing before, `1x` that, or that it is reset; `1-` it hears that after closing its own; `1!` it is reset once an answer waits
 to be read; `1*TEXT` it is made and says this line, again for a second while it is `BUSY`; `1=` other connections are made and closed until
-the server has ended.
+the server has ended. A line of another form isn't as the script has it.
 """
+import contextlib
 import socket
+import subprocess
 import time
 
 PATIENCE = 10  # how long a connection waits for what it wants to hear, in seconds
 RETURN, RETRY = 1, 0.02  # how long it tries to come back, and how long it waits between two tries
 LAST_ONES = 200  # the connections that end a server
+WITH_TEXT, WITHOUT = "*<>~", "+-.!=x"  # the signs
 
 
 def connected(port):
@@ -47,15 +50,24 @@ def comes_back(port, text):
 
 
 def ends(port, server):
-    """Makes connections and closes them until the server has ended."""
+    """Makes connections and closes them until the server has ended, and waits where it has only counted them yet."""
+    until = time.monotonic() + PATIENCE
     for _ in range(LAST_ONES):
-        if server.poll() is not None:
-            return True
+        if server.poll() is not None or time.monotonic() > until:
+            break
         try:
             connected(port).close()
         except OSError:
             time.sleep(RETRY)
+    with contextlib.suppress(subprocess.TimeoutExpired):
+        server.wait(PATIENCE)
     return server.poll() is not None
+
+
+def is_line(line):
+    """Whether it has the form of a script's lines."""
+    name, kind, text = line[:1], line[1:2], line[2:]
+    return name.isdigit() and kind != "" and (kind in WITH_TEXT or kind in WITHOUT and text == "")
 
 
 def follows(callers, port, server, line):
@@ -66,6 +78,8 @@ def follows(callers, port, server, line):
     if kind in "+*":
         callers[name] = connected(port) if kind == "+" else comes_back(port, text)
         return callers[name] is not None
+    if name not in callers:
+        return False
     stream = callers[name]
     if kind in ">~":
         stream.sendall(text.encode() + b"\n" * (kind == ">"))
@@ -86,8 +100,8 @@ def wrong_line(port, server, script):
     callers = {}
     for line in script.splitlines():
         try:
-            if not follows(callers, port, server, line):
-                return line
+            if not is_line(line) or not follows(callers, port, server, line):
+                return line or "an empty line"
         except OSError as fault:
             return f"{line}: {fault}"
     return ""

@@ -10,7 +10,7 @@ import subprocess
 import time
 from collections import namedtuple
 
-from tried import TOP, Wrong, serving
+from tried import LIMIT, TOP, Wrong, make_image, serving
 
 DEMO = TOP / "examples/demo.toml"
 FLOORS, KIOSKS, CARS = 10, (0, 5), "AB"
@@ -182,8 +182,8 @@ class Line:
 
 def number_in(who, words, least, most):
     """The number of a greeting, between the last one that was answered and the last one that was asked."""
-    if words[0] != "READY":
-        raise Wrong(f"{who}: greeted {' '.join(words)}")
+    if words[:1] != ["READY"]:
+        raise Wrong(f"{who}: greeted {' '.join(words) or 'with nothing'}")
     last = int(words[1])
     if last < least:
         raise Lost(f"{who}: number {least} was answered, and the greeting is {' '.join(words)}")
@@ -195,7 +195,7 @@ def number_in(who, words, least, most):
 def compare(liftd, room, kiosks, cars):
     """What `liftd show` tells of a copy of the image, beside what was told."""
     shutil.copy(f"{room}/group.image", f"{room}/copy.image")
-    ran = subprocess.run([liftd, "show", "copy.image", DEMO], cwd=room, capture_output=True, text=True, timeout=60)
+    ran = subprocess.run([liftd, "show", "copy.image", DEMO], cwd=room, capture_output=True, text=True, timeout=LIMIT)
     if (ran.returncode, ran.stderr) != (0, ""):
         raise Wrong(f"show ends with status {ran.returncode} and tells {ran.stderr!r}")
     first, *lines = ran.stdout.splitlines()
@@ -222,9 +222,9 @@ class Group:
     """One group over group.image in a folder, whose terminals ask one after another, and what they were told."""
 
     def __init__(self, liftd, folder, chance):
-        self.liftd, self.folder, self.chance = liftd, str(folder), chance
+        self.liftd, self.folder, self.chance, self.server = liftd, str(folder), chance, None
         self.kiosks, self.cars = [Kiosk(kiosk) for kiosk in range(len(KIOSKS))], [Car(letter) for letter in CARS]
-        subprocess.run([liftd, "format", "group.image", DEMO, "--half", "64"], cwd=folder, check=True)
+        make_image(liftd, folder, "group.image", DEMO, "--half", "64")
 
     def start(self, **around):
         """The server's port, or what it said in place of one."""
@@ -232,9 +232,11 @@ class Group:
         return said or port
 
     def kill(self):
-        """What it has said on standard error: a kill leaves it no last word."""
+        """What it has said on standard error: a kill leaves it no last word. A group that was never started has said nothing."""
+        if not self.server:
+            return ""
         self.server.kill()
-        return self.server.communicate()[1].decode()
+        return self.server.communicate(timeout=LIMIT)[1].decode()
 
     def connect(self, port):
         """All terminals connect, and each kiosk asks again what it was told last."""

@@ -8,15 +8,21 @@ import pathlib
 import random
 import re
 import resource
+import select
 import signal
 import socket
 import subprocess
 import sys
+import time
 
 TOP = pathlib.Path(__file__).resolve().parent.parent.parent
 BUILT = TOP / "crates/liftd/out/liftd"
 TRIES = TOP / "crates/lift_cases/out/lift_cases"
 sys.path.append(str(TOP / "tools/judge"))
+
+LIMIT, SERVER_LIMIT = 60, 30  # s: for a program's end, and for a server's first line, or its end behind its last connection
+MOST_PORTS = 20  # that are tried, where other programs take them
+NO_WORD = "no word"  # what a server said that ended and said nothing
 
 
 class Wrong(Exception):
@@ -54,7 +60,7 @@ def in_relay(count):
 
 
 def loaded(path):
-    """The functions of a program in Python, by its path below the top."""
+    """The functions of a program in Python, by its path below the top, or by its whole path."""
     path = TOP / path
     loader = importlib.machinery.SourceFileLoader(re.sub(r"\W", "_", path.name), str(path))
     module = importlib.util.module_from_spec(importlib.util.spec_from_loader(loader.name, loader))
@@ -84,24 +90,65 @@ def limit_files(most):
         resource.setrlimit(resource.RLIMIT_FSIZE, (most, most))
 
 
-def serving(liftd, image, building, sessions=1000000, words=(), **around):
+def make_image(liftd, folder, image, building, *words):
+    """Has `liftd format` make an image, with further words."""
+    try:
+        ran = subprocess.run([liftd, "format", image, building, *words], cwd=folder, capture_output=True, text=True, timeout=LIMIT)
+    except subprocess.TimeoutExpired:
+        raise Wrong(f"format of {image} doesn't end within {LIMIT} s") from None
+    if ran.returncode != 0:
+        raise Wrong(f"format of {image} ends with status {ran.returncode} and tells {ran.stderr!r}")
+
+
+def first_line(process, limit=SERVER_LIMIT):
+    """What a program has written when its first line ends, or its output, or the limit is over, in seconds."""
+    until, told = time.monotonic() + limit, b""
+    while not told.endswith(b"\n") and select.select([process.stdout], [], [], max(0, until - time.monotonic()))[0]:
+        piece = os.read(process.stdout.fileno(), 4096)
+        if not piece:
+            break
+        told += piece
+    return told
+
+
+def serving(liftd, image, building, sessions=1000000, words=(), limit=SERVER_LIMIT, **around):
     """`liftd serve`, with further words, at a free port: its process, its port, and what it said in place of serving, nothing where it
-    serves. A port that another program took meanwhile is no refusal: the next one is tried."""
-    while True:
-        port = free_port()
+    serves. A port that another program took meanwhile is no refusal: the next one is tried. A start that takes longer than the limit, in
+    seconds, is ended."""
+    for _ in range(MOST_PORTS):
+        port, until = free_port(), time.monotonic() + limit
         told = [liftd, "serve", image, building, "--port", str(port), "--sessions", str(sessions), *words]
         server = subprocess.Popen(told, stdout=subprocess.PIPE, stderr=subprocess.PIPE, **around)
-        if server.stdout.readline() == f"serving {port}\n".encode():
-            return server, port, ""
-        said = server.communicate(timeout=60)[1].decode().strip()
-        if said != "liftd: network":
-            return server, port, said
+        first = first_line(server, limit)
+        said = "" if first == f"serving {port}\n".encode() else said_instead(server, first, until)
+        if said != "liftd: network\n":
+            break
+    return server, port, said
+
+
+def said_instead(server, first, until):
+    """What a server says that has another first line, or none: so it has to end."""
+    try:
+        said = server.communicate(timeout=max(1, until - time.monotonic()))[1].decode(errors="replace")
+    except subprocess.TimeoutExpired:
+        ended(server)
+        return f"{first!r}, and it goes on"
+    return said or (f"{first!r}, and its end" if first else NO_WORD)
+
+
+def served(*words, **around):
+    """A server that serves, and its port; what is given is that of `serving`."""
+    server, port, said = serving(*words, **around)
+    if said:
+        raise Wrong(f"the start was refused: {said.strip()}")
+    return server, port
 
 
 def ended(server):
     """Kills a server, if it still runs."""
     server.kill()
-    server.communicate()
+    with contextlib.suppress(subprocess.TimeoutExpired):
+        server.communicate(timeout=LIMIT)
 
 
 class Tally:
@@ -116,12 +163,25 @@ class Tally:
             self.is_told = True
             if not is_wrong:
                 self.differ += 1
-                print(f"{name}: differs\n  wanted: {wanted!r}\n  came:   {came!r}")
+                print(f"{name}: differs\n  wanted: {wanted!r}\n  came:   {came!r}", flush=True)
+
+    def know(self, name, table, keys):
+        """Compares a table's keys with those that are known: what another one says would be compared with nothing."""
+        self.compare(f"{name}, its keys that nobody knows", set(), set(table) - keys)
+
+    def carefully(self, name, carry_out):
+        """Carries out what may find no connection, no file, or no end in time, which then came otherwise than it has to."""
+        try:
+            carry_out()
+        except (Wrong, OSError, subprocess.SubprocessError) as fault:
+            self.compare(name, "no fault", str(fault))
 
     def case(self, name, is_wrong, carry_out):
-        """Carries out a case. One that is wrong on purpose has to differ."""
-        self.is_told = False
-        carry_out()
+        """Carries out a case, which has to try something. One that is wrong on purpose has to differ."""
+        self.is_told, before = False, self.tried
+        self.carefully(name, carry_out)
+        if self.tried == before and not self.is_told:
+            self.compare(name, "something that is tried", "nothing")
         if is_wrong and not self.is_told:
             self.differ += 1
-            print(f"{name}: comes out, though it is wrong on purpose")
+            print(f"{name}: comes out, though it is wrong on purpose", flush=True)
