@@ -203,6 +203,8 @@ impl<'d> Terminals<'d> {
         if !waits {
             self.first = MOST_TERMINALS as u8;
             self.end = 0;
+            // (this end is proved apart from the other)
+            return Ok(());
         }
         Ok(())
     }
