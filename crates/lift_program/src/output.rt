@@ -51,7 +51,10 @@ pub fn write_out<W: Outflow>(writer: &mut W, bytes: &[u8]) -> Result<(), Fault>
     if put_all(writer, bytes).is_err() {
         return Err(Fault::File(Role::Output));
     }
-    pass_on(writer)
+    match pass_on(writer) {
+        Ok(()) => Ok(()),
+        Err(fault) => Err(fault),
+    }
 }
 
 /// Writes all of the bytes, or those before which the writer fails: it keeps in mind that it did.
