@@ -1,5 +1,5 @@
 -- The batches of a checkpoint, one after another.
-use Rattle.std.proofs.Common.{◌≡◌, ◌<◌, ◌≤◌, ◌+◌, ◌-◌, ◌*◌, ℕ, zero, suc, List, [], ◌∷◌, ◌++◌, None, length, take, drop, slice_get, slice_set, All, refl, sym, ◌∙◌, ap, subst, arith, append_assoc, length-take}
+use Rattle.std.proofs.Common.{◌≡◌, ◌<◌, ◌≤◌, ◌+◌, ◌-◌, ◌*◌, ℕ, zero, suc, List, [], ◌∷◌, ◌++◌, None, length, take, drop, slice_get, slice_set, min, All, refl, sym, ◌∙◌, ap, subst, arith, append_assoc, length-take}
 use Rattle.std.specs.Option.{option_to_list}
 use Rattle.std.specs.List.{AllByRecursion}
 use Rattle.std.proofs.lemmas.List.{append-nil, take-take, take-append-drop, take-append-le, drop-drop, drop-take, drop-set-lt, take-set-le, length-set}
@@ -47,6 +47,16 @@ get_dropped (suc from) k (x ∷ xs) = get_dropped from k xs ∙ ap (slice_get (x
 
 pub take_next : {X : Type 0} (xs : List X) (from k : ℕ) → take k (drop from xs) ++ option_to_list (slice_get xs (from + k)) ≡ take (suc k) (drop from xs)
 take_next xs from k = ap (λ o. take k (drop from xs) ++ option_to_list o) (sym (get_dropped from k xs)) ∙ take_one (drop from xs) k
+
+-- two fronts that are as long are one
+pub take_as_far : {X : Type 0} (m n : ℕ) (xs : List X) → min m (length xs) ≡ min n (length xs) → take m xs ≡ take n xs
+take_as_far zero zero xs same = refl
+take_as_far zero (suc n) [] same = refl
+take_as_far zero (suc n) (x ∷ xs) same = absurd (omega (arith, same))
+take_as_far (suc m) zero [] same = refl
+take_as_far (suc m) zero (x ∷ xs) same = absurd (omega (arith, same))
+take_as_far (suc m) (suc n) [] same = refl
+take_as_far (suc m) (suc n) (x ∷ xs) same = ap (λ l. x ∷ l) (take_as_far m n xs (omega (arith, same)))
 
 pub used_most : (count : ℕ) (records : List Record) → used (in_batches count records) ≤ 3 * count
 used_most zero records = omega arith

@@ -46,27 +46,16 @@ pub fn other_half(start: u32, half: u32) -> (u32, [u8; 512])
     }
 }
 
-/// The record at this place of a register's checkpoint of so many records, if there is one.
-fn record_at(register: &Register, count: usize, place: usize) -> Option<Record>
-    requires { count ≡ length (base_records register.now) }
-    ensures { result ≡ slice_get (base_records register.now) place }
-{
-    if place < count {
-        Some(register.base_record(place))
-    } else {
-        None
-    }
-}
-
-/// One batch of a register's checkpoint: 63 records from this place on, or those that are left.
-fn base_batch(register: &Register, from: usize) -> ArrayVec<Record, MOST_ENTRIES>
-    requires { from ≤ 576 }
+/// One batch of a register's checkpoint of so many records: 63 records from this place on, or those
+/// that are left.
+fn base_batch(register: &Register, count: usize, from: usize) -> ArrayVec<Record, MOST_ENTRIES>
+    requires count { count ≡ length (base_records register.now) }
+    requires limit { from ≤ 576 }
     ensures { result.items ≡ take 63 (drop from (base_records register.now)) }
 {
-    let count = register.base_len();
     let mut batch = ArrayVec::new();
-    for place in 0..MOST_ENTRIES {
-        push_some(&mut batch, record_at(register, count, from + place));
+    for place in from..count.min(from + MOST_ENTRIES) {
+        push_some(&mut batch, Some(register.base_record(place)));
     }
     batch
 }
@@ -117,8 +106,9 @@ fn write_batches<D: Disk>(disk: &mut D, register: &Register, start: u32) -> Resu
         (checkpoint_of (base_records register.now))) }
 {
     let mut gate = start;
-    for index in 0..batches_for(register.base_len()) {
-        let batch = base_batch(register, MOST_ENTRIES * index);
+    let count = register.base_len();
+    for index in 0..batches_for(count) {
+        let batch = base_batch(register, count, MOST_ENTRIES * index);
         let bodies = body_count(batch.len());
         let mut text = [0; 1024];
         put_body(&mut text, &batch, index as u32 + 1);

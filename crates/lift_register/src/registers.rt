@@ -397,13 +397,13 @@ impl Register {
         ensures { result ≡ slice_get (flat_map (last_records self.now) terminals) place }
     {
         let mut left = place;
-        for index in 0..MOST_TERMINALS as u8 {
-            let found = self.last_record_of(index);
-            let count = usize::from(found.is_some());
-            if left < count {
-                return found;
+        for index in 0..MOST_TERMINALS {
+            if self.lasts[index].is_some() {
+                if left == 0 {
+                    return self.last_record_of(index as u8);
+                }
+                left -= 1;
             }
-            left -= count;
         }
         None
     }

@@ -19,7 +19,7 @@ use Rattle.lift_journal.proofs.checkpoint.write_batches.Goals as goal
 
 pub put_body-requires-clause-lawful : goal.put_body-requires-clause-lawful
 put_body-requires-clause-lawful g c =
-    subst (All IsLawful) (sym (c.deref.ensures.0 ∙ c.base_batch-batch.ensures)) (lawful_part (63 * c.loop-index.index) (base_records c.args.register.now) c.base_len.ensures.records)
+    subst (All IsLawful) (sym (c.deref.ensures.0 ∙ c.base_batch-batch.ensures)) (lawful_part (63 * c.loop-index.index) (base_records c.args.register.now) c.base_len-count.ensures.records)
 
 pub write_open_batch-requires-clause-there : goal.write_open_batch-requires-clause-there
 write_open_batch-requires-clause-there g c =
@@ -73,7 +73,7 @@ loop-index-preserved g c =
     ∙ subst (λ (l : List Record). take (body_size (length l)) (take 512 c.put_body.new.text ∷ drop 512 c.put_body.new.text ∷ []) ≡ batch_body (k + 1) (record { version = Two; records = l })) c.deref.ensures.0 c.put_body.ensures.exact in
     subst (λ m. Drafted old new c.args.start (c.loop-index.gate + (m + 1)) (k + 1) records) long
     (drafted_more old now new c.args.start c.loop-index.gate k records c.loop-index.invariant sectors (omega (arith, long, room)) (long ∙ is ∙ ap (λ (l : List Record). body_size (length l)) c.base_batch-batch.ensures)
-    (next_body k n records items c.sectors_of-body.result.now c.base_batch-batch.ensures is written) (base_in_order c.args.register.now c.base_len.ensures.lawful)
+    (next_body k n records items c.sectors_of-body.result.now c.base_batch-batch.ensures is written) (base_in_order c.args.register.now c.base_len-count.ensures.lawful)
     c.write_open_batch.ensures.runs c.in_ok-write_open_batch.ensures.made.calls c.in_ok-write_open_batch.ensures.made.writes c.in_ok-write_open_batch.ensures.cause.ok c.in_ok-write_open_batch.ensures.told.ok
     (next_exact k n records items c.sectors_of-body.result.now c.base_batch-batch.ensures is exact) c.in_ok-write_open_batch.ensures.follows.all c.write_open_batch.ensures.touched c.in_ok-write_open_batch.ensures.written (g.met.D.Disk.whole c.loop-index.disk))
 
@@ -81,9 +81,9 @@ pub returns-clause-gate : goal.returns-clause-gate
 returns-clause-gate g c =
     let records = base_records c.args.register.now in
     let all : c.loop-index.index ≡ batch_count (length records) =
-    omega (arith, c.loop-index-test.false, c.loop-index.auto.index-end, c.batches_for-index-end.ensures.value, ap batch_count c.base_len.ensures.value) in
+    omega (arith, c.loop-index-test.false, c.loop-index.auto.index-end, c.batches_for-index-end.ensures.value, ap batch_count c.base_len-count.ensures.value) in
     let taken : used (in_batches c.loop-index.index records) ≡ sectors_for (length records) =
-    ap (λ m. used (in_batches m records)) all ∙ used_checkpoint records (omega (arith, c.base_len.ensures.value, c.base_len.ensures.limit.0)) in
+    ap (λ m. used (in_batches m records)) all ∙ used_checkpoint records (omega (arith, c.base_len-count.ensures.value, c.base_len-count.ensures.limit.0)) in
     let few = used_most c.loop-index.index records in (
       omega (arith, c.loop-index.invariant.at, taken),
       omega (arith, c.loop-index.invariant.at, few, c.loop-index.auto.index-end, c.batches_for-index-end.ensures.limit),
@@ -93,7 +93,7 @@ pub returns-clause-reached : goal.returns-clause-reached
 returns-clause-reached g c honest steady end high inside =
     let records = base_records c.args.register.now in
     let all : c.loop-index.index ≡ batch_count (length records) =
-    omega (arith, c.loop-index-test.false, c.loop-index.auto.index-end, c.batches_for-index-end.ensures.value, ap batch_count c.base_len.ensures.value) in
+    omega (arith, c.loop-index-test.false, c.loop-index.auto.index-end, c.batches_for-index-end.ensures.value, ap batch_count c.base_len-count.ensures.value) in
     subst (λ m. Reaches (g.D.Disk.state c.loop-index.disk).image c.args.start end c.loop-index.gate (in_batches m records)) all (c.loop-index.invariant.reached honest steady end high inside)
 
 pub returns-in_err-write_open_batch-clause-performs : goal.returns-in_err-write_open_batch-clause-performs
@@ -109,8 +109,8 @@ returns-in_err-write_open_batch-clause-performs g c =
     let fault = err_from_is_err_and c.from_residual.result c.from_residual.ensures.1 in
     let is : n ≡ body_size (length items) = c.body_count-bodies.ensures ∙ ap body_size c.len.ensures.value in
     let long = next_size n items c.sectors_of-body.result.now is c.sectors_of-body.ensures.length in
-    let all : c.batches_for-index-end.result ≡ batch_count (length records) = c.batches_for-index-end.ensures.value ∙ ap batch_count c.base_len.ensures.value in
-    let within = used_within k c.batches_for-index-end.result n records items c.loop-index-test.true all (omega (arith, c.base_len.ensures.value, c.base_len.ensures.limit.0)) c.base_batch-batch.ensures is in
+    let all : c.batches_for-index-end.result ≡ batch_count (length records) = c.batches_for-index-end.ensures.value ∙ ap batch_count c.base_len-count.ensures.value in
+    let within = used_within k c.batches_for-index-end.result n records items c.loop-index-test.true all (omega (arith, c.base_len-count.ensures.value, c.base_len-count.ensures.limit.0)) c.base_batch-batch.ensures is in
     let made = c.write_open_batch.ensures.made in
     let exact : take (body_size (length items)) c.sectors_of-body.result.now ≡ batch_body (k + 1) (record { version = Two; records = items }) =
     ap (λ (s : Image). take (body_size (length items)) s) c.sectors_of-body.ensures.cut
@@ -136,9 +136,9 @@ returns-clause-performs g c =
     let records = base_records c.args.register.now in
     let so_far = c.loop-index.invariant in
     let all : c.loop-index.index ≡ batch_count (length records) =
-    omega (arith, c.loop-index-test.false, c.loop-index.auto.index-end, c.batches_for-index-end.ensures.value, ap batch_count c.base_len.ensures.value) in
+    omega (arith, c.loop-index-test.false, c.loop-index.auto.index-end, c.batches_for-index-end.ensures.value, ap batch_count c.base_len-count.ensures.value) in
     let taken : used (in_batches c.loop-index.index records) ≡ sectors_for (length records) =
-    ap (λ m. used (in_batches m records)) all ∙ used_checkpoint records (omega (arith, c.base_len.ensures.value, c.base_len.ensures.limit.0)) in
+    ap (λ m. used (in_batches m records)) all ∙ used_checkpoint records (omega (arith, c.base_len-count.ensures.value, c.base_len-count.ensures.limit.0)) in
     record {
       runs = so_far.runs;
       cause = record { ok = so_far.failures; err = tt };
@@ -159,5 +159,5 @@ pub returns-clause-placed : goal.returns-clause-placed
 returns-clause-placed g c =
     let records = base_records c.args.register.now in
     let all : c.loop-index.index ≡ batch_count (length records) =
-    omega (arith, c.loop-index-test.false, c.loop-index.auto.index-end, c.batches_for-index-end.ensures.value, ap batch_count c.base_len.ensures.value) in
+    omega (arith, c.loop-index-test.false, c.loop-index.auto.index-end, c.batches_for-index-end.ensures.value, ap batch_count c.base_len-count.ensures.value) in
     c.loop-index.invariant.at ∙ ap (λ m. c.args.start + used (in_batches m records)) all
