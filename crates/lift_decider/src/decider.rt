@@ -147,7 +147,10 @@ impl<'b> Decider<'b> {
         ensures step { Step self.old.plan (P.chooses policy.now) self.old.state command.now.terminal
             command.now.number command.now.body (ReplyValue.Car result) self.new.state }
     {
-        self.group.list_halts();
+        // (where one car alone may take it, none is weighed)
+        if eligible.letters().len() > 1 {
+            self.group.list_halts();
+        }
         let car = chosen(self.building, &self.group, call, eligible, policy);
         self.group.allot(self.building, command, call, car);
         car

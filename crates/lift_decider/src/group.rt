@@ -37,7 +37,6 @@ fn join(
     ensures batch { batch.new.items ≡ batch.old.items ++ entry.now ∷ [] }
     ensures written { IsRecord (EntryRecord entry.now) }
 {
-    prove!(register.fits(building, entry));
     register.apply(building, entry);
     batch.push(*entry);
 }

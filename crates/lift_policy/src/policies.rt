@@ -100,6 +100,9 @@ fn pick<M: Measure>(
         result }
 {
     let letters = eligible.letters();
+    if let [only] = letters {
+        return *only;
+    }
     let mut measures = ArrayVec::<u64, MOST_CARS>::new();
     for car in letters {
         measures.push(policy.measure(building, view, call, *car));

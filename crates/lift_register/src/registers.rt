@@ -221,9 +221,12 @@ impl Register {
         ensures history { (base : RegisterState) (entries : List EntryValue)
             → self.old ≡ register_of base entries
             → self.new ≡ register_of base (entries ++ entry.now ∷ []) }
+        ensures was { IsWellFormed self.old }
         ensures lawful { IsWellFormed self.new }
         ensures balanced { IsBalanced self.new }
         ensures belongs { BelongsTo building.now self.old → BelongsTo building.now self.new }
+        // What fits can be written.
+        ensures written { IsRecord (RecordValue.Entry entry.now) }
     {
         note_ranges(&Record::Entry(*entry));
         self.note_lawful();
