@@ -1,16 +1,22 @@
 //! The quick reading of stops, which most records are.
-ghost use Rattle.std.specs.Prelude.{◌≡◌, IfSome};
+ghost use Rattle.std.specs.Prelude.{◌≡◌, ℕ, IfSome, IfNone};
+ghost use Rattle.lift_base.specs.declared.history.Entry.{Entry as EntryValue};
+ghost use Rattle.lift_base.specs.declared.history.Record.{Record as RecordValue};
+ghost use Rattle.lift_base.specs.declared.travel.Dir.{Dir as DirValue};
 ghost use Rattle.lift_record.specs.Record.{IsSpellingOf};
 ghost use Rattle.lift_record.specs.declared.version.Version.{Version as VersionValue};
 
 use crate::records::dir_from_byte;
 use lift_base::{Entry, Floor, Letter, Number, Record};
 
-/// The stop that these bytes spell, in either version, as `decode` reads it. Each of its numbers is
-/// looked at once; from no answer nothing follows.
+/// The stop that these bytes spell, in either version, as `decode` reads it, if they spell one. Each
+/// of its numbers is looked at once.
 pub fn decode_stop(bytes: &[u8; 16]) -> Option<Record>
-    ensures { IfSome result (λ content. (version : VersionValue)
+    ensures some { IfSome result (λ content. (version : VersionValue)
         → IsSpellingOf version bytes.now content) }
+    ensures none { IfNone result ((version : VersionValue) (car number floor : ℕ) (dir : DirValue)
+        → ¬ IsSpellingOf version bytes.now
+        (RecordValue.Entry (EntryValue.Stop car number floor dir))) }
 {
     let [
         kind,
