@@ -147,10 +147,7 @@ impl<'b> Decider<'b> {
         ensures step { Step self.old.plan (P.chooses policy.now) self.old.state command.now.terminal
             command.now.number command.now.body (ReplyValue.Car result) self.new.state }
     {
-        // (where one car alone may take it, none is weighed)
-        if eligible.letters().len() > 1 {
-            self.group.list_halts();
-        }
+        self.group.list_halts(&eligible);
         let car = chosen(self.building, &self.group, call, eligible, policy);
         self.group.allot(self.building, command, call, car);
         car

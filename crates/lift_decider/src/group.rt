@@ -15,7 +15,7 @@ use arrayvec::ArrayVec;
 use lift_base::{Entry, Letter, MOST_CARS, MOST_ENTRIES, Number, Position, Row, Stop};
 use lift_building::Building;
 use lift_cost::NewCall;
-use lift_policy::{Command, View};
+use lift_policy::{Command, Eligible, View};
 use lift_register::Register;
 use lift_stops::Schedule;
 use std::marker::Model;
@@ -82,12 +82,14 @@ impl Group {
         View::new(&self.register, &self.schedules)
     }
 
-    /// Each car's schedule lists its halts, so that a policy weighs a new call by them. (No clause
-    /// says that it does.)
-    pub fn list_halts(&mut self)
+    /// Each car's schedule lists its halts, so that a policy weighs a new call of several cars by
+    /// them. (No clause says that it does.)
+    pub fn list_halts(&mut self, among: &Eligible)
         ensures { self.new ≡ self.old }
     {
-        list_halts(&mut self.schedules);
+        if among.letters().len() > 1 {
+            list_halts(&mut self.schedules);
+        }
     }
 
     /// Gives the batch out.
