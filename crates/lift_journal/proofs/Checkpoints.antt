@@ -15,7 +15,7 @@ use Rattle.lift_record.specs.Version.{version_number}
 use Rattle.lift_disk.specs.Disk.{DiskState, Image, RunsOn, LooseWithin, TouchesOnly, LeavesNoOther, IsSteadyAt, IsWhole}
 use Rattle.lift_disk.specs.lemmas.Moments.{runs_none, runs_then, touches_none, touches_then}
 use Rattle.lift_journal.specs.Order.{AreRecordsInOrder, IsComplete}
-use Rattle.lift_journal.specs.Layout.{Batch, body_size, size_of, used, NeverFall, IsSound, IsBody, is_marked, IsOpen, sector_at}
+use Rattle.lift_journal.specs.Layout.{Batch, new_batch, body_size, size_of, used, NeverFall, IsSound, IsBody, is_marked, IsOpen, sector_at}
 use Rattle.lift_journal.specs.Steps.{overwritten, marked, IsInRange}
 use Rattle.lift_journal.specs.Walk.{AreFirstBatches, MayBeginChain, Reaches}
 use Rattle.lift_journal.specs.Checkpoint.{in_batches, batch_count, checkpoint_of, sectors_for}
@@ -31,6 +31,7 @@ use Rattle.lift_journal.specs.lemmas.Chains.{used_more}
 use Rattle.lift_journal.specs.lemmas.Folding.{batch_at, batches_more, records_in, length_batches, used_checkpoint, checkpoint_records}
 use Rattle.lift_journal.specs.lemmas.Orders.{order_front}
 use Rattle.lift_journal.proofs.Seeing.{bodies_few}
+use Rattle.lift_journal.proofs.Texts.{length-batch_body}
 use Rattle.lift_journal.proofs.Walks.{front_same, reaches_start, reaches_more}
 
 -- the next record, if there is one
@@ -291,19 +292,8 @@ module _ (old now new : DiskState) (start gate count : ℕ) (records : List Reco
       }
 
 -- the body of the next batch, of as many sectors as it takes
-pub next_size : (size : ℕ) (items : List Record) (sectors : Image) → size ≡ body_size (length items) → length sectors ≡ 2 → length (take size sectors) ≡ size
-next_size size items sectors is two = omega (arith, length-take size sectors, is, two, bodies_few (length items))
-
-pub next_body : (count size : ℕ) (records items : List Record) (sectors : Image) → items ≡ take 63 (drop (63 * count) records) → size ≡ body_size (length items)
-    → IsBody (count + 1) (record { version = Two; records = items }) (take (body_size (length items)) sectors) → IsBody (count + 1) (batch_at count records) (take size sectors)
-next_body count size records items sectors is sized body =
-    subst (λ (l : List Record). IsBody (count + 1) (record { version = Two; records = l }) (take size sectors)) is
-    (subst (λ k. IsBody (count + 1) (record { version = Two; records = items }) (take k sectors)) (sym sized) body)
-
-pub next_exact : (count size : ℕ) (records items : List Record) (sectors : Image) → items ≡ take 63 (drop (63 * count) records) → size ≡ body_size (length items)
-    → take (body_size (length items)) sectors ≡ batch_body (count + 1) (record { version = Two; records = items }) → take size sectors ≡ batch_body (count + 1) (batch_at count records)
-next_exact count size records items sectors is sized exact =
-    ap (λ k. take k sectors) sized ∙ exact ∙ ap (λ (l : List Record). batch_body (count + 1) (record { version = Two; records = l })) is
+pub next_size : (count size : ℕ) (items : List Record) (body : Image) → body ≡ batch_body (count + 1) (new_batch items) → size ≡ body_size (length items) → length body ≡ size
+next_size count size items body exact is = ap length exact ∙ length-batch_body (count + 1) (new_batch items) ∙ sym is
 
 -- there is room for it
 pub next_room : (start gate count size end : ℕ) (records items : List Record) → gate ≡ start + used (in_batches count records) → count < end → end ≤ 10 → size ≡ body_size (length items) → gate + 1 + size < start + 64

@@ -1,20 +1,20 @@
 -- The calls of a step, run after run.
-use Rattle.std.proofs.Common.{◌≡◌, true, false, ◌≤◌, ◌+◌, ◌++◌, [], ◌∷◌, ◌∙◌, ℕ, List, Result, Ok, Err, OnOk, arith, ap, subst, length, take, length-take}
+use Rattle.std.proofs.Common.{◌≡◌, true, false, ◌≤◌, ◌+◌, ◌++◌, [], ◌∷◌, ◌∙◌, ℕ, List, Result, Ok, Err, OnOk, arith, subst, length}
 use Rattle.std.specs.Prelude.{IsErrAnd}
 use Rattle.std.specs.Result.{is_err}
 use Rattle.std.proofs.lemmas.Result.{err_from_is_err_and}
-use Rattle.lift_disk.specs.Disk.{DiskState, Image, IsAccess, writes_in}
+use Rattle.lift_disk.specs.Disk.{DiskState, IsAccess, writes_in}
 use Rattle.lift_disk.specs.Trace.{Access}
 use Rattle.lift_disk.specs.lemmas.Moments.{cause_of, runs_call, runs_none, runs_then}
 use Rattle.lift_journal.specs.declared.fault.JournalFault.{JournalFault}
 use Rattle.lift_journal.specs.declared.fault.JournalFault.TheVariants.{Disk}
-use Rattle.lift_journal.specs.Calls.{Performs, append_calls}
-use Rattle.lift_journal.specs.Layout.{body_size}
+use Rattle.lift_journal.specs.Calls.{Performs, append_calls, batch_body}
+use Rattle.lift_journal.specs.Layout.{Batch, size_of}
 use Rattle.lift_journal.specs.Calls.{CallsDevice}
 use Rattle.lift_journal.specs.Journal.{JournalView}
 use Rattle.lift_journal.specs.Told.{FailsBy}
 use Rattle.lift_journal.specs.lemmas.Telling.{access_ends, ends_then, err_ends}
-use Rattle.lift_journal.proofs.Seeing.{bodies_few}
+use Rattle.lift_journal.proofs.Texts.{length-batch_body}
 use Rattle.lift_journal.proofs.Following.{one_follows, follows_then, front_more, err_follows}
 
 -- one call
@@ -148,13 +148,12 @@ device_none fault calls n w disk other told = record {
 }
 
 -- the calls of an append, by the batch that it writes
-pub performs_body : {U E : Type 0} (r : Result U E) (old new : DiskState) (gate first n count : ℕ) (sectors body : Image) → length sectors ≡ 2 → n ≡ body_size count → take (body_size count) sectors ≡ body → gate ≡ first
-    → Performs r (append_calls gate (take n sectors)) (length (take n sectors) + 4) (length (take n sectors) + 2) old new → Performs r (append_calls first body) (body_size count + 4) (body_size count + 2) old new
-performs_body r old new gate first n count sectors body two is exact at was =
-    let long : length (take n sectors) ≡ body_size count = omega (arith, length-take n sectors, bodies_few count, two, is) in
-    subst (λ k. Performs r (append_calls k body) (body_size count + 4) (body_size count + 2) old new) at
-    (subst (λ (b : Image). Performs r (append_calls gate b) (body_size count + 4) (body_size count + 2) old new) (ap (λ k. take k sectors) is ∙ exact)
-    (subst (λ k. Performs r (append_calls gate (take n sectors)) (k + 4) (k + 2) old new) long was))
+pub performs_body : {U E : Type 0} (r : Result U E) (old new : DiskState) (gate first number : ℕ) (batch : Batch) → gate ≡ first
+    → Performs r (append_calls gate (batch_body number batch)) (length (batch_body number batch) + 4) (length (batch_body number batch) + 2) old new
+    → Performs r (append_calls first (batch_body number batch)) (size_of batch + 4) (size_of batch + 2) old new
+performs_body r old new gate first number batch at was =
+    subst (λ k. Performs r (append_calls k (batch_body number batch)) (size_of batch + 4) (size_of batch + 2) old new) at
+    (subst (λ k. Performs r (append_calls gate (batch_body number batch)) (k + 4) (k + 2) old new) (length-batch_body number batch) was)
 
 -- the same of what a caller sees of the journal
 pub calls_seen : {D T : Type 0} {r : Result T JournalFault} {n w : ℕ} {new : DiskState} {inside outside : JournalView D} (state : D → DiskState) (calls : JournalView D → List Access) → inside ≡ outside

@@ -1,13 +1,12 @@
 -- What a journal that isn't broken stands for.
-use Rattle.std.proofs.Common.{Err, ◌≡◌, ◌⊎◌, ◌≤◌, ◌<◌, ◌+◌, ◌-◌, inl, inr, ⊎_elim, ℕ, Bool, true, false, cond, nat_lt, List, [], ◌∷◌, ◌++◌, None, unwrap_or, length, take, All, refl, sym, ◌∙◌, ap, subst, arith, length-append, length-take}
+use Rattle.std.proofs.Common.{Err, ◌≡◌, ◌⊎◌, ◌≤◌, ◌<◌, ◌+◌, ◌-◌, inl, inr, ⊎_elim, ℕ, Bool, true, false, cond, nat_lt, List, [], ◌∷◌, ◌++◌, None, unwrap_or, All, refl, sym, ◌∙◌, ap, subst, arith, length-append}
 use Rattle.std.proofs.lemmas.List.Elements.{All-from_recursion}
 use Rattle.lift_base.specs.declared.history.Record.{Record}
 use Rattle.lift_base.specs.declared.history.Shape.{Shape}
-use Rattle.lift_record.specs.declared.version.Version.TheVariants.{Two}
 use Rattle.lift_disk.specs.Disk.{DiskState, Image, ChangesWithin, LeavesNow, LeavesNoOther, LeavesOnly, IsSynced, TouchesOnly}
 use Rattle.lift_disk.specs.lemmas.Moments.{leaves_weaker, leaves_none, changes_nothing}
 use Rattle.lift_journal.specs.Order.{IsEntry, IsOfBase}
-use Rattle.lift_journal.specs.Layout.{Batch, records_of, size_of, IsBody, is_marked, picks_second, Picks, start_of, Holds, HoldsIn, used}
+use Rattle.lift_journal.specs.Layout.{Batch, new_batch, records_of, size_of, IsBody, is_marked, picks_second, Picks, start_of, Holds, HoldsIn, used}
 use Rattle.lift_journal.specs.Steps.{IsInRange, IsReady, HoldsSafely, ReadsOnly}
 use Rattle.lift_journal.specs.declared.place.Place.{Place}
 use Rattle.lift_journal.specs.Journal.{ReadsAs, StandsFor, HasNextPlace, StandsAt, IsJournal, JournalView, JournalHolds}
@@ -19,7 +18,8 @@ use Rattle.lift_journal.specs.lemmas.Adding.{held_left}
 use Rattle.lift_journal.specs.lemmas.Unique.{holds_unique, stamp_unique}
 use Rattle.lift_journal.specs.lemmas.Chains.{all_same, used_more}
 use Rattle.lift_journal.specs.lemmas.Orders.{order_parts, Parts, sound_push}
-use Rattle.lift_journal.proofs.Seeing.{bodies_few}
+use Rattle.lift_journal.specs.Calls.{batch_body}
+use Rattle.lift_journal.proofs.Texts.{length-batch_body}
 
 -- the half of a journal by its first sector
 second_is : (half start : ℕ) (b : Bool) → 1 ≤ half → start ≡ cond b (half + 2) 2 → nat_lt 2 start ≡ b
@@ -142,22 +142,19 @@ opens old new shape start gate number only failures told synced stands = record 
       (parts.base, parts.entries, stands_synced shape parts.base parts.entries new (λ _. synced honest) (λ _. holds_reads shape at.batches new.image parts at.holds)));
 }
 
-module _ (shape : Shape) (start gate number n : ℕ) (old : DiskState) (items : List Record) where
-  pub ready : (sectors : Image) → (stands : StandsAt shape start gate number old) → n ≡ size_of (record { version = Two; records = items }) → gate - start + n + 2 ≤ shape.half → length sectors ≡ 2
-      → IsBody number (record { version = Two; records = items }) (take (size_of (record { version = Two; records = items })) sectors) → All IsEntry items
-      → IsReady shape stands.batches (record { version = Two; records = items }) gate (take n sectors) old
-  ready sectors stands is room two body kinds =
-      let batch : Batch = record { version = Two; records = items } in
-      let size : length (take n sectors) ≡ n = omega (arith, length-take n sectors, bodies_few (length items)) in
-      record {
-        synced = stands.synced;
-        holds = stands.holds;
-        at = stands.at;
-        room = omega (arith, stands.starts, stands.at, room, size);
-        spelled = subst (λ k. IsBody k batch (take n sectors)) stands.counts (subst (λ k. IsBody number batch (take k sectors)) (sym is) body);
-        size = size ∙ is;
-        sound = sound_push stands.batches items stands.holds.sound kinds;
-      }
+pub ready : (shape : Shape) (start gate number n : ℕ) (old : DiskState) (items : List Record) → (stands : StandsAt shape start gate number old) → n ≡ size_of (new_batch items) → gate - start + n + 2 ≤ shape.half
+    → IsBody number (new_batch items) (batch_body number (new_batch items)) → All IsEntry items → IsReady shape stands.batches (new_batch items) gate (batch_body number (new_batch items)) old
+ready shape start gate number n old items stands is room spelled kinds =
+    let size = length-batch_body number (new_batch items) in
+    record {
+      synced = stands.synced;
+      holds = stands.holds;
+      at = stands.at;
+      room = omega (arith, stands.starts, stands.at, room, is, size);
+      spelled = subst (λ k. IsBody k (new_batch items) (batch_body number (new_batch items))) stands.counts spelled;
+      size = size;
+      sound = sound_push stands.batches items stands.holds.sound kinds;
+    }
 
 module _ (shape : Shape) (start gate number : ℕ) (old : DiskState) (stands : old.is_honest → StandsAt shape start gate number old) (batches : List Batch) (lists : LeavesNow old (Holds shape batches)) where
   -- the batches that it stands at are these

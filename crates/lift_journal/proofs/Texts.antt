@@ -1,9 +1,10 @@
 -- The bytes of a batch.
-use Rattle.std.proofs.Common.{◌≡◌, ◌≤◌, ◌<◌, ◌+◌, ◌-◌, ◌*◌, ℕ, suc, List, [], ◌∷◌, ◌++◌, slice_set, length, take, drop, get_or, replicate, All, refl, sym, ◌∙◌, ap, arith, length-append, append_assoc, take-append-drop, zero, Bool, true, false, cond, nat_lt}
-use Rattle.std.proofs.lemmas.List.{take_at, drop_at, drop-drop, drop-replicate, flat_map_more, append-nil, take-replicate, replicate-append-replicate, take-append-le, take-take, drop-take, drop_more}
+use Rattle.std.proofs.Common.{◌≡◌, ◌≤◌, ◌<◌, ◌+◌, ◌-◌, ◌*◌, ◌/◌, ℕ, suc, List, [], ◌∷◌, ◌++◌, slice_set, length, take, drop, get_or, replicate, All, refl, sym, ◌∙◌, ap, arith, length-append, length-drop, append_assoc, take-append-drop, zero, Bool, true, false, cond, nat_lt}
+use Rattle.std.proofs.lemmas.List.{take_all, take_at, drop_at, drop-drop, drop-replicate, length-replicate, flat_map_more, append-nil, take-replicate, replicate-append-replicate, take-append-le, take-take, drop-take, drop_more}
 use Rattle.std.proofs.lemmas.Option.{unwrap_or-slice_get}
 use Rattle.std.proofs.lemmas.List.Elements.{All-nil, All-append, All-from_recursion}
 use Rattle.std.specs.List.{flat_map, concat}
+use Rattle.std.specs.Simd.{first_chunks}
 use Rattle.std.proofs.Math.Seq.{take-append-add, take-add}
 use borrow.Author.Tests.{ltb-true}
 use Rattle.lift_base.specs.declared.history.Record.{Record}
@@ -27,20 +28,37 @@ length-batch_bytes number batch =
       length-spellings batch.version batch.records,
     )
 
+length-filled : (sectors : ℕ) (bytes : List ℕ) → length bytes ≤ 512 * sectors → length (filled sectors bytes) ≡ 512 * sectors
+length-filled sectors bytes few =
+    omega (arith, length-append bytes (replicate (512 * sectors - length bytes) 0), length-replicate {A = ℕ} (512 * sectors - length bytes) 0, few)
+
+-- a batch fits into its sectors
+batch_fits : (count : ℕ) → count ≤ 63 → 16 + 16 * count ≤ 512 * body_size count
+batch_fits count few = by_size (nat_lt count 32) refl
+  where
+    by_size : (b : Bool) → nat_lt count 32 ≡ b → 16 + 16 * count ≤ 512 * cond b 1 2
+    by_size true small = (let less = ltb-true count 32 small in omega (arith, less))
+    by_size false large = omega (arith, few)
+
 -- bytes that are put after those that stand already
-pub put_more : (done text piece : List ℕ) (at n : ℕ) → length done ≡ at → n ≡ length piece → text ≡ filled 2 done → take at text ++ (piece ++ drop (at + n) text) ≡ filled 2 (done ++ piece)
-put_more done text piece at n so_long size is =
-    let zeros = replicate (1024 - length done) 0 in
+pub put_more : (sectors : ℕ) (done text piece : List ℕ) (at n : ℕ) → length done ≡ at → n ≡ length piece → text ≡ filled sectors done → take at text ++ (piece ++ drop (at + n) text) ≡ filled sectors (done ++ piece)
+put_more sectors done text piece at n so_long size is =
+    let zeros = replicate (512 * sectors - length done) 0 in
     let front : take at text ≡ done = ap (take at) is ∙ take_at done zeros at so_long in
-    let back : drop (at + n) text ≡ replicate (1024 - length (done ++ piece)) 0 =
+    let back : drop (at + n) text ≡ replicate (512 * sectors - length (done ++ piece)) 0 =
     sym (drop-drop n at text) ∙ ap (λ (l : List ℕ). drop n (drop at l)) is ∙ ap (drop n) (drop_at done zeros at so_long)
-    ∙ drop-replicate n (1024 - length done) 0
+    ∙ drop-replicate n (512 * sectors - length done) 0
     ∙ ap (λ k. replicate k 0) (omega (arith, length-append done piece)) in
     ap (λ (l : List ℕ). l ++ (piece ++ drop (at + n) text)) front ∙ ap (λ (l : List ℕ). done ++ (piece ++ l)) back
-    ∙ sym (append_assoc done piece (replicate (1024 - length (done ++ piece)) 0))
+    ∙ sym (append_assoc done piece (replicate (512 * sectors - length (done ++ piece)) 0))
 
 take_past : (xs ys : List ℕ) (n : ℕ) → length xs ≤ n → take n (xs ++ ys) ≡ xs ++ take (n - length xs) ys
 take_past xs ys n le = (let whole : n ≡ length xs + (n - length xs) = omega arith in ap (λ k. take k (xs ++ ys)) whole) ∙ take-append-add xs ys (n - length xs)
+
+first_sector : (content : List ℕ) → length content ≤ 512 → take 512 (filled 2 content) ≡ filled 1 content
+first_sector content few =
+    take_past content (replicate (1024 - length content) 0) 512 few
+    ∙ ap (λ (l : List ℕ). content ++ l) (take-replicate (512 - length content) (1024 - length content) 0 (omega arith))
 
 -- the front of a text, cut into sectors
 pub sectors_spelled : (count : ℕ) (content text : List ℕ) → length content ≡ 16 + 16 * count → count ≤ 63 → text ≡ filled 2 content
@@ -48,10 +66,7 @@ pub sectors_spelled : (count : ℕ) (content text : List ℕ) → length content
 sectors_spelled count content text size few is = by_size (nat_lt count 32) refl
   where
     one : count < 32 → take 512 text ++ [] ≡ content ++ replicate (512 - length content) 0
-    one small =
-        append-nil (take 512 text) ∙ ap (take 512) is
-        ∙ take_past content (replicate (1024 - length content) 0) 512 (omega arith)
-        ∙ ap (λ (l : List ℕ). content ++ l) (take-replicate (512 - length content) (1024 - length content) 0 (omega arith))
+    one small = append-nil (take 512 text) ∙ ap (take 512) is ∙ first_sector content (omega (arith, size, small))
 
     two : take 512 text ++ (drop 512 text ++ []) ≡ content ++ replicate (1024 - length content) 0
     two = ap (λ (l : List ℕ). take 512 text ++ l) (append-nil (drop 512 text)) ∙ take-append-drop 512 text ∙ is
@@ -83,6 +98,35 @@ body_found number batch first second one two some few header tail =
       lawful = tail.lawful;
       spelled = sym (ap (λ (l : Image). concat (take (body_size n) l)) cut) ∙ sectors_spelled n (batch_bytes number batch) text (length-batch_bytes number batch) few spelled;
     }
+
+pub length-batch_body : (number : ℕ) (batch : Batch) → length (batch_body number batch) ≡ size_of batch
+length-batch_body number batch = by_size (nat_lt (length batch.records) 32) (filled 2 (batch_bytes number batch))
+  where
+    by_size : (b : Bool) (text : List ℕ) → length (take (cond b 1 2) (take 512 text ∷ drop 512 text ∷ [])) ≡ cond b 1 2
+    by_size true text = refl
+    by_size false text = refl
+
+-- a text of as many sectors as the batch takes is its body
+pub sectors_cut : (number : ℕ) (batch : Batch) (text : List ℕ) → length batch.records ≤ 63 → text ≡ filled (size_of batch) (batch_bytes number batch)
+    → first_chunks 512 (length text / 512) text ≡ batch_body number batch
+sectors_cut number batch text few is = ap (λ k. first_chunks 512 k text) (omega (arith, long)) ∙ by_size (nat_lt (length batch.records) 32) refl is
+  where
+    size : length (batch_bytes number batch) ≡ 16 + 16 * length batch.records
+    size = length-batch_bytes number batch
+
+    long : length text ≡ 512 * size_of batch
+    long = ap length is ∙ length-filled (size_of batch) (batch_bytes number batch) (omega (arith, size, batch_fits (length batch.records) few))
+
+    by_size : (b : Bool) → nat_lt (length batch.records) 32 ≡ b → text ≡ filled (cond b 1 2) (batch_bytes number batch)
+        → first_chunks 512 (cond b 1 2) text ≡ take (cond b 1 2) (take 512 (filled 2 (batch_bytes number batch)) ∷ drop 512 (filled 2 (batch_bytes number batch)) ∷ [])
+    by_size true small one =
+        let less = ltb-true (length batch.records) 32 small in
+        ap (λ (l : List ℕ). take 512 l ∷ []) (one ∙ sym (first_sector (batch_bytes number batch) (omega (arith, size, less))))
+        ∙ ap (λ (l : List ℕ). l ∷ []) (take-take 512 512 (filled 2 (batch_bytes number batch)) (omega arith))
+    by_size false large two =
+        let whole : length (filled 2 (batch_bytes number batch)) ≡ 1024 = length-filled 2 (batch_bytes number batch) (omega (arith, size, few)) in
+        ap (λ (l : List ℕ). take 512 l ∷ take 512 (drop 512 l) ∷ []) two
+        ∙ ap (λ (l : List ℕ). take 512 (filled 2 (batch_bytes number batch)) ∷ l ∷ []) (take_all 512 (drop 512 (filled 2 (batch_bytes number batch))) (omega (arith, whole, length-drop 512 (filled 2 (batch_bytes number batch)))))
 
 -- the body that is written is one of the batch
 pub body_of_batch : (number : ℕ) (records : List Record) → 1 ≤ length records → length records ≤ 63 → All (IsRecordIn Two) records → IsBody number (new_batch records) (batch_body number (new_batch records))

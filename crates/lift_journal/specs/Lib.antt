@@ -4,6 +4,7 @@ pub mod Told
 pub mod Steps
 pub mod Calls
 pub mod Failed
+pub mod Writing
 pub mod Journal
 pub mod Laws
 pub mod Walk

@@ -18,7 +18,7 @@ ghost use Rattle.lift_disk.specs.Trace.Access.{Write};
 ghost use Rattle.lift_journal.specs.Calls.{Follows, Performs, writes_from, puts, draft_calls};
 ghost use Rattle.lift_journal.specs.Calls.{checkpoint_calls};
 
-use crate::body::{body_count, put_body, sectors_of};
+use crate::body::{body_count, put_body};
 use crate::device::{mark, write_sectors};
 use arrayvec::ArrayVec;
 use lift_base::{MOST_ENTRIES, Record, push_some};
@@ -111,9 +111,8 @@ fn write_batches<D: Disk>(disk: &mut D, register: &Register, start: u32) -> Resu
         let batch = base_batch(register, count, MOST_ENTRIES * index);
         let bodies = body_count(batch.len());
         let mut text = [0; 1024];
-        put_body(&mut text, &batch, index as u32 + 1);
-        let body = sectors_of(&text);
-        write_open_batch(disk, gate, &body[..bodies])?;
+        let body = put_body(&mut text[..512 * bodies], &batch, index as u32 + 1);
+        write_open_batch(disk, gate, body)?;
         gate += bodies as u32 + 1;
     }
     Ok(gate)

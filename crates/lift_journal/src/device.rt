@@ -1,15 +1,17 @@
 //! The journal's writes, in steps of a few device calls each.
-ghost use Rattle.std.specs.Prelude.{◌≡◌, ◌≤◌, ◌<◌, ◌+◌, ◌^◌, ◌++◌, [], ◌∷◌, ◌⊎◌, ℕ, List, length};
-ghost use Rattle.std.specs.Prelude.{OnOk, OnErr, slice_set};
-ghost use Rattle.lift_disk.specs.Disk.{LooseWithin, TouchesOnly, IsSteadyAt, LeavesOnly, IsSynced};
-ghost use Rattle.lift_journal.specs.Layout.{Batch, Holds, start_of};
-ghost use Rattle.lift_journal.specs.Steps.{overwritten, IsInRange, marked, unmarked};
-ghost use Rattle.lift_journal.specs.Steps.{IsReady, HoldsSafely, IsSyncedAt};
-ghost use Rattle.lift_journal.specs.Failed.{Misses, IsFailedAppend};
+ghost use Rattle.std.specs.Prelude.{◌≡◌, ◌≤◌, ◌<◌, ◌+◌, ◌^◌, ◌++◌, [], ◌∷◌, ℕ, length};
+ghost use Rattle.std.specs.Prelude.{OnOk, OnErr, slice_set, All};
+ghost use Rattle.lift_base.specs.Records.{IsLawful};
+ghost use Rattle.lift_disk.specs.Disk.{LooseWithin, TouchesOnly, IsSteadyAt};
+ghost use Rattle.lift_journal.specs.Layout.{IsBody, body_size, new_batch};
+ghost use Rattle.lift_journal.specs.Steps.{overwritten, IsInRange, marked, unmarked, IsSyncedAt};
+ghost use Rattle.lift_journal.specs.Failed.{Misses};
 ghost use Rattle.lift_disk.specs.Trace.Access.{Write, Sync};
-ghost use Rattle.lift_journal.specs.Calls.{Performs, writes_from, puts, append_calls};
-ghost use Rattle.lift_base.specs.declared.history.Shape.{Shape};
+ghost use Rattle.lift_journal.specs.Calls.{Performs, writes_from, puts, batch_body};
+ghost use Rattle.lift_journal.specs.Writing.{WritesBatch};
 
+use crate::batch::RecordList;
+use crate::body::{body_count, put_body};
 use lift_disk::{Disk, DiskFault};
 
 /// Writes these sectors in a row.
@@ -102,30 +104,37 @@ fn open_gate<D: Disk>(disk: &mut D, gate: u32) -> Result<(), DiskFault>
 }
 
 /// Writes a batch. A crash at any moment leaves the batches from before, or these and the new one.
-pub fn write_batch<D: Disk>(disk: &mut D, gate: u32, body: &[[u8; 512]]) -> Result<(), DiskFault>
+fn write_batch<D: Disk>(disk: &mut D, gate: u32, body: &[[u8; 512]]) -> Result<(), DiskFault>
     requires there { gate + 1 + length body.now < (D.state disk.old).size }
     requires fits { gate + 1 + length body.now < 2 ^ 32 }
-    ensures performs { Performs result (append_calls gate body.now) (length body.now + 4)
-        (length body.now + 2) (D.state disk.old) (D.state disk.new) }
-    ensures any_moment { (shape : Shape) (batches : List Batch) (batch : Batch)
-        → ((D.state disk.old).is_honest
-        → IsReady shape batches batch gate body.now (D.state disk.old))
-        → LeavesOnly (D.state disk.old) (D.state disk.new) (λ left. Holds shape batches left
-        ⊎ Holds shape (batches ++ batch ∷ []) left) }
-    ensures touched { ((D.state disk.old).is_honest → IsSynced (D.state disk.old))
-        → TouchesOnly (IsInRange gate (gate + length body.now + 2)) (D.state disk.old)
-        (D.state disk.new) }
-    ensures written { OnOk result ((shape : Shape) (batches : List Batch) (batch : Batch)
-        → (D.state disk.old).is_honest
-        → IsReady shape batches batch gate body.now (D.state disk.old)
-        → HoldsSafely shape (batches ++ batch ∷ []) (start_of shape.half (D.state disk.old).image)
-        (D.state disk.new)) }
-    ensures fails { OnErr result ((shape : Shape) (batches : List Batch) (batch : Batch)
-        → (D.state disk.old).is_honest → (D.state disk.old).is_inert
-        → IsReady shape batches batch gate body.now (D.state disk.old)
-        → IsFailedAppend shape batches batch (length body.now) (D.state disk.old)
-        (D.state disk.new)) }
+    ensures writes { WritesBatch result gate body.now (D.state disk.old) (D.state disk.new) }
 {
     store_after(disk, gate, body)?;
     open_gate(disk, gate)
+}
+
+/// Writes a batch of these records. Where its body takes one sector, just one is zeroed first.
+pub fn write_records<D: Disk>(
+    disk: &mut D,
+    gate: u32,
+    batch: &RecordList,
+    number: u32,
+) -> Result<(), DiskFault>
+    requires there { gate + 1 + body_size (length batch.now.items) < (D.state disk.old).size }
+    requires fits { gate + 1 + body_size (length batch.now.items) < 2 ^ 32 }
+    requires some { 1 ≤ length batch.now.items }
+    requires numbered { 1 ≤ number }
+    requires lawful { All IsLawful batch.now.items }
+    ensures spelled { IsBody number (new_batch batch.now.items)
+        (batch_body number (new_batch batch.now.items)) }
+    ensures writes { WritesBatch result gate (batch_body number (new_batch batch.now.items))
+        (D.state disk.old) (D.state disk.new) }
+{
+    if body_count(batch.len()) == 1 {
+        let mut text = [0; 512];
+        write_batch(disk, gate, put_body(&mut text, batch, number))
+    } else {
+        let mut text = [0; 1024];
+        write_batch(disk, gate, put_body(&mut text, batch, number))
+    }
 }

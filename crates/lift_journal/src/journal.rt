@@ -19,9 +19,9 @@ ghost use Rattle.lift_journal.specs.Next.{GivesNext, MovesCursor, NextCalls};
 ghost use Rattle.lift_journal.specs.Visits.{TakesAll, HasTaken, ShownBefore};
 
 use crate::batch::Stored;
-use crate::body::{body_count, put_body, sectors_of};
+use crate::body::body_count;
 use crate::checkpoint::{batches_for, other_half, write_checkpoint};
-use crate::device::write_batch;
+use crate::device::write_records;
 use crate::fault::JournalFault;
 use crate::place::{Place, find_place};
 use crate::reads::{AtGate, look};
@@ -213,10 +213,7 @@ impl<D: Disk> Journal<D> {
         if used + bodies + 2 > self.place.shape.half as usize {
             return Err(JournalFault::Full);
         }
-        let mut text = [0; 1024];
-        put_body(&mut text, batch, self.place.number);
-        let body = sectors_of(&text);
-        if write_batch(&mut self.device, self.place.gate, &body[..bodies]).is_err() {
+        if write_records(&mut self.device, self.place.gate, batch, self.place.number).is_err() {
             self.is_broken = true;
             return Err(JournalFault::Disk);
         }

@@ -1,31 +1,37 @@
-use Rattle.std.proofs.Common.{◌≡◌, ◌+◌, ◌*◌, ◌++◌, [], ◌∷◌, List, length, take, drop, All, sym, ◌∙◌, ap, subst, arith}
+use Rattle.std.proofs.Common.{◌≡◌, ◌+◌, ◌*◌, ◌++◌, List, length, replicate, All, sym, ◌∙◌, ap, subst, arith}
+use Rattle.std.proofs.lemmas.List.{take-replicate}
 use Rattle.std.proofs.lemmas.Result.{err_from_is_err_and}
 use Rattle.lift_base.specs.declared.history.Record.{Record}
 use Rattle.lift_base.specs.Records.{IsLawful}
-use Rattle.lift_disk.specs.Disk.{Image}
 use Rattle.lift_disk.specs.lemmas.Moments.{runs_then}
-use Rattle.lift_record.specs.declared.version.Version.TheVariants.{Two}
 use Rattle.lift_register.specs.Base.{base_records}
-use Rattle.lift_journal.specs.Layout.{body_size, used, IsBody}
+use Rattle.lift_journal.specs.Layout.{Batch, new_batch, body_size, used, IsBody}
 use Rattle.lift_journal.specs.Walk.{Reaches}
 use Rattle.lift_journal.specs.Checkpoint.{in_batches, batch_count, sectors_for}
 use Rattle.lift_journal.proofs.Bases.{base_in_order}
-use Rattle.lift_journal.proofs.Checkpoints.{Drafted, drafted_touched, drafted_more, lawful_part, next_size, next_body, next_exact, next_room, draft_makes_front, used_most, used_within}
+use Rattle.lift_journal.proofs.Checkpoints.{Drafted, drafted_touched, drafted_more, lawful_part, next_size, next_room, draft_makes_front, used_most, used_within}
 use Rattle.lift_journal.specs.lemmas.Folding.{used_checkpoint}
 use Rattle.lift_journal.specs.Calls.{batch_body, draft_calls, MakesPrefix}
 use Rattle.lift_journal.proofs.Following.{err_follows}
 use Rattle.lift_journal.specs.lemmas.Telling.{fails_then, err_ends}
+use Rattle.lift_journal.proofs.Seeing.{bodies_few}
 use Rattle.lift_journal.proofs.checkpoint.write_batches.Goals as goal
 
-pub put_body-requires-clause-lawful : goal.put_body-requires-clause-lawful
-put_body-requires-clause-lawful g c =
-    subst (All IsLawful) (sym (c.deref.ensures.0 ∙ c.base_batch-batch.ensures)) (lawful_part (63 * c.loop-index.index) (base_records c.args.register.now) c.base_len-count.ensures.records)
+pub put_body-body-requires-clause-lawful : goal.put_body-body-requires-clause-lawful
+put_body-body-requires-clause-lawful g c =
+    subst (All IsLawful) (sym c.base_batch-batch.ensures) (lawful_part (63 * c.loop-index.index) (base_records c.args.register.now) c.base_len-count.ensures.records)
+
+pub put_body-body-requires-clause-blank : goal.put_body-body-requires-clause-blank
+put_body-body-requires-clause-blank g c =
+    let n = c.body_count-bodies.result in
+    let is : n ≡ body_size (length c.base_batch-batch.result.items) = c.body_count-bodies.ensures ∙ ap body_size c.len.ensures.value in
+    take-replicate (512 * n) 1024 0 (omega (arith, is, bodies_few (length c.base_batch-batch.result.items))) ∙ ap (λ k. replicate (512 * k) 0) is
 
 pub write_open_batch-requires-clause-there : goal.write_open_batch-requires-clause-there
 write_open_batch-requires-clause-there g c =
     let items = c.base_batch-batch.result.items in
     let is : c.body_count-bodies.result ≡ body_size (length items) = c.body_count-bodies.ensures ∙ ap body_size c.len.ensures.value in
-    let long = next_size c.body_count-bodies.result items c.sectors_of-body.result.now is c.sectors_of-body.ensures.length in
+    let long = next_size c.loop-index.index c.body_count-bodies.result items c.put_body-body.result.now c.put_body-body.ensures.exact is in
     let room = next_room c.args.start c.loop-index.gate c.loop-index.index c.body_count-bodies.result c.batches_for-index-end.result (base_records c.args.register.now) items c.loop-index.invariant.at c.loop-index-test.true c.batches_for-index-end.ensures.limit is in
     omega (arith, long, room, c.requires.there, c.loop-index.invariant.runs.size)
 
@@ -33,7 +39,7 @@ pub write_open_batch-requires-clause-fits : goal.write_open_batch-requires-claus
 write_open_batch-requires-clause-fits g c =
     let items = c.base_batch-batch.result.items in
     let is : c.body_count-bodies.result ≡ body_size (length items) = c.body_count-bodies.ensures ∙ ap body_size c.len.ensures.value in
-    let long = next_size c.body_count-bodies.result items c.sectors_of-body.result.now is c.sectors_of-body.ensures.length in
+    let long = next_size c.loop-index.index c.body_count-bodies.result items c.put_body-body.result.now c.put_body-body.ensures.exact is in
     let room = next_room c.args.start c.loop-index.gate c.loop-index.index c.body_count-bodies.result c.batches_for-index-end.result (base_records c.args.register.now) items c.loop-index.invariant.at c.loop-index-test.true c.batches_for-index-end.ensures.limit is in
     omega (arith, long, room, c.requires.fits)
 
@@ -42,10 +48,10 @@ returns-in_err-write_open_batch-clause-touched g c =
     let items = c.base_batch-batch.result.items in
     let records = base_records c.args.register.now in
     let is : c.body_count-bodies.result ≡ body_size (length items) = c.body_count-bodies.ensures ∙ ap body_size c.len.ensures.value in
-    let long = next_size c.body_count-bodies.result items c.sectors_of-body.result.now is c.sectors_of-body.ensures.length in
+    let long = next_size c.loop-index.index c.body_count-bodies.result items c.put_body-body.result.now c.put_body-body.ensures.exact is in
     let room = next_room c.args.start c.loop-index.gate c.loop-index.index c.body_count-bodies.result c.batches_for-index-end.result records items c.loop-index.invariant.at c.loop-index-test.true c.batches_for-index-end.ensures.limit is in
     drafted_touched (g.D.Disk.state c.args.disk.now) (g.D.Disk.state c.loop-index.disk) (g.D.Disk.state c.write_open_batch.new.disk) c.args.start c.loop-index.gate c.loop-index.index records c.loop-index.invariant
-    (length (take c.body_count-bodies.result c.sectors_of-body.result.now)) (omega (arith, long, room)) c.write_open_batch.ensures.touched
+    (length c.put_body-body.result.now) (omega (arith, long, room)) c.write_open_batch.ensures.touched
 
 pub overflow_add-gate-in-loop-index : goal.overflow_add-gate-in-loop-index
 overflow_add-gate-in-loop-index g c =
@@ -63,19 +69,15 @@ loop-index-preserved g c =
     let new = g.D.Disk.state c.write_open_batch.new.disk in
     let n = c.body_count-bodies.result in
     let k = c.loop-index.index in
-    let sectors = take n c.sectors_of-body.result.now in
+    let body = c.put_body-body.result.now in
     let is : n ≡ body_size (length items) = c.body_count-bodies.ensures ∙ ap body_size c.len.ensures.value in
-    let long = next_size n items c.sectors_of-body.result.now is c.sectors_of-body.ensures.length in
+    let long = next_size k n items c.put_body-body.result.now c.put_body-body.ensures.exact is in
     let room = next_room c.args.start c.loop-index.gate k n c.batches_for-index-end.result records items c.loop-index.invariant.at c.loop-index-test.true c.batches_for-index-end.ensures.limit is in
-    let written = subst (λ (s : Image). IsBody (k + 1) (record { version = Two; records = items }) (take (body_size (length items)) s)) (sym c.sectors_of-body.ensures.cut) (subst (λ (l : List Record). IsBody (k + 1) (record { version = Two; records = l }) (take (body_size (length l)) (take 512 c.put_body.new.text ∷ drop 512 c.put_body.new.text ∷ []))) c.deref.ensures.0 c.put_body.ensures.spelled) in
-    let exact : take (body_size (length items)) c.sectors_of-body.result.now ≡ batch_body (k + 1) (record { version = Two; records = items }) =
-    ap (λ (s : Image). take (body_size (length items)) s) c.sectors_of-body.ensures.cut
-    ∙ subst (λ (l : List Record). take (body_size (length l)) (take 512 c.put_body.new.text ∷ drop 512 c.put_body.new.text ∷ []) ≡ batch_body (k + 1) (record { version = Two; records = l })) c.deref.ensures.0 c.put_body.ensures.exact in
     subst (λ m. Drafted old new c.args.start (c.loop-index.gate + (m + 1)) (k + 1) records) long
-    (drafted_more old now new c.args.start c.loop-index.gate k records c.loop-index.invariant sectors (omega (arith, long, room)) (long ∙ is ∙ ap (λ (l : List Record). body_size (length l)) c.base_batch-batch.ensures)
-    (next_body k n records items c.sectors_of-body.result.now c.base_batch-batch.ensures is written) (base_in_order c.args.register.now c.base_len-count.ensures.lawful)
+    (drafted_more old now new c.args.start c.loop-index.gate k records c.loop-index.invariant body (omega (arith, long, room)) (long ∙ is ∙ ap (λ (l : List Record). body_size (length l)) c.base_batch-batch.ensures)
+    (subst (λ (b : Batch). IsBody (k + 1) b body) (ap new_batch c.base_batch-batch.ensures) c.put_body-body.ensures.spelled) (base_in_order c.args.register.now c.base_len-count.ensures.lawful)
     c.write_open_batch.ensures.runs c.in_ok-write_open_batch.ensures.made.calls c.in_ok-write_open_batch.ensures.made.writes c.in_ok-write_open_batch.ensures.cause.ok c.in_ok-write_open_batch.ensures.told.ok
-    (next_exact k n records items c.sectors_of-body.result.now c.base_batch-batch.ensures is exact) c.in_ok-write_open_batch.ensures.follows.all c.write_open_batch.ensures.touched c.in_ok-write_open_batch.ensures.written (g.met.D.Disk.whole c.loop-index.disk))
+    (c.put_body-body.ensures.exact ∙ ap (batch_body (k + 1)) (ap new_batch c.base_batch-batch.ensures)) c.in_ok-write_open_batch.ensures.follows.all c.write_open_batch.ensures.touched c.in_ok-write_open_batch.ensures.written (g.met.D.Disk.whole c.loop-index.disk))
 
 pub returns-clause-gate : goal.returns-clause-gate
 returns-clause-gate g c =
@@ -108,13 +110,10 @@ returns-in_err-write_open_batch-clause-performs g c =
     let k = c.loop-index.index in
     let fault = err_from_is_err_and c.from_residual.result c.from_residual.ensures.1 in
     let is : n ≡ body_size (length items) = c.body_count-bodies.ensures ∙ ap body_size c.len.ensures.value in
-    let long = next_size n items c.sectors_of-body.result.now is c.sectors_of-body.ensures.length in
+    let long = next_size k n items c.put_body-body.result.now c.put_body-body.ensures.exact is in
     let all : c.batches_for-index-end.result ≡ batch_count (length records) = c.batches_for-index-end.ensures.value ∙ ap batch_count c.base_len-count.ensures.value in
     let within = used_within k c.batches_for-index-end.result n records items c.loop-index-test.true all (omega (arith, c.base_len-count.ensures.value, c.base_len-count.ensures.limit.0)) c.base_batch-batch.ensures is in
     let made = c.write_open_batch.ensures.made in
-    let exact : take (body_size (length items)) c.sectors_of-body.result.now ≡ batch_body (k + 1) (record { version = Two; records = items }) =
-    ap (λ (s : Image). take (body_size (length items)) s) c.sectors_of-body.ensures.cut
-    ∙ subst (λ (l : List Record). take (body_size (length l)) (take 512 c.put_body.new.text ∷ drop 512 c.put_body.new.text ∷ []) ≡ batch_body (k + 1) (record { version = Two; records = l })) c.deref.ensures.0 c.put_body.ensures.exact in
     record {
       runs = runs_then old now new so_far.runs c.write_open_batch.ensures.runs;
       cause = record { ok = rw fault.1 tt; err = rw fault.1 (omega (arith, so_far.failures, c.in_err-write_open_batch.ensures.cause.err)) };
@@ -127,8 +126,8 @@ returns-in_err-write_open_batch-clause-performs g c =
       };
       follows = err_follows _ c.from_residual.result old new (draft_calls c.args.start 1 (in_batches (batch_count (length records)) records)) c.from_residual.ensures.1
           (subst (λ m. MakesPrefix (draft_calls c.args.start 1 (in_batches m records)) old new) all
-          (draft_makes_front old now new c.args.start c.loop-index.gate k c.batches_for-index-end.result records (take n c.sectors_of-body.result.now) so_far.at
-          (next_exact k n records items c.sectors_of-body.result.now c.base_batch-batch.ensures is exact) c.loop-index-test.true so_far.trace c.in_err-write_open_batch.ensures.follows.front));
+          (draft_makes_front old now new c.args.start c.loop-index.gate k c.batches_for-index-end.result records c.put_body-body.result.now so_far.at
+          (c.put_body-body.ensures.exact ∙ ap (batch_body (k + 1)) (ap new_batch c.base_batch-batch.ensures)) c.loop-index-test.true so_far.trace c.in_err-write_open_batch.ensures.follows.front));
     }
 
 pub returns-clause-performs : goal.returns-clause-performs
