@@ -13,6 +13,8 @@ pub type RecordList = ArrayVec<Record, MOST_ENTRIES>;
 pub struct Stored {
     pub version: Version,
     pub records: RecordList,
+    /// The sectors that were read last.
+    pub body: [[u8; 512]; 2],
 }
 
 impl Stored {
@@ -23,6 +25,7 @@ impl Stored {
         Stored {
             version: Version::One,
             records: ArrayVec::new(),
+            body: [[0; 512]; 2],
         }
     }
 }

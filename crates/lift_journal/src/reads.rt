@@ -53,7 +53,7 @@ pub fn read_sector<D: Disk>(
     disk.read(sector, buffer)
 }
 
-/// Reads a sector if it is wanted; else the buffer stays as it is.
+/// Reads a sector if it is wanted; else zeros stand for it.
 fn read_second<D: Disk>(
     disk: &mut D,
     sector: u32,
@@ -66,43 +66,42 @@ fn read_second<D: Disk>(
     ensures gives { OnOk result (is_wanted ≡ true → (D.state disk.old).is_honest
         → IsSynced (D.state disk.old)
         → sector_at (D.state disk.old).image sector ≡ buffer.new) }
-    ensures stays { OnOk result (is_wanted ≡ false → buffer.new ≡ buffer.old) }
+    ensures blank { OnOk result (is_wanted ≡ false → buffer.new ≡ zeros) }
     ensures read { OnOk result ((D.state disk.new).trace ≡ (D.state disk.old).trace
         ++ reads_from sector (if is_wanted then 1 else 0)) }
     ensures unread { OnErr result ((D.state disk.new).trace ≡ (D.state disk.old).trace) }
     ensures wanted { OnErr result (is_wanted ≡ true) }
 {
     if !is_wanted {
+        *buffer = [0; 512];
         return Ok(());
     }
     read_sector(disk, sector, buffer)
 }
 
 /// What stands at an open gate, after which this header is read: the second body sector is read,
-/// if it has one; else zeros stand for it. A batch is left in `stored`.
+/// if it has one. A batch is left in `stored`.
 fn read_rest<D: Disk>(
     disk: &mut D,
     gate: u32,
     end: u32,
     header: Header,
-    body: &mut [[u8; 512]; 2],
     stored: &mut Stored,
 ) -> Result<AtGate, DiskFault>
     requires below { gate + 2 < end }
     requires inside { end ≤ (D.state disk.old).size }
-    requires header { IsHeaderSpelling (take 16 (sector_at body.old 0)) header }
-    requires whole { length (sector_at body.old 0) ≡ 512 }
-    requires blank { sector_at body.old 1 ≡ zeros }
+    requires header { IsHeaderSpelling (take 16 (sector_at stored.old.body 0)) header }
+    requires whole { length (sector_at stored.old.body 0) ≡ 512 }
     ensures looks { Looks result (D.state disk.old) (D.state disk.new) }
     ensures unclosed { IfOk result (λ at. at ≢ AtGate.Closed) }
     ensures fits { IfOk result (λ at. at ≡ AtGate.Batch → FitsBelow gate end stored.new) }
     ensures seen { IfOk result (λ at. (D.state disk.old).is_honest → IsSynced (D.state disk.old)
-        → sector_at (D.state disk.old).image (gate + 1) ≡ sector_at body.old 0
+        → sector_at (D.state disk.old).image (gate + 1) ≡ sector_at stored.old.body 0
         → ShowsBody (D.state disk.old).image gate end header.number at stored.new) }
     ensures row { OnOk result (HasRead (gate + 2) 1 end (D.state disk.old) (D.state disk.new)) }
     ensures unread { OnErr result (HasRead (gate + 2) 0 end (D.state disk.old) (D.state disk.new)) }
     ensures unfinished { OnErr result ((D.state disk.old).is_honest → IsSynced (D.state disk.old)
-        → sector_at (D.state disk.old).image (gate + 1) ≡ sector_at body.old 0
+        → sector_at (D.state disk.old).image (gate + 1) ≡ sector_at stored.old.body 0
         → (batch : BatchValue)
         → IsBatchAt (D.state disk.old).image gate end header.number batch → size_of batch ≡ 2) }
     ensures whole { IfOk result (λ at. at ≡ AtGate.Batch
@@ -114,9 +113,9 @@ fn read_rest<D: Disk>(
     if bodies >= end - gate - 1 {
         return Ok(AtGate::Damaged);
     }
-    read_second(disk, gate + 2, bodies == 2, &mut body[1])?;
+    read_second(disk, gate + 2, bodies == 2, &mut stored.body[1])?;
     stored.version = header.version;
-    let text = body.as_flattened();
+    let text = stored.body.as_flattened();
     if !parse(header.version, text, count, &mut stored.records) {
         return Ok(AtGate::Damaged);
     }
@@ -152,10 +151,9 @@ fn read_body<D: Disk>(
     if end - gate <= 2 {
         return Ok(AtGate::Damaged);
     }
-    let mut body = [[0; 512]; 2];
-    read_sector(disk, gate + 1, &mut body[0])?;
-    match header_of(&body[0], number) {
-        Some(header) => read_rest(disk, gate, end, header, &mut body, stored),
+    read_sector(disk, gate + 1, &mut stored.body[0])?;
+    match header_of(&stored.body[0], number) {
+        Some(header) => read_rest(disk, gate, end, header, stored),
         None => Ok(AtGate::Damaged),
     }
 }
@@ -210,7 +208,8 @@ pub fn look<D: Disk>(
     ensures closed { IfOk result (λ at. at ≡ AtGate.Closed
         → (D.state disk.new).trace ≡ (D.state disk.old).trace ++ reads_from gate 1) }
 {
-    if !read_mark(disk, gate)? {
+    read_sector(disk, gate, &mut stored.body[0])?;
+    if !has_mark(&stored.body[0]) {
         return Ok(AtGate::Closed);
     }
     read_body(disk, gate, end, number, stored)
