@@ -19,6 +19,6 @@ none_told found false is told there = absurd (cc (is, told))
 
 pub returns-clause-pushed : goal.returns-clause-pushed
 returns-clause-pushed c is =
-    let pushed = pushed_found c.args.version c.sixteen.result c.decode_stop-stop.result c.args.records.now.items c.push_some.new.list.items c.decode_stop-stop.ensures c.push_some.ensures
+    let pushed = pushed_found c.args.version c.sixteen.result c.decode_stop-stop.result c.args.records.now.items c.push_some.new.list.items c.decode_stop-stop.ensures.some c.push_some.ensures
     (λ none. none_told c.decode_stop-stop.result c.is_none.result none c.is_none.ensures c.if-is_none.false) in
     (pushed.0, subst (λ (l : List ℕ). IsSpellingOf c.args.version l pushed.0) c.sixteen.ensures pushed.1, pushed.2)
