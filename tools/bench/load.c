@@ -1,6 +1,7 @@
 /* Clients that ask and wait for the answer, all in one thread, for tools/bench/serve.
 
-   bench-load PORT lift KIOSKS CARS SECONDS FLOORS    kiosks call, cars go where they are sent; prints three rows: both, letters, stops
+   bench-load PORT lift KIOSKS CARS SECONDS FLOORS    kiosks call, cars go where they are sent, an idle one once a letter names it;
+                                                      prints three rows: both, letters, stops
    bench-load PORT alone KIOSKS CARS SECONDS FLOORS   the cars tell where they are and ask no more: ends once all are full; prints letters
    bench-load PORT redis CLIENTS SECONDS              clients set a key each; prints one row
    bench-load PORT greet COUNT KIOSKS                 connections one after another, each greeted; prints nothing
@@ -19,7 +20,7 @@
 #include <time.h>
 #include <unistd.h>
 
-enum { IDLE_US = 10000, MOST = 1 << 24 };
+enum { REFUSED_US = 10000, MOST = 1 << 24 };
 enum role { KIOSK, CAR, SETTER, BOTH };
 
 struct client {
@@ -29,7 +30,9 @@ struct client {
     long number;          /* of the command that is asked */
     int floor, up;        /* where a car is */
     int is_stop;          /* whether a car asked a stop, and not its place */
-    double asked, wakes;  /* when it asked; when an idle car or a refused kiosk asks again, else 0 */
+    int is_named;         /* whether a letter named a car since it asked */
+    int is_idle;          /* whether a car waits for a letter that names it */
+    double asked, wakes;  /* when it asked; when a refused kiosk asks again, else 0 */
     char line[256];
     size_t length;
 };
@@ -40,6 +43,7 @@ struct row {
 };
 
 static struct row rows[4];
+static struct client *cars;
 static int floors = 1, is_alone, is_over;
 
 static double now(void) {
@@ -96,6 +100,7 @@ static void ask(struct client *client) {
         snprintf(text, sizeof text, "PLACE %d %s\n", client->floor, client->up ? "up" : "down");
     }
     client->wakes = 0;
+    client->is_named = client->is_idle = 0;
     client->asked = now();
     say(client->socket, text);
 }
@@ -112,10 +117,17 @@ static void go_on(struct client *car, const char *line, double time) {
         car->up = way[0] == 'u';
         ask(car);
     } else if (strcmp(line, "IDLE") == 0) {
-        car->wakes = is_alone ? 0 : time + IDLE_US;
+        car->is_idle = 1;
+        if (car->is_named) ask(car);
     } else {
         fail("a car's answer:", line);
     }
+}
+
+/* An idle car asks again: it has a call. */
+static void name(struct client *car) {
+    car->is_named = !is_alone;
+    if (car->is_named && car->is_idle) ask(car);
 }
 
 static void answered(struct client *client, const char *line) {
@@ -127,10 +139,11 @@ static void answered(struct client *client, const char *line) {
     if (strncmp(line, client->role == KIOSK ? "CAR " : "+OK", 3) == 0) {
         record(client->role, time - client->asked);
         client->number++;
+        if (client->role == KIOSK) name(&cars[line[4] - 'A']);
     } else if (client->role == KIOSK && strcmp(line, "NO 3") == 0) {
         rows[KIOSK].refused++;
         is_over = is_alone && rows[KIOSK].count > 0;
-        client->wakes = time + IDLE_US;
+        client->wakes = time + REFUSED_US;
         return;
     } else {
         fail("an answer:", line);
@@ -212,16 +225,17 @@ int main(int count, char **words) {
         return 0;
     }
     is_alone = strcmp(words[2], "alone") == 0;
-    int is_lift = is_alone || strcmp(words[2], "lift") == 0, cars = is_lift ? atoi(words[4]) : 0, epoll = epoll_create1(0);
+    int is_lift = is_alone || strcmp(words[2], "lift") == 0, most = is_lift ? atoi(words[4]) : 0, epoll = epoll_create1(0);
     if (is_lift) {
         if (count < 7) fail("words:", "PORT lift|alone KIOSKS CARS SECONDS FLOORS");
         floors = atoi(words[6]);
     }
-    struct client *clients = calloc(first + cars, sizeof *clients);
+    struct client *clients = calloc(first + most, sizeof *clients);
+    cars = clients;
     for (int i = 0; i < 4; i++) rows[i].delays = malloc(MOST * sizeof(float));
-    for (int i = 0; i < cars; i++) begin(&clients[i], epoll, port, CAR, i);
-    for (int i = 0; i < first; i++) begin(&clients[cars + i], epoll, port, is_lift ? KIOSK : SETTER, i);
-    double took = run(clients, first + cars, epoll, atof(words[is_lift ? 5 : 4]));
+    for (int i = 0; i < most; i++) begin(&clients[i], epoll, port, CAR, i);
+    for (int i = 0; i < first; i++) begin(&clients[most + i], epoll, port, is_lift ? KIOSK : SETTER, i);
+    double took = run(clients, first + most, epoll, atof(words[is_lift ? 5 : 4]));
     if (is_lift && !is_alone) print(BOTH, took);
     print(is_lift ? KIOSK : SETTER, took);
     if (is_lift && !is_alone) print(CAR, took);
