@@ -9,6 +9,7 @@ ghost use Rattle.lift_base.specs.History.{terminal_of, number_of, content_of};
 
 use crate::checked::{Floor, Letter, Number, Party, Terminal};
 use crate::travel::{Dir, Stop};
+use arrayvec::ArrayVec;
 
 /// A command that was accepted and is kept: a call allotted to a car, or a stop of a car.
 #[derive(Clone, Copy, PartialEq, Eq)]
@@ -184,7 +185,7 @@ impl Row {
 }
 
 /// How many of a car's calls stand before the first one that a stop of the car changes.
-pub fn count_unchanged(rows: &[Row], stop: &Stop) -> usize
+fn count_unchanged(rows: &[Row], stop: &Stop) -> usize
     ensures rows { flat_map (row_after stop.now) (take result rows.now) ≡ take result rows.now }
     ensures limit { result ≤ length rows.now }
 {
@@ -194,6 +195,33 @@ pub fn count_unchanged(rows: &[Row], stop: &Stop) -> usize
         }
     }
     rows.len()
+}
+
+/// Takes a stop into the calls of a car that is there: those that are open still stay in their
+/// order. Where the answer is no, it changes none; where it is yes, only those that change are
+/// written.
+pub fn serve_rows<const MOST: usize>(rows: &mut ArrayVec<Row, MOST>, stop: &Stop) -> bool
+    ensures rows { rows.new.items ≡ flat_map (row_after stop.now) rows.old.items }
+    ensures fewer { length rows.new.items ≤ length rows.old.items }
+    ensures unchanged { result ≡ false → rows.new.items ≡ rows.old.items }
+{
+    let mut index = count_unchanged(rows, stop);
+    if index == rows.len() {
+        return false;
+    }
+    while index < rows.len() {
+        match rows[index].after(*stop) {
+            Some(row) => {
+                rows[index] = row;
+                index += 1;
+            }
+            None => {
+                let _gone = rows.remove(index);
+            }
+        }
+        index += count_unchanged(&rows[index..], stop);
+    }
+    true
 }
 
 /// What a terminal's last accepted command said, with the letter that a call was answered.

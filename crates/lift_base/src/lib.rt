@@ -14,7 +14,7 @@ mod travel;
 pub use checked::{Floor, Letter, Number, Party, Terminal};
 pub use command::{Body, Reason, Reply};
 pub use count::ProofCount;
-pub use history::{Content, Entry, Last, MOST_DONE, Record, Row, Shape, count_unchanged};
+pub use history::{Content, Entry, Last, MOST_DONE, Record, Row, Shape, serve_rows};
 pub use limits::{
     MOST_BATCHES, MOST_CARS, MOST_ENTRIES, MOST_FLOORS, MOST_HALTS, MOST_KIOSKS, MOST_ROWS,
     MOST_TERMINALS,

@@ -1,6 +1,6 @@
 //! The calls and the cars of a lift group, as decisions change them.
 
-ghost use Rattle.std.specs.Prelude.{◌≡◌, ◌<◌, ◌∷◌, ◌++◌, [], length};
+ghost use Rattle.std.specs.Prelude.{◌≡◌, ◌<◌, ◌∷◌, ◌++◌, [], false, length};
 ghost use Rattle.lift_base.specs.declared.history.Record.TheVariants.{Entry as EntryRecord};
 ghost use Rattle.lift_base.specs.Records.{IsRecord};
 ghost use Rattle.lift_base.specs.declared.history.Entry.{Entry as EntryValue};
@@ -20,13 +20,13 @@ use lift_register::Register;
 use lift_stops::Schedule;
 use std::marker::Model;
 
-/// An entry joins the register and the batch.
+/// An entry joins the register and the batch. Where the answer is no, it changes no open call.
 fn join(
     building: &Building,
     register: &mut Register,
     batch: &mut ArrayVec<Entry, MOST_ENTRIES>,
     entry: &Entry,
-)
+) -> bool
     requires fits { Fits building.now register.old entry.now }
     requires inside { IsRegisterIn building.now register.old }
     requires room { length batch.old.items < 63 }
@@ -36,9 +36,11 @@ fn join(
     ensures inside { IsRegisterIn building.now register.new }
     ensures batch { batch.new.items ≡ batch.old.items ++ entry.now ∷ [] }
     ensures written { IsRecord (EntryRecord entry.now) }
+    ensures unchanged { result ≡ false → register.new.rows ≡ register.old.rows }
 {
-    register.apply(building, entry);
+    let changes = register.apply(building, entry);
     batch.push(*entry);
+    changes
 }
 
 /// What decisions read and change: the calls, for each car that has reported where it is its open
@@ -164,10 +166,10 @@ impl Group {
             floor: stop.floor,
             dir: stop.dir,
         };
-        join(building, &mut self.register, &mut self.batch, &entry);
+        let changes = join(building, &mut self.register, &mut self.batch, &entry);
         let place = usize::from(car.get());
         let schedule = &mut self.schedules[place];
-        serve(&self.register, car, schedule, stop)
+        serve(&self.register, car, schedule, stop, changes)
     }
 }
 

@@ -1,6 +1,6 @@
 //! How a car's schedule changes.
 
-ghost use Rattle.std.specs.Prelude.{◌≡◌, ◌≤◌, length, Some, IfSome};
+ghost use Rattle.std.specs.Prelude.{◌≡◌, ◌≤◌, false, length, Some, IfSome};
 ghost use Rattle.lift_register.specs.Register.{rows_of};
 ghost use Rattle.lift_stops.specs.StopList.{next_stop};
 ghost use Rattle.lift_stops.specs.Schedule.{position_after};
@@ -79,29 +79,33 @@ pub fn stand(
 }
 
 /// A car made a stop that the register has taken in. Its schedule is made from its open calls where
-/// it has none. The answer is the stop that it makes next.
+/// it has none; where the stop changes none, it only stands there. The answer is the stop that it
+/// makes next.
 pub fn serve(
     register: &Register,
     car: Letter,
     schedule: &mut Option<Schedule>,
     stop: &Stop,
+    changes: bool,
 ) -> Option<Stop>
     requires own { HasRowsAfter stop.now register.now car schedule.old }
+    requires unchanged { changes ≡ false → HasRows register.now car schedule.old }
     ensures schedule { schedule.new
         ≡ Some (schedule_at register.now car (position_after stop.now)) }
     ensures next { result ≡ next_stop (rows_of register.now car) (position_after stop.now) }
 {
+    let position = Position {
+        floor: stop.floor,
+        dir: stop.dir,
+    };
+    if !changes {
+        return stand(register, car, schedule, &position);
+    }
     match schedule {
         Some(schedule) => {
             schedule.serve(*stop);
             schedule.next_stop()
         }
-        None => {
-            let position = Position {
-                floor: stop.floor,
-                dir: stop.dir,
-            };
-            begin(register, car, schedule, position)
-        }
+        None => begin(register, car, schedule, position),
     }
 }

@@ -19,6 +19,8 @@ pub fn body_count(count: usize) -> usize
 
 /// Puts the body of a batch of the second version into the zeros of as many sectors as it takes,
 /// and gives the sectors.
+// (in its callers' own bodies, where the length of the text is a constant)
+#[inline(always)]
 pub fn put_body<'a>(text: &'a mut [u8], batch: &RecordList, number: u32) -> &'a [[u8; 512]]
     requires blank { text.old ≡ replicate (512 * body_size (length batch.now.items)) 0 }
     requires some { 1 ≤ length batch.now.items }

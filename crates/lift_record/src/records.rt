@@ -26,10 +26,10 @@ fn is_lawful_call(kiosk: Terminal, number: Number, from: Floor, to: Floor) -> bo
 }
 
 /// Whether the journal may hold this record.
-pub fn is_lawful(record: &Record) -> bool
-    ensures { IsTrue result ↔ IsLawful «record».now }
+pub fn is_lawful(value: &Record) -> bool
+    ensures { IsTrue result ↔ IsLawful value.now }
 {
-    match *record {
+    match *value {
         Record::Entry(
             Entry::Allot {
                 kiosk,
@@ -174,11 +174,11 @@ fn entry_bytes(version: Version, entry: &Entry) -> [u8; 16]
 }
 
 /// The sixteen bytes of this record in this version, which may not be able to say it.
-fn spell(version: Version, record: &Record) -> [u8; 16]
-    ensures bytes { result ≡ spelling_of version «record».now }
-    ensures typed { IsTyped «record».now }
+fn spell(version: Version, value: &Record) -> [u8; 16]
+    ensures bytes { result ≡ spelling_of version value.now }
+    ensures typed { IsTyped value.now }
 {
-    match *record {
+    match *value {
         Record::Entry(ref entry) => entry_bytes(version, entry),
         Record::Row(row) => {
             let content = call_bytes(version, row.from, row.to, row.car, row.party, row.aboard);
@@ -193,12 +193,12 @@ fn spell(version: Version, record: &Record) -> [u8; 16]
 }
 
 /// The sixteen bytes that spell this record in the second version.
-pub fn encode(record: &Record) -> [u8; 16]
-    requires { IsLawful «record».now }
-    ensures bytes { result ≡ spelling_of Two «record».now }
-    ensures in_grammar { IsSpellingOf Two result «record».now }
+pub fn encode(value: &Record) -> [u8; 16]
+    requires { IsLawful value.now }
+    ensures bytes { result ≡ spelling_of Two value.now }
+    ensures in_grammar { IsSpellingOf Two result value.now }
 {
-    spell(Version::Two, record)
+    spell(Version::Two, value)
 }
 
 /// The call that these parts of a record spell, if they spell one.

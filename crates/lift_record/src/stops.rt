@@ -14,6 +14,8 @@ use lift_base::{Entry, Floor, Letter, Number, Record};
 pub fn decode_stop(bytes: &[u8; 16]) -> Option<Record>
     ensures some { IfSome result (λ content. (version : VersionValue)
         → IsSpellingOf version bytes.now content) }
+    ensures stop { IfSome result (λ content. (car number floor : ℕ) × (dir : DirValue)
+        × (content ≡ RecordValue.Entry (EntryValue.Stop car number floor dir))) }
     ensures none { IfNone result ((version : VersionValue) (car number floor : ℕ) (dir : DirValue)
         → ¬ IsSpellingOf version bytes.now
         (RecordValue.Entry (EntryValue.Stop car number floor dir))) }

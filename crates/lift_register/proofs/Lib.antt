@@ -2,4 +2,3 @@ pub mod Follows
 pub mod ReadLemmas
 pub mod SameLemmas
 pub mod BuildingLaws
-pub mod Opening

@@ -1,6 +1,6 @@
 //! The register.
 ghost use Rattle.std.specs.Prelude.{ℕ, ◌≡◌, ◌↔◌, ◌+◌, ◌<◌, ◌≤◌, IsTrue, IfSome, List, [], ◌∷◌};
-ghost use Rattle.std.specs.Prelude.{◌++◌, All, Some, length, slice_get};
+ghost use Rattle.std.specs.Prelude.{◌++◌, All, Some, false, length, slice_get};
 ghost use Rattle.std.specs.List.{flat_map};
 ghost use Rattle.std.specs.Option.{option_to_list};
 ghost use Rattle.lift_base.specs.Records.{IsRecord};
@@ -190,14 +190,22 @@ impl Register {
         self.lasts[index] = Some(*last);
     }
 
-    /// Lets the passengers of a stop leave and board, and counts the calls that it ends.
-    fn serve(&mut self, car: Letter, stop: Stop)
+    /// Lets the passengers of a stop leave and board, and counts the calls that it ends. Whether it
+    /// changes a call.
+    fn serve(&mut self, car: Letter, stop: &Stop) -> bool
         requires countable { self.old.done + length (rows_of self.old car) ≤ 788529105 }
-        ensures value { self.new ≡ with_stop self.old car stop }
+        ensures value { self.new ≡ with_stop self.old car stop.now }
+        ensures unchanged { result ≡ false → self.new.rows ≡ self.old.rows }
         ensures was { IsWellFormed self.old }
         ensures lawful { IsWellFormed self.new }
     {
-        self.done += serve_car(&mut self.rows, car, stop);
+        match serve_car(&mut self.rows, car, stop) {
+            Some(ended) => {
+                self.done += ended;
+                true
+            }
+            None => false,
+        }
     }
 
     /// Adds a new call, and keeps it as its kiosk's last command.
@@ -212,8 +220,8 @@ impl Register {
         self.keep_last(row.kiosk, &row.kept());
     }
 
-    /// Takes in an entry.
-    pub fn apply(&mut self, building: &Building, entry: &Entry)
+    /// Takes in an entry. Where the answer is no, it changes no open call, and adds none.
+    pub fn apply(&mut self, building: &Building, entry: &Entry) -> bool
         requires fits { Fits building.now self.old entry.now }
         requires balanced { IsBalanced self.old }
         ensures one { self.new ≡ register_of self.old (entry.now ∷ []) }
@@ -227,6 +235,7 @@ impl Register {
         ensures belongs { BelongsTo building.now self.old → BelongsTo building.now self.new }
         // What fits can be written.
         ensures written { IsRecord (RecordValue.Entry entry.now) }
+        ensures unchanged { result ≡ false → self.new.rows ≡ self.old.rows }
     {
         note_ranges(&Record::Entry(*entry));
         self.note_lawful();
@@ -249,6 +258,7 @@ impl Register {
                     party,
                     aboard: false,
                 });
+                true
             }
             Entry::Stop {
                 car,
@@ -256,9 +266,10 @@ impl Register {
                 floor,
                 dir,
             } => {
-                self.serve(car, Stop { floor, dir });
+                let changes = self.serve(car, &Stop { floor, dir });
                 let content = Content::Stopped { floor, dir };
                 self.keep_last(Terminal::of_car(car), &Last { number, content });
+                changes
             }
         }
     }
@@ -300,12 +311,12 @@ impl Register {
     }
 
     /// Whether a record of a checkpoint can be taken now.
-    pub fn base_fits(&self, building: &Building, record: &Record) -> bool
-        ensures exact { IsTrue result ↔ BaseFits building.now self.now «record».now }
+    pub fn base_fits(&self, building: &Building, part: &Record) -> bool
+        ensures exact { IsTrue result ↔ BaseFits building.now self.now part.now }
         ensures lawful { IsWellFormed self.now }
     {
         self.note_lawful();
-        match record {
+        match part {
             Record::Row(row) => {
                 is_possible_call(building, row.kiosk, row.from, row.to, row.car)
                     && row.number.get() >= 1
@@ -320,18 +331,18 @@ impl Register {
     }
 
     /// Takes in a record of a checkpoint.
-    pub fn apply_base(&mut self, building: &Building, record: &Record)
-        requires fits { BaseFits building.now self.old «record».now }
-        ensures value { self.new ≡ with_record self.old «record».now }
+    pub fn apply_base(&mut self, building: &Building, part: &Record)
+        requires fits { BaseFits building.now self.old part.now }
+        ensures value { self.new ≡ with_record self.old part.now }
         ensures lawful { IsWellFormed self.new }
         ensures belongs { BelongsTo building.now self.old → BelongsTo building.now self.new }
         // The record that ends a checkpoint tells that no call was lost.
-        ensures balanced { (count : ℕ) → «record».now ≡ RecordValue.Done count
+        ensures balanced { (count : ℕ) → part.now ≡ RecordValue.Done count
             → IsBalanced self.new }
     {
-        note_ranges(record);
+        note_ranges(part);
         self.note_lawful();
-        match record {
+        match part {
             Record::Row(row) => {
                 prove!(building.places(row.car) <= 32);
                 self.add_row(row);

@@ -1,42 +1,27 @@
 //! The open calls of each car.
 ghost use Rattle.std.specs.Prelude.{◌≡◌, ◌↔◌, IsTrue, ◌+◌, ◌<◌, ◌≤◌, [], ◌∷◌, ◌++◌, length};
-ghost use Rattle.std.specs.Prelude.{slice_index_or, slice_set};
+ghost use Rattle.std.specs.Prelude.{slice_index_or, slice_set, None, IfSome};
 ghost use Rattle.std.specs.List.{flat_map};
 ghost use Rattle.lift_base.specs.History.{row_after};
 ghost use Rattle.lift_register.specs.Rows.{row_lists};
 
 use arrayvec::ArrayVec;
-use lift_base::{Last, Letter, MOST_CARS, MOST_ROWS, MOST_TERMINALS, Row, Stop, count_unchanged};
+use lift_base::{Last, Letter, MOST_CARS, MOST_ROWS, MOST_TERMINALS, Row, Stop, serve_rows};
 
-/// Takes a stop of a car into the car's rows. Those that it doesn't change aren't written.
-fn keep_open(rows: &mut ArrayVec<Row, MOST_ROWS>, stop: &Stop)
+/// Takes a stop of a car into the car's rows, and answers how many calls it ends, none where it
+/// changes none.
+fn serve(rows: &mut ArrayVec<Row, MOST_ROWS>, stop: &Stop) -> Option<u32>
     ensures rows { rows.new.items ≡ flat_map (row_after stop.now) rows.old.items }
-    ensures fewer { length rows.new.items ≤ length rows.old.items }
-{
-    let mut index = count_unchanged(rows, stop);
-    while index < rows.len() {
-        match rows[index].after(*stop) {
-            Some(row) => {
-                rows[index] = row;
-                index += 1;
-            }
-            None => {
-                rows.remove(index);
-            }
-        }
-        index += count_unchanged(&rows[index..], stop);
-    }
-}
-
-/// Takes a stop of a car into the car's rows, and answers how many calls it ends.
-fn serve(rows: &mut ArrayVec<Row, MOST_ROWS>, stop: Stop) -> u32
-    ensures rows { rows.new.items ≡ flat_map (row_after stop) rows.old.items }
-    ensures ended { result + length rows.new.items ≡ length rows.old.items }
+    ensures unchanged { result ≡ None → rows.new.items ≡ rows.old.items }
+    ensures ended { IfSome result (λ ended. ended + length rows.new.items ≡ length rows.old.items) }
     ensures limit { length rows.old.items ≤ 32 }
 {
     let count = rows.len();
-    keep_open(rows, &stop);
-    (count - rows.len()) as u32
+    if serve_rows(rows, stop) {
+        Some((count - rows.len()) as u32)
+    } else {
+        None
+    }
 }
 
 /// Adds an open call to the rows of its car.
@@ -51,16 +36,21 @@ pub fn push_row(rows: &mut [ArrayVec<Row, MOST_ROWS>; MOST_CARS], row: Row)
     rows.push(row);
 }
 
-/// Takes a stop of a car, and answers how many calls it ends.
-pub fn serve_car(rows: &mut [ArrayVec<Row, MOST_ROWS>; MOST_CARS], car: Letter, stop: Stop) -> u32
+/// Takes a stop of a car, and answers how many calls it ends, none where it changes none.
+pub fn serve_car(
+    rows: &mut [ArrayVec<Row, MOST_ROWS>; MOST_CARS],
+    car: Letter,
+    stop: &Stop,
+) -> Option<u32>
     ensures rows { row_lists rows.new
         ≡ slice_set (row_lists rows.old) car
-        (flat_map (row_after stop) (slice_index_or (row_lists rows.old) car [])) }
-    ensures ended { result
-        + length (flat_map (row_after stop) (slice_index_or (row_lists rows.old) car []))
-        ≡ length (slice_index_or (row_lists rows.old) car []) }
+        (flat_map (row_after stop.now) (slice_index_or (row_lists rows.old) car [])) }
+    ensures unchanged { result ≡ None → row_lists rows.new ≡ row_lists rows.old }
+    ensures ended { IfSome result (λ ended. ended
+        + length (flat_map (row_after stop.now) (slice_index_or (row_lists rows.old) car []))
+        ≡ length (slice_index_or (row_lists rows.old) car [])) }
     ensures car { car < 16 }
-    ensures limit { result ≤ 32 }
+    ensures limit { IfSome result (λ ended. ended ≤ 32) }
 {
     let rows = &mut rows[car.get() as usize];
     serve(rows, stop)

@@ -31,7 +31,7 @@ IsIn-filter p x (y ∷ ys) (inr later) passes =
       | false ↦ IsIn-filter p x ys later passes
     ]
 
-pub stops-rise : (rows : List Row) (position : Position) → Rises (rank_of position.dir) 0 (stop_list rows position)
+stops-rise : (rows : List Row) (position : Position) → Rises (rank_of position.dir) 0 (stop_list rows position)
 unfolding stop_list
 stops-rise rows position = Rises-filter (rank_of position.dir) 0 (is_needed rows position) (all_halts position.dir) (all_halts-rise position.dir)
 
@@ -41,7 +41,7 @@ same_pass-self Second = refl
 same_pass-self Third = refl
 
 -- where a call's next leg is made
-abbrev pub own_halt : Position → Row → Halt
+abbrev own_halt : Position → Row → Halt
 own_halt position row = halt_at (pass_of position row) (first_leg row)
 
 own_needed : (position : Position) (row : Row) → is_halt_of position row (own_halt position row) ≡ true
@@ -51,14 +51,14 @@ own_needed position row = rw (same_pass-self (pass_of position row)) (either row
     either true from to = rw (eq-eqb to to refl) refl
     either false from to = rw (eq-eqb from from refl) refl
 
-pub own_low : (row : Row) → HasFloors row → first_leg row < 64
+own_low : (row : Row) → HasFloors row → first_leg row < 64
 own_low row floors = either row.aboard row.from row.to floors
   where
     either : (aboard : Bool) (from to : ℕ) → All (λ leg. leg < 64) (cond aboard (to ∷ []) (from ∷ to ∷ [])) → cond aboard to from < 64
     either true from to low = low 0 0 (omega arith)
     either false from to low = low 0 0 (omega arith)
 
-pub own_listed : (rows : List Row) (position : Position) (k : ℕ) (blank : Row) → k < length rows → HasFloors (get_or rows k blank) → IsIn (own_halt position (get_or rows k blank)) (stop_list rows position)
+own_listed : (rows : List Row) (position : Position) (k : ℕ) (blank : Row) → k < length rows → HasFloors (get_or rows k blank) → IsIn (own_halt position (get_or rows k blank)) (stop_list rows position)
 unfolding stop_list
 own_listed rows position k blank within floors =
     let row : Row = get_or rows k blank in
@@ -66,7 +66,7 @@ own_listed rows position k blank within floors =
     IsIn-filter (is_needed rows position) own (all_halts position.dir) (all_halts-all position.dir (pass_of position row) (first_leg row) (own_low row floors))
     (list_any_at (λ (other : Row). is_halt_of position other own) rows k blank within (own_needed position row))
 
-pub low_rank : (dir : Dir) (leg : ℕ) → leg < 64 → floor_rank dir leg ≤ 63
+low_rank : (dir : Dir) (leg : ℕ) → leg < 64 → floor_rank dir leg ≤ 63
 low_rank Up leg low = omega (arith, low)
 low_rank Down leg low = omega arith
 
@@ -76,7 +76,7 @@ ahead_after Up leg floor other low le ahead = le-leb other leg (omega (arith, le
 ahead_after Down leg floor other low le ahead = le-leb leg other (omega (arith, le, low, leb-true floor other ahead))
 
 -- no leg of the first pass is behind a floor that its first halt isn't behind
-pub first_ahead : (dir : Dir) (low : ℕ) (halts : List Halt) (leg floor : ℕ) → Rises (rank_of dir) low halts → IsIn (halt_at First leg) halts → leg < 64
+first_ahead : (dir : Dir) (low : ℕ) (halts : List Halt) (leg floor : ℕ) → Rises (rank_of dir) low halts → IsIn (halt_at First leg) halts → leg < 64
     → ((h : Halt) → slice_get halts 0 ≡ Some h → h.pass ≡ First → is_ahead dir h.floor floor ≡ true) → is_ahead dir leg floor ≡ true
 first_ahead dir low [] leg floor rises member below first = absurd member
 first_ahead dir low (h ∷ hs) leg floor rises member below first = of h.pass refl

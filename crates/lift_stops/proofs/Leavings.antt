@@ -1,28 +1,18 @@
 -- A table of those who leave, with one call more.
-use Rattle.std.proofs.Common.{◌&&◌, ◌≡◌, ◌≢◌, ℕ, ◌+◌, ◌≤◌, ◌<◌, true, false, List, [], ◌∷◌, ◌++◌, length, get_or, sym, ap, ◌∙◌, arith, inl, inr, refl}
+use Rattle.std.proofs.Common.{◌≡◌, ◌≢◌, ℕ, ◌+◌, ◌≤◌, ◌<◌, true, false, List, [], ◌∷◌, ◌++◌, length, get_or, sym, ap, ◌∙◌, arith, inl, inr, refl}
 use Rattle.std.proofs.Math.ListN.{set, length-set}
-use Rattle.std.proofs.lemmas.Bool.{cases_Bool, eq-eqb}
-use Rattle.lift_base.specs.declared.travel.Pass.{Pass}
-use Rattle.lift_base.specs.declared.travel.Pass.TheVariants.{First, Second, Third}
+use Rattle.std.proofs.lemmas.Bool.{cases_Bool}
 use Rattle.std.proofs.lemmas.List.{get_or-set_same, get_or-set_other, length_push}
 use Rattle.std.proofs.lemmas.List.Sums.{sum_by_push}
 use Rattle.lift_base.specs.declared.travel.Position.{Position}
 use Rattle.lift_base.specs.declared.travel.Halt.{Halt}
 use Rattle.lift_base.specs.declared.history.Row.{Row}
-use Rattle.lift_stops.specs.StopList.{same_halt, same_pass, halt_at}
+use Rattle.lift_stops.specs.StopList.{same_halt, halt_at}
 use Rattle.lift_stops.specs.Leaving.{AreLeaving, place_of, leaving_of, leaving_at}
 use Rattle.lift_stops.specs.lemmas.Leaving.{place_within, places_apart, same_place}
 
-pub same_halt-self : (halt : Halt) → same_halt halt halt ≡ true
-same_halt-self halt = rw (eq-eqb halt.floor halt.floor refl) (either halt.pass)
-  where
-    either : (pass : Pass) → (same_pass pass pass && true) ≡ true
-    either First = refl
-    either Second = refl
-    either Third = refl
-
 -- a call leaves at its own halt alone
-pub leaving-here : (position : Position) (halt : Halt) (row : Row) → same_halt (halt_at position row row.to) halt ≡ true → leaving_of position halt row ≡ row.party
+leaving-here : (position : Position) (halt : Halt) (row : Row) → same_halt (halt_at position row row.to) halt ≡ true → leaving_of position halt row ≡ row.party
 leaving-here position halt row here = rw here refl
 
 leaving-elsewhere : (position : Position) (halt : Halt) (row : Row) → same_halt (halt_at position row row.to) halt ≡ false → leaving_of position halt row ≡ 0

@@ -2,5 +2,3 @@ pub mod Marked
 pub mod Passing
 pub mod Leavings
 pub mod Kept
-pub mod Opening
-mod Standing

@@ -1,23 +1,20 @@
 //! A car's position and open calls as they change, and the stop list of them where it is listed.
 
 ghost use Rattle.std.specs.Prelude.{◌≡◌, ◌≢◌, ◌+◌, ◌*◌, ◌<◌, ◌≤◌, List, [], ◌∷◌, ◌++◌, length, Contains};
-ghost use Rattle.std.specs.Prelude.{All, IfSome, IsTrue, Some, false, slice_get};
+ghost use Rattle.std.specs.Prelude.{All, IfSome, IsTrue};
 ghost use Rattle.std.specs.List.{flat_map};
 ghost use Rattle.lift_base.specs.declared.history.Row.{Row as RowValue};
-ghost use Rattle.lift_base.specs.declared.travel.Halt.{Halt as HaltValue};
-ghost use Rattle.lift_base.specs.declared.travel.Pass.{Pass as PassValue};
-ghost use Rattle.lift_base.specs.declared.travel.Stop.{Stop as StopValue};
 ghost use Rattle.lift_base.specs.History.{row_after};
 ghost use Rattle.lift_stops.specs.Parts.{AllDiffer};
-ghost use Rattle.lift_stops.specs.StopList.{HasFloors, StopsInOrder, is_ahead, stop_list, next_stop};
+ghost use Rattle.lift_stops.specs.StopList.{HasFloors, StopsInOrder, stop_list, next_stop};
 ghost use Rattle.lift_stops.specs.Schedule.{KeepsPasses, position_after};
-ghost use Rattle.lift_stops.specs.Leaving.{AreLeaving, HasParty};
+ghost use Rattle.lift_stops.specs.Leaving.{AreLeaving};
 
 use crate::leaving::Leaving;
 use crate::marks::write_list;
 use crate::stops::{insert_row, is_ahead, next_stop, pass_of, stop_list, stop_of};
 use arrayvec::ArrayVec;
-use lift_base::{Halt, MOST_HALTS, Pass, Position, Row, Stop, count_unchanged};
+use lift_base::{Halt, MOST_HALTS, Pass, Position, Row, Stop, serve_rows};
 use std::marker::Model;
 
 fn copy_of(halts: &[Halt]) -> ArrayVec<Halt, MOST_HALTS>
@@ -27,32 +24,6 @@ fn copy_of(halts: &[Halt]) -> ArrayVec<Halt, MOST_HALTS>
     let mut copy = ArrayVec::new();
     let _fits = copy.try_extend_from_slice(halts);
     copy
-}
-
-/// Takes a stop into the calls of a car that is there: those that are open still stay in their
-/// order. Where the answer is no, it changes none; where it is yes, only those that change are
-/// written.
-fn serve_rows(rows: &mut ArrayVec<Row, 33>, stop: &Stop) -> bool
-    ensures rows { rows.new.items ≡ flat_map (row_after stop.now) rows.old.items }
-    ensures unchanged { result ≡ false → rows.new.items ≡ rows.old.items }
-{
-    let mut index = count_unchanged(rows, stop);
-    if index == rows.len() {
-        return false;
-    }
-    while index < rows.len() {
-        match rows[index].after(*stop) {
-            Some(row) => {
-                rows[index] = row;
-                index += 1;
-            }
-            None => {
-                let _gone = rows.remove(index);
-            }
-        }
-        index += count_unchanged(&rows[index..], stop);
-    }
-    true
 }
 
 /// Where a car is that makes a stop.
@@ -83,37 +54,6 @@ fn keeps_passes(halts: &[Halt], position: &Position, next: &Position) -> bool
         },
         None => true,
     }
-}
-
-/// Whether a car at this position stands at its first halt, or is past it, where that is one of the
-/// first pass. Only a no promises anything.
-fn is_at_first(halts: &[Halt], position: &Position) -> bool
-    ensures { result ≡ false → (halt : HaltValue) → slice_get halts.now 0 ≡ Some halt
-        → halt.pass ≡ PassValue.First
-        → is_ahead position.now.dir position.now.floor halt.floor ≡ false }
-{
-    match halts.first() {
-        Some(halt) => match halt.pass {
-            Pass::First => is_ahead(position.dir, position.floor, halt.floor),
-            Pass::Second | Pass::Third => false,
-        },
-        None => false,
-    }
-}
-
-/// Whether a car may make a halt where it is, as it goes on or as it turns. If not, a stop there
-/// changes none of its calls.
-fn may_halt(halts: &[Halt], leaving: &Leaving, position: &Position) -> bool
-    ensures { result ≡ false → (rows : List RowValue) (stop : StopValue)
-        → position.now ≡ position_after stop → halts.now ≡ stop_list rows position.now
-        → AreLeaving rows position.now leaving.now → All HasFloors rows → All HasParty rows
-        → flat_map (row_after stop) rows ≡ rows }
-{
-    let turned = Halt {
-        pass: Pass::Second,
-        floor: position.floor,
-    };
-    is_at_first(halts, position) || leaving.at(&turned) > 0
 }
 
 /// A walk along so many calls costs less than to write a list of them.
@@ -190,24 +130,10 @@ impl Schedule {
         } }
     {
         self.stand_at(position_at(&stop));
-        self.exchange(&stop);
-        self.list_again();
-    }
-
-    /// At the stop where the car is those for this floor leave, and those who wait there for its
-    /// direction board.
-    fn exchange(&mut self, stop: &Stop)
-        requires { self.old.position ≡ position_after stop.now }
-        ensures { self.new ≡ record self.old {
-          rows = flat_map (row_after stop.now) self.old.rows;
-        } }
-    {
-        if self.is_listed && !may_halt(&self.halts, &self.leaving, &self.position) {
-            return;
-        }
-        if serve_rows(&mut self.rows, stop) {
+        if serve_rows(&mut self.rows, &stop) {
             self.is_listed = false;
         }
+        self.list_again();
     }
 
     /// The car reported where it is. Its calls stay as they are.

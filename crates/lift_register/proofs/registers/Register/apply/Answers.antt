@@ -39,8 +39,8 @@ returns-in-Allot-clause-belongs c belongs =
     subst (BelongsTo c.args.building.now) (sym (returns-in-Allot-clause-one c))
     (BelongsTo-entry c.args.building.now c.args.self.now c.args.entry.now c.allot.ensures.was belongs c.note_ranges.ensures c.requires.fits)
 
-pub serve-requires : goal.serve-requires
-serve-requires c =
+pub serve-changes-requires : goal.serve-changes-requires
+serve-changes-requires c =
     let entry : Entry = Stop c.in-Stop.car c.in-Stop.number c.in-Stop.floor c.in-Stop.dir in
     let typed : IsTyped (EntryRecord entry) = subst (λ (e : Entry). IsTyped (EntryRecord e)) c.in-Stop.is c.note_ranges.ensures in
     record { countable = countable c.args.self.now c.in-Stop.car c.note_lawful.ensures c.requires.balanced (omega (arith, typed.1)) }
@@ -49,8 +49,8 @@ pub returns-in-Stop-clause-one : goal.returns-in-Stop-clause-one
 returns-in-Stop-clause-one c =
     let entry : Entry = Stop c.in-Stop.car c.in-Stop.number c.in-Stop.floor c.in-Stop.dir in
     let typed : IsTyped (EntryRecord entry) = subst (λ (e : Entry). IsTyped (EntryRecord e)) c.in-Stop.is c.note_ranges.ensures in
-    rw (c.keep_last.ensures.value, c.serve.ensures.value, c.of_car.ensures.value, c.in-Stop.is)
-    (register_of-stop c.args.self.now c.in-Stop.car c.in-Stop.number c.in-Stop.floor c.in-Stop.dir c.serve.ensures.was.row_count c.serve.ensures.was.last_count (omega (arith, typed.1)) c.serve.ensures.was.own_cars)
+    rw (c.keep_last.ensures.value, c.serve-changes.ensures.value, c.of_car.ensures.value, c.in-Stop.is)
+    (register_of-stop c.args.self.now c.in-Stop.car c.in-Stop.number c.in-Stop.floor c.in-Stop.dir c.serve-changes.ensures.was.row_count c.serve-changes.ensures.was.last_count (omega (arith, typed.1)) c.serve-changes.ensures.was.own_cars)
 
 pub returns-in-Stop-clause-history : goal.returns-in-Stop-clause-history
 returns-in-Stop-clause-history c base entries same = returns-in-Stop-clause-one c ∙ history-step _ base entries _ same
@@ -58,9 +58,9 @@ returns-in-Stop-clause-history c base entries same = returns-in-Stop-clause-one 
 pub returns-in-Stop-clause-balanced : goal.returns-in-Stop-clause-balanced
 returns-in-Stop-clause-balanced c =
     subst IsBalanced (sym (returns-in-Stop-clause-one c))
-    (IsBalanced-entry c.args.building.now c.args.self.now c.args.entry.now c.serve.ensures.was c.requires.balanced c.note_ranges.ensures c.requires.fits)
+    (IsBalanced-entry c.args.building.now c.args.self.now c.args.entry.now c.serve-changes.ensures.was c.requires.balanced c.note_ranges.ensures c.requires.fits)
 
 pub returns-in-Stop-clause-belongs : goal.returns-in-Stop-clause-belongs
 returns-in-Stop-clause-belongs c belongs =
     subst (BelongsTo c.args.building.now) (sym (returns-in-Stop-clause-one c))
-    (BelongsTo-entry c.args.building.now c.args.self.now c.args.entry.now c.serve.ensures.was belongs c.note_ranges.ensures c.requires.fits)
+    (BelongsTo-entry c.args.building.now c.args.self.now c.args.entry.now c.serve-changes.ensures.was belongs c.note_ranges.ensures c.requires.fits)

@@ -9,11 +9,11 @@ use Rattle.lift_register.proofs.registers.Register.serve.Goals as goal
 pub invariant_of-self : goal.invariant_of-self
 invariant_of-self c =
     let register : RegisterState = state_of (row_lists c.self.inside.rows) c.self.inside.lasts c.self.inside.done in
-    let ended : c.serve_car.result ≡ ended_by c.args.stop register c.args.car = omega (arith, c.serve_car.ensures.ended) in
-    rw (c.serve_car.ensures.rows, ended) (IsWellFormed-stop register c.args.car c.args.stop c.self.invariant c.serve_car.ensures.car (subst (λ (r : RegisterState). r.done + length (rows_of r c.args.car) ≤ 788529105) (sym c.self.view_is) c.requires.countable))
+    let ended : c.in-Some.ended ≡ ended_by c.args.stop.now register c.args.car = omega (arith, c.in-Some.ensures.ended) in
+    rw (c.serve_car.ensures.rows, ended) (IsWellFormed-stop register c.args.car c.args.stop.now c.self.invariant c.serve_car.ensures.car (subst (λ (r : RegisterState). r.done + length (rows_of r c.args.car) ≤ 788529105) (sym c.self.view_is) c.requires.countable))
 
-pub returns-clause-lawful : goal.returns-clause-lawful
-returns-clause-lawful c =
+pub returns-in-Some-clause-lawful : goal.returns-in-Some-clause-lawful
+returns-in-Some-clause-lawful c =
     let register : RegisterState = state_of (row_lists c.self.inside.rows) c.self.inside.lasts c.self.inside.done in
-    let ended : c.serve_car.result ≡ ended_by c.args.stop register c.args.car = omega (arith, c.serve_car.ensures.ended) in
-    rw (c.serve_car.ensures.rows, ended) (IsWellFormed-stop register c.args.car c.args.stop c.self.invariant c.serve_car.ensures.car (subst (λ (r : RegisterState). r.done + length (rows_of r c.args.car) ≤ 788529105) (sym c.self.view_is) c.requires.countable))
+    let ended : c.in-Some.ended ≡ ended_by c.args.stop.now register c.args.car = omega (arith, c.in-Some.ensures.ended) in
+    rw (c.serve_car.ensures.rows, ended) (IsWellFormed-stop register c.args.car c.args.stop.now c.self.invariant c.serve_car.ensures.car (subst (λ (r : RegisterState). r.done + length (rows_of r c.args.car) ≤ 788529105) (sym c.self.view_is) c.requires.countable))
