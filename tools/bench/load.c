@@ -225,17 +225,17 @@ int main(int count, char **words) {
         return 0;
     }
     is_alone = strcmp(words[2], "alone") == 0;
-    int is_lift = is_alone || strcmp(words[2], "lift") == 0, most = is_lift ? atoi(words[4]) : 0, epoll = epoll_create1(0);
+    int is_lift = is_alone || strcmp(words[2], "lift") == 0, car_count = is_lift ? atoi(words[4]) : 0, epoll = epoll_create1(0);
     if (is_lift) {
         if (count < 7) fail("words:", "PORT lift|alone KIOSKS CARS SECONDS FLOORS");
         floors = atoi(words[6]);
     }
-    struct client *clients = calloc(first + most, sizeof *clients);
+    struct client *clients = calloc(first + car_count, sizeof *clients);
     cars = clients;
     for (int i = 0; i < 4; i++) rows[i].delays = malloc(MOST * sizeof(float));
-    for (int i = 0; i < most; i++) begin(&clients[i], epoll, port, CAR, i);
-    for (int i = 0; i < first; i++) begin(&clients[most + i], epoll, port, is_lift ? KIOSK : SETTER, i);
-    double took = run(clients, first + most, epoll, atof(words[is_lift ? 5 : 4]));
+    for (int i = 0; i < car_count; i++) begin(&clients[i], epoll, port, CAR, i);
+    for (int i = 0; i < first; i++) begin(&clients[car_count + i], epoll, port, is_lift ? KIOSK : SETTER, i);
+    double took = run(clients, first + car_count, epoll, atof(words[is_lift ? 5 : 4]));
     if (is_lift && !is_alone) print(BOTH, took);
     print(is_lift ? KIOSK : SETTER, took);
     if (is_lift && !is_alone) print(CAR, took);
