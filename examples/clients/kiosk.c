@@ -52,14 +52,15 @@ int main(int count, char **words) {
     for (int at = 3; at < count; at++)
         for (;;) { /* the number stays the same until the call is answered, so it is never asked twice over */
             snprintf(line, sizeof line, "CALL %ld %d", last + 1, atoi(words[at]));
-            if (!tell(line, answer, sizeof answer)) { connect_to(port, kiosk); continue; }
+            if (!tell(line, answer, sizeof answer)) { usleep(200000); connect_to(port, kiosk); continue; }
             if (sscanf(answer, "CAR %c", &letter) == 1) { printf("floor %s: car %c\n", words[at], letter); last++; break; }
             if (sscanf(answer, "NO %d", &reason) == 1) {
                 if (reason >= 4 && reason <= 6) { last = connect_to(port, kiosk); continue; } /* the greeting tells the last number */
                 printf("floor %s: refused, reason %d\n", words[at], reason);
                 break;
             }
-            connect_to(port, kiosk); /* UNKNOWN, LATE, SPENT: ask again with this number */
+            usleep(200000); /* UNKNOWN, LATE, SPENT: ask again with this number, and not at once */
+            connect_to(port, kiosk);
         }
     return 0;
 }

@@ -47,7 +47,8 @@ class Kiosk:
                 return "car " + answer[1]
             if answer[:1] == ["NO"] and answer[1] not in ("4", "5", "6"):
                 return "refused, reason " + answer[1]
-            self.connect()  # UNKNOWN, LATE, SPENT or a closed connection: ask again with this number
+            time.sleep(0.2)  # UNKNOWN, LATE, SPENT or a closed connection: ask again with this number, and not at once
+            self.connect()
             if answer[:1] == ["NO"]:
                 number = self.last + 1  # that number is another call's: the greeting has told the last one
 

@@ -10,6 +10,7 @@ import argparse
 import http.server
 import json
 import pathlib
+import shutil
 import signal
 import socket
 import subprocess
@@ -24,6 +25,7 @@ from terminals import Car, Clock, Kiosk
 
 HERE = pathlib.Path(__file__).resolve().parent
 TOP = HERE.parent.parent
+BUILT = TOP / "crates/liftd/out/liftd"
 PAUSE = 2  # seconds between the end of a server and its next start
 PAGE = {"/": ("index.html", "text/html"), "/lobby.js": ("lobby.js", "text/javascript"), "/lobby.css": ("lobby.css", "text/css")}
 
@@ -55,7 +57,9 @@ class Group(threading.Thread):
 
     def end(self):
         self.is_over = True
-        self.process.kill()
+        if self.process:
+            self.process.kill()
+            self.process.wait()
 
     def run(self):
         while not self.is_over:
@@ -112,13 +116,15 @@ def page_of(group):
 
         def do_POST(self):
             try:
-                # (a page from elsewhere can't say that it sends JSON without being asked)
+                # (a page from elsewhere can't say that it sends JSON without being asked, but where its name is this machine's)
                 if self.headers["Content-Type"] != "application/json":
                     raise ValueError("not JSON")
-                said = json.loads(self.rfile.read(min(1000, int(self.headers["Content-Length"]))))
+                if (self.headers["Host"] or "").partition(":")[0] not in ("127.0.0.1", "localhost"):
+                    raise ValueError("not of this machine")
+                said = json.loads(self.rfile.read(max(0, min(1000, int(self.headers["Content-Length"])))))
                 carry_out(group, self.path, said)
                 self.answer(202, "application/json", b"{}")
-            except (KeyError, TypeError, ValueError, IndexError) as error:
+            except (KeyError, TypeError, ValueError, IndexError, OverflowError, AttributeError, RecursionError) as error:
                 self.close_connection = True
                 self.answer(400, "text/plain", f"{error}\n".encode())
 
@@ -158,7 +164,7 @@ def checked(*words):
 
 def words():
     parser = argparse.ArgumentParser(description="A lobby in a browser: kiosks, cars, and a real group behind them.")
-    parser.add_argument("--liftd", type=pathlib.Path, default=TOP / "crates/liftd/out/liftd")
+    parser.add_argument("--liftd", type=pathlib.Path, default=BUILT if BUILT.exists() else pathlib.Path(shutil.which("liftd") or BUILT))
     parser.add_argument("--building", type=pathlib.Path, default=TOP / "examples/demo.toml")
     parser.add_argument("--image", type=pathlib.Path, help="the journal to go on with; without it a new one, which is removed at the end")
     parser.add_argument("--port", type=int, default=8000, help="where the page is; 0 for one that is free")
@@ -180,9 +186,9 @@ def main():
         checked(liftd, "show", image, said.building)
         group = Group(liftd, image, said.building, said.speed)
         server = http.server.ThreadingHTTPServer(("127.0.0.1", said.port), page_of(group))
-        group.begin()
-        print(f"lobby: http://127.0.0.1:{server.server_port}/", flush=True)
         try:
+            group.begin()
+            print(f"lobby: http://127.0.0.1:{server.server_port}/", flush=True)
             server.serve_forever()
         finally:
             group.end()

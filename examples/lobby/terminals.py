@@ -37,9 +37,9 @@ class Terminal(threading.Thread):
     def connect(self):
         """Connects until it is greeted: the server may be dead, or the seat still in use."""
         while True:
-            if self.lines:
-                self.lines.close()
             try:
+                if self.lines:
+                    self.lines.close()
                 with socket.create_connection(("127.0.0.1", self.group.port), timeout=90) as stream:
                     self.lines = stream.makefile("rw", newline="\n")
                 greeting = self.say(self.first_line)
@@ -65,6 +65,7 @@ class Terminal(threading.Thread):
         if answer[:1] in (["CAR"], ["NO"], ["NEXT"], ["IDLE"]):
             self.exchange = f"{line} → {' '.join(answer)}"
             return answer
+        time.sleep(0.2)
         self.connect()
         return []
 

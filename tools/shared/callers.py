@@ -2,7 +2,7 @@
 
 `1+` it is made; `1>TEXT` it says this line, `1~TEXT` these bytes; `1<TEXT` it hears just this line; `1.` it hears that the other end is
 closed, and nothing before, `1x` that, or that it is reset; `1-` it hears that after closing its own; `1!` it is reset once an answer waits
-to be read; `1*TEXT` it is made and says this line, again for a second while it is `BUSY`; `1=` other connections are made and closed until
+to be read; `1*TEXT` it is made and says this line, again for five seconds while it is `BUSY`; `1=` other connections are made and closed until
 the server has ended. A line of another form isn't as the script has it.
 """
 import contextlib
@@ -11,7 +11,7 @@ import subprocess
 import time
 
 PATIENCE = 10  # how long a connection waits for what it wants to hear, in seconds
-RETURN, RETRY = 1, 0.02  # how long it tries to come back, and how long it waits between two tries
+RETURN, RETRY = 5, 0.1  # how long it tries to come back, and how long it waits between two tries
 LAST_ONES = 200  # the connections that end a server
 WITH_TEXT, WITHOUT = "*<>~", "+-.!=x"  # the signs
 

@@ -1,6 +1,7 @@
 """What the tools in Python share: their words, the program that is tried, servers and ports, the tally of cases, libraries that are
 loaded before the C library, and other tools' functions."""
 import contextlib
+import functools
 import importlib.machinery
 import importlib.util
 import os
@@ -68,6 +69,7 @@ def loaded(path):
     return module
 
 
+@functools.cache
 def preloaded(name, folder):
     """The path of a library of tools/preloaded, compiled into the folder."""
     path = f"{folder}/{name}.so"

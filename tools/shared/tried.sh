@@ -1,6 +1,7 @@
 # shellcheck shell=bash
 # What the shell's tools share: their `--help`, the program that is tried ($liftd), the top of the repository ($top), a folder of
 # their own ($room), in which they then are, and a server ($server), which is killed at the end.
+export LC_ALL=C
 top=$(cd "$(dirname "$0")/../.." && pwd)
 tool=try-$(basename "$0")
 if [ "${1:-}" = --help ] || [ "${1:-}" = -h ]; then
