@@ -15,8 +15,9 @@ use std::sync::Arc;
 
 /// No memory was left: a growth was refused. Only the calls of this file make one, each where its
 /// own growth was refused, of which none asks for more than there is already or 63 items. (The
-/// library's error can be made by anybody, so none is made of it.)
-#[derive(Clone, Copy, PartialEq, Eq)]
+/// library's error can be made by anybody, so none is made of it.) Nobody can copy one: so each
+/// answer uses up a refusal.
+#[derive(Drop, PartialEq, Eq)]
 pub struct Memory {
     made: (),
 }

@@ -1,11 +1,9 @@
 -- Each step counts a look only of the word that it loads, and each right goes with its count.
 use Rattle.std.proofs.Common.{◌≡◌, ℕ, true, false, true≢false, List, [], ap, refl, sym, inl, inr}
 use Rattle.atomic_table.specs.Table.{Me}
-use Rattle.lift_desk.specs.declared.view.TerminalView.{TerminalView}
-use Rattle.lift_desk.specs.declared.view.ClerkView.{ClerkView}
 use Rattle.lift_desk.specs.declared.view.View.{View}
 use Rattle.lift_desk.specs.Rule.{united, terminal_part, clerk_part, ahead_part, ahead_of, ahead_note_of, noted_by}
-use Rattle.lift_desk.specs.Steps.{with_ask, with_answer, at_terminal, at_clerk}
+use Rattle.lift_desk.specs.Steps.{with_ask, with_answer, with_look, with_taking, at_terminal, at_clerk}
 use Rattle.lift_desk.specs.Looker.{ask_looks, answer_looks, rights_of, Loads, Stores, Carries}
 
 abbrev M : Type 0
@@ -14,14 +12,14 @@ M = Me (Unit {0}) View
 off : {A : Type 0} → false ≡ true → A
 off e = absurd (true≢false (sym e))
 
-pub loads_ask : (v : View) (clerk : ClerkView) (after : M) → after ≡ (at_clerk v clerk, []) → Loads 0 v after
-loads_ask v clerk after e = record { rights = record { slots = ap (λ (m : M). m.1) e; rights = ap (λ (m : M). rights_of m.0) e }; others = ap (λ (m : M). answer_looks m.0) e }
+pub loads_ask : (v : View) (found : ℕ) (after : M) → after ≡ (at_clerk v (with_taking v.clerk found), []) → Loads 0 found v after
+loads_ask v found after e = record { rights = record { slots = ap (λ (m : M). m.1) e; rights = ap (λ (m : M). rights_of m.0) e }; looks = inr (ap (λ (m : M). ask_looks m.0) e); others = ap (λ (m : M). answer_looks m.0) e }
 
-pub loads_answer : (v : View) (terminal : TerminalView) (after : M) → after ≡ (at_terminal v terminal, []) → Loads 1 v after
-loads_answer v terminal after e = record { rights = record { slots = ap (λ (m : M). m.1) e; rights = ap (λ (m : M). rights_of m.0) e }; others = ap (λ (m : M). ask_looks m.0) e }
+pub loads_answer : (v : View) (found : ℕ) (heard : List ℕ) (after : M) → after ≡ (at_terminal v (record (with_look v.terminal found) { heard = heard }), []) → Loads 1 found v after
+loads_answer v found heard after e = record { rights = record { slots = ap (λ (m : M). m.1) e; rights = ap (λ (m : M). rights_of m.0) e }; looks = inr (ap (λ (m : M). answer_looks m.0) e); others = ap (λ (m : M). ask_looks m.0) e }
 
-pub loads_unseen : (v : View) (after : M) → after ≡ (v, []) → Loads 0 v after
-loads_unseen v after e = record { rights = record { slots = ap (λ (m : M). m.1) e; rights = ap (λ (m : M). rights_of m.0) e }; others = ap (λ (m : M). answer_looks m.0) e }
+pub loads_unseen : (v : View) (found : ℕ) (after : M) → after ≡ (v, []) → Loads 0 found v after
+loads_unseen v found after e = record { rights = record { slots = ap (λ (m : M). m.1) e; rights = ap (λ (m : M). rights_of m.0) e }; looks = inl (ap (λ (m : M). ask_looks m.0) e); others = ap (λ (m : M). answer_looks m.0) e }
 
 pub stores_ask : (v : View) (word : ℕ) (after : M) → after ≡ (at_terminal v (with_ask v.terminal word), []) → Stores v after
 stores_ask v word after e = record { rights = record { slots = ap (λ (m : M). m.1) e; rights = ap (λ (m : M). rights_of m.0) e }; asks = ap (λ (m : M). ask_looks m.0) e; answers = ap (λ (m : M). answer_looks m.0) e }

@@ -38,7 +38,12 @@ ask_looks v = (v.clerk.looks, v.clerk.last)
 abbrev pub answer_looks : View → ℕ × ℕ
 answer_looks v = (v.terminal.looks, v.terminal.last)
 
--- a load of this word isn't one of the other
+-- the looks at a word: 0 for that of the ask
+abbrev pub looks_at : ℕ → View → ℕ × ℕ
+looks_at zero v = ask_looks v
+looks_at (suc word) v = answer_looks v
+
+-- and those at the other one
 abbrev pub other_looks : ℕ → View → ℕ × ℕ
 other_looks zero v = answer_looks v
 other_looks (suc word) v = ask_looks v
@@ -51,9 +56,12 @@ pub record KeepsRights (before : View) (after : Me (Unit {0}) View) : Type 0 whe
   pub slots : after.1 ≡ []
   pub rights : rights_of after.0 ≡ rights_of before
 
--- after a load of a word, which may count a look at that one
-pub record Loads (word : ℕ) (before : View) (after : Me (Unit {0}) View) : Type 0 where
+-- after a load of a word that found this: it counts one look at that word, which found just this, or
+-- none
+pub record Loads (word found : ℕ) (before : View) (after : Me (Unit {0}) View) : Type 0 where
   pub rights : KeepsRights before after
+  pub looks : (looks_at word after.0 ≡ looks_at word before)
+      ⊎ (looks_at word after.0 ≡ (suc (looks_at word before).0, found))
   pub others : other_looks word after.0 ≡ other_looks word before
 
 -- after a store, which counts none

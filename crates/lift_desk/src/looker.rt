@@ -22,8 +22,9 @@ pub(crate) const ANSWER: usize = 1;
 pub(crate) type DeskTable = Table<(), View, (), DeskRule, Global>;
 
 /// A seat at a table, or a stand-in for it. It alone has the table's own seat, and each right to look
-/// goes with its count of looks, which only a load of that word changes. At most one seat of a
-/// table may ask, and one may answer: so none of these counts a look without a load in that call.
+/// goes with its count of looks and the word that was found last, which only a load of that word
+/// changes. At most one seat of a table may ask, and one may answer: so none of these counts a look
+/// without a load in that call, or finds another word than that load.
 #[derive(Drop)]
 pub struct Looker {
     badge: Badge<View>,
@@ -79,7 +80,7 @@ impl Looker {
             (M.then (step table.now.shared.table_id.slots word 0 0 none) (self.old.view, [])) }
         requires counts { (found : ℕ) (after : Me (Unit {0}) View)
             → M.then (step table.now.shared.table_id.slots word 0 0 none) (self.old.view, []) found
-            after → Loads word self.old.view after }
+            after → Loads word found self.old.view after }
         ensures same { (self.new.seated ≡ true) × (self.new.table ≡ self.old.table) }
         ensures tells { M.then (step table.now.shared.table_id.slots word 0 0 none)
             (self.old.view, []) result (self.new.view, []) }

@@ -74,7 +74,7 @@ pub record SyncsByCalls {F T E : Type 0} {told : Told F} (result : Result T E)
 
 -- A device on a file that was there and was not made: it was opened, and after these calls asked for
 -- its length, before the calls of the device, and the sectors are the whole ones of that length.
--- The device is honest exactly where that file was when it was opened, and has what that held.
+-- The device is honest exactly where that file was when it was opened.
 pub record IsMeasured {F : Type 0} {told : Told F} (opens : Option F → Type 0)
     (gives : F → FileCall → F → Type 0) (holds : F → DiskState) (first : List FileCall)
     (d : SectorFile F told) : Type 0 where

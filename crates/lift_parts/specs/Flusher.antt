@@ -1,5 +1,5 @@
 -- The part that makes batches safe and answers.
-use Rattle.std.specs.Prelude.{ℕ, ◌≡◌, ◌≢◌, ◌≤◌, Bool, true, false, List, [], ◌∷◌, length, drop, map}
+use Rattle.std.specs.Prelude.{ℕ, ◌≡◌, ◌≢◌, Bool, true, false, List, [], ◌∷◌, length, drop, map}
 use Rattle.std.specs.Prelude.{slice_index_or, Some, Result, Ok, Err, is_ok, All}
 use Rattle.std.specs.List.{AllByRecursion}
 use Rattle.atomic_table.specs.Seated.{TableId}
@@ -29,11 +29,12 @@ pub record FlusherState (D : Type 0) : Type 0 where
   -- its end of the line
   pub end : ReceiveState
 
--- Every ask that these seats took is answered, and none of a terminal is later than this turn.
+-- Every ask that these seats took is answered, and the last of each terminal has this turn: so no
+-- batch that was received has been left out.
 abbrev pub AllAnsweredBy : List ClerkPlace → List ℕ → Type 0
 AllAnsweredBy places turns = (t : ℕ)
     → (¬ Owes (view_at places t))
-    × (turn_of (last_of (view_at places t).taken) ≤ slice_index_or turns t 0)
+    × (turn_of (last_of (view_at places t).taken) ≡ slice_index_or turns t 0)
 
 -- What is true of every flusher: where nothing has failed, what is safe is what was received, and
 -- all that was received is answered.

@@ -1,4 +1,4 @@
--- Decisions along a list of commands, and what a turn answers when the disk fails.
+-- Decisions along a list of commands, and what a turn answers while its keeper is broken.
 use Rattle.std.specs.Prelude.{◌≡◌, List, [], ◌∷◌, map}
 use Rattle.lift_base.specs.declared.command.Reply.{Reply}
 use Rattle.lift_base.specs.declared.command.Reply.TheVariants.{Unknown}
@@ -20,13 +20,6 @@ Run plan choice state (c ∷ commands) [] next = ⊥
 -- one Unknown for each command
 abbrev pub unknowns : List Command → List Reply
 unknowns commands = map (λ (c : Command). Unknown) commands
-
--- a turn whose batch fails on the disk: its commands were decided as in a run, and each is answered
--- Unknown
-abbrev pub FailedRun : Plan → Choice → State → List Command → List Reply → State → Type 0
-FailedRun plan choice state commands answers next =
-    ((replies : List Reply) × Run plan choice state commands replies next)
-    × (answers ≡ unknowns commands)
 
 -- a turn while the keeper is broken: each command is answered Unknown, and nothing changes
 abbrev pub RunWhileBroken : State → List Command → List Reply → State → Type 0

@@ -56,6 +56,9 @@ is_other m n e = grind (arith, nat_tests)
 abbrev Late : List ClerkPlace → List ℕ → Type 0
 Late places turns = (t : ℕ) → turn_of (last_of (view_at places t).taken) ≤ get_or turns t 0
 
+pub none_later : (places : List ClerkPlace) (turns : List ℕ) → AllAnsweredBy places turns → Late places turns
+none_later places turns all_answered t = let same = (all_answered t).1 in omega arith
+
 still_late : (desk : List TableId) (places : List ClerkPlace) (turns : List ℕ) (taken : NotedCommand) → IsNoted desk turns taken → Late places turns → Late places (turns_with turns taken)
 still_late desk places turns taken noted late j = at j (nat_eq j taken.command.terminal) refl
   where
@@ -90,11 +93,11 @@ turns_else turns [] j others = refl
 turns_else turns (t ∷ batch) j others =
     turns_else (turns_with turns t) batch j others.1 ∙ get_or-set_other turns t.command.terminal j (turn_of t.note.word) 0 (λ e. others.0 (sym e))
 
--- nothing is owed at a terminal, and what was taken there is no later than its turn
+-- nothing is owed at a terminal, and the last that was taken there has its turn
 module _ (desk : List TableId) (is_safe : Bool) (j : ℕ) where
   abbrev Rests : List NotedCommand → ClerkPlace → ClerkView → Type 0
-  Rests batch p after = (turns : List ℕ) → AreNoted desk turns batch → (¬ Owes p.view) × (turn_of (last_of p.view.taken) ≤ get_or turns j 0)
-      → (¬ Owes after) × (turn_of (last_of after.taken) ≤ get_or (turns_after turns batch) j 0)
+  Rests batch p after = (turns : List ℕ) → AreNoted desk turns batch → (¬ Owes p.view) × (turn_of (last_of p.view.taken) ≡ get_or turns j 0)
+      → (¬ Owes after) × (turn_of (last_of after.taken) ≡ get_or (turns_after turns batch) j 0)
 
   skips : (t : NotedCommand) (batch : List NotedCommand) (p : ClerkPlace) (v : ClerkView) → t.command.terminal ≢ j → Rests batch p v → Rests (t ∷ batch) p v
   skips t batch p v apart rests turns noted was =
@@ -124,7 +127,7 @@ below_seats desk tables places batch is seated below =
 pub settled : (desk : List TableId) (is_safe : Bool) (places next : List ClerkPlace) (turns : List ℕ) (batch : List NotedCommand) → AreBelow (length places) (commands_in batch) → AreApart (commands_in batch)
     → AreNoted desk turns batch → AnswersBatch is_safe places batch next → AllAnsweredBy places turns → AllAnsweredBy next (turns_after turns batch)
 settled desk is_safe places next turns batch below apart noted answered was j =
-    subst (λ (l : List ClerkPlace). (¬ Owes (view_at l j)) × (turn_of (last_of (view_at l j).taken) ≤ get_or (turns_after turns batch) j 0)) (sym answered.stored)
+    subst (λ (l : List ClerkPlace). (¬ Owes (view_at l j)) × (turn_of (last_of (view_at l j).taken) ≡ get_or (turns_after turns batch) j 0)) (sym answered.stored)
     (at-each-terminal is_safe j (Rests desk is_safe j) (λ p turns noted rests. rests) (skips desk is_safe j) (answers_own desk is_safe j) places batch below apart answered.finds turns noted (was j))
 
 -- what was looked for is owed its answers, and once they are stored the batch is answered

@@ -15,7 +15,7 @@ load-requires-clause-keeps c id =
     compares_ahead_keep _ _ _ (ap (λ s. s.view.asks) j ∙ c.self.invariant.asks) (ap (λ s. s.view.looks_ahead) j ∙ c.requires.rights.0)
 
 pub load-requires-clause-counts : goal.load-requires-clause-counts
-load-requires-clause-counts c found after e = loads_unseen _ _ e.0
+load-requires-clause-counts c found after e = loads_unseen _ _ _ e.0
 
 pub split-requires-clause-keeps : goal.split-requires-clause-keeps
 split-requires-clause-keeps c id =

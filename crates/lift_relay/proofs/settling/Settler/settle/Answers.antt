@@ -10,7 +10,7 @@ use Rattle.lift_parts.specs.declared.taken.NotedCommand.{NotedCommand}
 use Rattle.lift_parts.specs.Batch.{AreBelow, commands_in}
 use Rattle.lift_parts.specs.Flusher.{AllAnsweredBy}
 use Rattle.lift_relay.specs.Settler.{AreDue, SettlerState, SettlesBatch}
-use Rattle.lift_relay.proofs.Flushed.{all_due, owes_them, answered_them, as_many, below_seats, settled}
+use Rattle.lift_relay.proofs.Flushed.{none_later, all_due, owes_them, answered_them, as_many, below_seats, settled}
 use Rattle.lift_relay.proofs.Turned.{leads_to}
 use Rattle.lift_relay.proofs.settling.Settler.settle.Goals as goal
 
@@ -24,7 +24,7 @@ look_again-answers-requires-clause-due g c =
     let all_answered = subst (λ (v : SettlerState g.row.D.Denot). AllAnsweredBy v.seat batch.turns) (sym c.self.view_is) c.requires.all_answered in
     subst (λ (l : List NotedCommand). AreDue s.desk.now s.seat l) (sym taken.value)
     (subst (λ (d : List TableId). AreDue d s.seat batch.commands) desk (all_due batch.desk s.seat batch.turns batch.commands c.entries.ensures.at_desk
-    taken.noted (λ j. (all_answered j).1)))
+    taken.noted (none_later s.seat batch.turns all_answered)))
 
 pub look_again-answers-requires-clause-apart : goal.look_again-answers-requires-clause-apart
 look_again-answers-requires-clause-apart g c = subst (λ (l : List NotedCommand). AreApart (commands_in l)) (sym c.into_commands.ensures.value) c.entries.ensures.apart
