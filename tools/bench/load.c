@@ -1,7 +1,7 @@
 /* Clients that ask and wait for the answer, all in one thread, for tools/bench/serve.
 
-   bench-load PORT lift KIOSKS CARS SECONDS FLOORS    kiosks call, cars go where they are sent, an idle one once a letter names it;
-                                                      prints three rows: both, letters, stops
+   bench-load PORT lift KIOSKS CARS SECONDS FLOORS    kiosks call; cars go where they are sent and stop there, and an idle one stops at the
+                                                      next floor; prints three rows: both, letters, stops
    bench-load PORT alone KIOSKS CARS SECONDS FLOORS   the cars tell where they are and ask no more: ends once all are full; prints letters
    bench-load PORT redis CLIENTS SECONDS              clients set a key each; prints one row
    bench-load PORT greet COUNT KIOSKS                 connections one after another, each greeted; prints nothing
@@ -30,8 +30,6 @@ struct client {
     long number;          /* of the command that is asked */
     int floor, up;        /* where a car is */
     int is_stop;          /* whether a car asked a stop, and not its place */
-    int is_named;         /* whether a letter named a car since it asked */
-    int is_idle;          /* whether a car waits for a letter that names it */
     double asked, wakes;  /* when it asked; when a refused kiosk asks again, else 0 */
     char line[256];
     size_t length;
@@ -43,7 +41,6 @@ struct row {
 };
 
 static struct row rows[4];
-static struct client *cars;
 static int floors = 1, is_alone, is_over;
 
 static double now(void) {
@@ -100,12 +97,11 @@ static void ask(struct client *client) {
         snprintf(text, sizeof text, "PLACE %d %s\n", client->floor, client->up ? "up" : "down");
     }
     client->wakes = 0;
-    client->is_named = client->is_idle = 0;
     client->asked = now();
     say(client->socket, text);
 }
 
-/* A car goes where it is sent, and asks for its next stop there. */
+/* A car goes where it is sent, and an idle one to the next floor, turning at the ends: so it always has a stop to tell. */
 static void go_on(struct client *car, const char *line, double time) {
     char way[8];
     if (car->is_stop) {
@@ -117,17 +113,14 @@ static void go_on(struct client *car, const char *line, double time) {
         car->up = way[0] == 'u';
         ask(car);
     } else if (strcmp(line, "IDLE") == 0) {
-        car->is_idle = 1;
-        if (car->is_named) ask(car);
+        if (is_alone) return;
+        car->is_stop = 1;
+        if (car->floor == (car->up ? floors - 1 : 0)) car->up = !car->up;
+        car->floor += car->up ? 1 : -1;
+        ask(car);
     } else {
         fail("a car's answer:", line);
     }
-}
-
-/* An idle car asks again: it has a call. */
-static void name(struct client *car) {
-    car->is_named = !is_alone;
-    if (car->is_named && car->is_idle) ask(car);
 }
 
 static void answered(struct client *client, const char *line) {
@@ -139,7 +132,6 @@ static void answered(struct client *client, const char *line) {
     if (strncmp(line, client->role == KIOSK ? "CAR " : "+OK", 3) == 0) {
         record(client->role, time - client->asked);
         client->number++;
-        if (client->role == KIOSK) name(&cars[line[4] - 'A']);
     } else if (client->role == KIOSK && strcmp(line, "NO 3") == 0) {
         rows[KIOSK].refused++;
         is_over = is_alone && rows[KIOSK].count > 0;
@@ -231,7 +223,6 @@ int main(int count, char **words) {
         floors = atoi(words[6]);
     }
     struct client *clients = calloc(first + car_count, sizeof *clients);
-    cars = clients;
     for (int i = 0; i < 4; i++) rows[i].delays = malloc(MOST * sizeof(float));
     for (int i = 0; i < car_count; i++) begin(&clients[i], epoll, port, CAR, i);
     for (int i = 0; i < first; i++) begin(&clients[car_count + i], epoll, port, is_lift ? KIOSK : SETTER, i);
