@@ -1,2 +1,4 @@
 pub mod Each
 pub mod Flags
+pub mod Faulty
+pub mod Found

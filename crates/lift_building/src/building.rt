@@ -5,35 +5,22 @@ ghost use Rattle.lift_base.specs.History.{IsWithinLimits};
 ghost use Rattle.toml.specs.View.{view};
 ghost use Rattle.lift_building.specs.Plan.{Plan, HasLimits, IsBuilding, flight_ms, serves_floor};
 ghost use Rattle.lift_building.specs.Plan.{places_of, kiosk_floor_of, shape_of};
-ghost use Rattle.lift_building.specs.Reading.{document_of, plan_in};
+ghost use Rattle.lift_building.specs.Reading.{plan_in};
 ghost use Rattle.lift_building.specs.Arrivals.{arrivals_of, AreArrivals};
 ghost use Rattle.lift_building.specs.Layout.{layout_view};
 ghost use Rattle.lift_building.specs.Describes.{IsTextOf};
-ghost use Rattle.lift_building.specs.Gives.{Gives, GivesIfRoom, IsFaultOf, IsFirstFault};
+ghost use Rattle.lift_building.specs.Gives.{Gives, IsFaultOf, IsFirstFault};
 
 use crate::detour::first_detour;
 use crate::fault::BuildingFault;
 use crate::layout::Layout;
 use crate::reading::layout_in;
-use crate::refused::NoMemory;
+use crate::refused::document_of;
 use arrayvec::ArrayVec;
 use lift_base::{Floor, Halt, Letter, MOST_HALTS, Position, Shape};
 use std::alloc::Global;
 use std::marker::Model;
 use toml::Value;
-
-/// The document that a text spells.
-fn document_of(alloc: Global, text: &str) -> Result<Value, BuildingFault>
-    ensures { GivesIfRoom view result (document_of text.now) }
-{
-    match toml::table_from_str(alloc, text) {
-        Ok(table) => Ok(Value::Table(table)),
-        Err(error) => match NoMemory::of(&error) {
-            Some(no_memory) => Err(BuildingFault::Memory(no_memory)),
-            None => Err(BuildingFault::NotToml),
-        },
-    }
-}
 
 /// What a document describes, before the search for detours.
 fn layout_of(document: &Value) -> Result<Layout, BuildingFault>

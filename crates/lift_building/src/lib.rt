@@ -4,10 +4,12 @@
 mod building;
 mod detour;
 mod fault;
+mod laws;
 mod layout;
 mod reading;
 mod refused;
 
 pub use building::Building;
 pub use fault::{BuildingFault, Field};
+pub use laws::faults_are_first;
 pub use refused::NoMemory;

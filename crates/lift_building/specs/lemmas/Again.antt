@@ -30,10 +30,10 @@ number n = integer (pos n)
 abbrev number_row : List ℕ → Data
 number_row row = array (numbers row)
 
-between_again : (low high n : ℕ) → low ≤ n → n ≤ high → is_between low high n ≡ true
+pub between_again : (low high n : ℕ) → low ≤ n → n ≤ high → is_between low high n ≡ true
 between_again low high n l h = rw (le-leb low n l, le-leb n high h) refl
 
-number_again : (field : Field) (low high n : ℕ) → low ≤ n → n ≤ high
+pub number_again : (field : Field) (low high n : ℕ) → low ≤ n → n ≤ high
     → number_in field low high (number n) ≡ Ok n
 number_again field low high n l h = rw (between_again low high n l h) refl
 
@@ -77,12 +77,12 @@ count_rows : (rows : List (List ℕ)) → item_count (number_rows rows) ≡ leng
 count_rows [] = refl
 count_rows (row ∷ rows) = ap suc (count_rows rows)
 
-counted_again : (b : Bool) (fault : BuildingFault) (items : Items) → b ≡ true
+pub counted_again : (b : Bool) (fault : BuildingFault) (items : Items) → b ≡ true
     → counted b fault items ≡ Ok items
 counted_again true fault items e = refl
 counted_again false fault items e = absurd cc
 
-floors_again : (field : Field) (is_allowed : ℕ → Bool) (floors : ℕ) (ns : List ℕ)
+pub floors_again : (field : Field) (is_allowed : ℕ → Bool) (floors : ℕ) (ns : List ℕ)
     → is_allowed (length ns) ≡ true → All (λ floor. floor < floors) ns
     → floors_in field is_allowed floors (array (numbers ns)) ≡ Ok ns
 unfolding floors_in
@@ -97,7 +97,7 @@ floors_again field is_allowed floors ns allowed inside =
     rw (counted_again (is_allowed (item_count (numbers ns))) (OutOfRange field)
     (numbers ns) number-ok) read
 
-flight_again : (i j n : ℕ) → IsFlight i j n → flight_in i j (number n) ≡ Ok n
+pub flight_again : (i j n : ℕ) → IsFlight i j n → flight_in i j (number n) ≡ Ok n
 flight_again i j n is =
     elim (cases_Bool (i == j)) [
       | inl here ↦ ap (λ b. cond b (number_in Flight 0 0 (number n))
@@ -108,7 +108,7 @@ flight_again i j n is =
           there ∙ number_again Flight 1 600000 n moves.0 moves.1)
     ]
 
-row_again : (floors i : ℕ) (row : List ℕ) → IsRow floors i row
+pub row_again : (floors i : ℕ) (row : List ℕ) → IsRow floors i row
     → row_in floors i (number_row row) ≡ Ok row
 unfolding row_in
 row_again floors i row is =
@@ -118,7 +118,7 @@ row_again floors i row is =
     (each_again (flight_in i) number numbers refl (λ _ _.
     refl) (IsFlight i) (flight_again i) 0 row (from_start (IsFlight i) 0 row is.each))
 
-table_again : (floors : ℕ) (rows : List (List ℕ)) → length rows ≡ floors
+pub table_again : (floors : ℕ) (rows : List (List ℕ)) → length rows ≡ floors
     → AllFrom (IsRow floors) 0 rows → table_in floors (array (number_rows rows)) ≡ Ok rows
 unfolding table_in
 table_again floors rows count are =
@@ -129,7 +129,7 @@ table_again floors rows count are =
     (each_again (row_in floors) number_row number_rows refl (λ _ _.
     refl) (IsRow floors) (row_again floors) 0 rows are)
 
-rows_are : (plan : Plan) → HasFlights plan → AllFrom (IsRow plan.floors) 0 plan.flights
+pub rows_are : (plan : Plan) → HasFlights plan → AllFrom (IsRow plan.floors) 0 plan.flights
 rows_are plan flights = from_start (IsRow plan.floors) [] plan.flights (λ i lt.
     let i-in : i < plan.floors = omega (arith, flights.rows) in
     let count = flights.square i [] lt in
@@ -152,10 +152,10 @@ served_again floors (Some v) served is =
     is.0 (le-leb 1 (length is.0) is.2) is.3 in
     rw read (ap Ok (sym is.4))
 
-key_again : (field : Field) (v w : Data) → get (name_of field) v ≡ Some w → key field v ≡ Ok w
+pub key_again : (field : Field) (v w : Data) → get (name_of field) v ≡ Some w → key field v ≡ Ok w
 key_again field v w has = ap (present field) has
 
-number_at_again : (field : Field) (low high : ℕ) (v : Data) (n : ℕ)
+pub number_at_again : (field : Field) (low high : ℕ) (v : Data) (n : ℕ)
     → get (name_of field) v ≡ Some (number n) → low ≤ n → n ≤ high
     → number_at field low high v ≡ Ok n
 number_at_again field low high v n has l h =
@@ -172,7 +172,7 @@ car_read floors members car places served is =
       served_again floors (get (name_of Serves) (table members)) car.served served,
     ) refl
 
-car_again : (floors : ℕ) (v : Data) (car : CarPlan) → IsCarText floors v car → IsCar floors car
+pub car_again : (floors : ℕ) (v : Data) (car : CarPlan) → IsCarText floors v car → IsCar floors car
     → car_in floors v ≡ Ok car
 car_again floors v car text is =
     let value = text.1 in

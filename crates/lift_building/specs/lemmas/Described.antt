@@ -23,19 +23,19 @@ use Rattle.lift_building.specs.lemmas.Limits.{number_at_ok}
 
 -- ---- what is read is described
 
-number_is : (field : Field) (low high : ℕ) (v : Data) (n : ℕ) → number_in field low high v ≡ Ok n
+pub number_is : (field : Field) (low high : ℕ) (v : Data) (n : ℕ) → number_in field low high v ≡ Ok n
     → v ≡ integer (pos n)
 number_is field low high (integer (pos m)) n e = let g =
     guard_ok (is_between low high m) (OutOfRange field) m n e in ap (λ k. integer (pos k)) g.1
 number_is field low high (integer (negsuc m)) n e = absurd cc
 number_is field low high _ n e = absurd cc
 
-items_are : (field : Field) (v : Data) (items : Items) → items_in field v ≡ Ok items
+pub items_are : (field : Field) (v : Data) (items : Items) → items_in field v ≡ Ok items
     → v ≡ array items
 items_are field (array those) items e = ap array (ok_is those items e)
 items_are field _ items e = absurd cc
 
-key_is : (field : Field) (o : Option Data) (v : Data) → present field o ≡ Ok v → o ≡ Some v
+pub key_is : (field : Field) (o : Option Data) (v : Data) → present field o ≡ Ok v → o ≡ Some v
 key_is field None v e = absurd cc
 key_is field (Some w) v e = ap Some (ok_is w v e)
 
@@ -64,7 +64,7 @@ numbers_are field low high i items ns e =
     each_is (λ _. number_in field low high) number (λ _ v n h.
     number_is field low high v n h) numbers refl (λ _ _. refl) i items ns e
 
-floors_are : (field : Field) (is_allowed : ℕ → Bool) (floors : ℕ) (v : Data) (ns : List ℕ)
+pub floors_are : (field : Field) (is_allowed : ℕ → Bool) (floors : ℕ) (v : Data) (ns : List ℕ)
     → floors_in field is_allowed floors v ≡ Ok ns → v ≡ array (numbers ns)
 unfolding floors_in
 floors_are field is_allowed floors v ns e =
@@ -73,7 +73,7 @@ floors_are field is_allowed floors v ns e =
     let c = counted_ok (is_allowed (item_count a.0)) (OutOfRange field) a.0 b.0 b.1 in
     items_are field v a.0 a.1 ∙ ap array (c.1 ∙ numbers_are field 0 (floors - 1) 0 b.0 ns b.2)
 
-flight_is : (i j : ℕ) (v : Data) (n : ℕ) → flight_in i j v ≡ Ok n → v ≡ number n
+pub flight_is : (i j : ℕ) (v : Data) (n : ℕ) → flight_in i j v ≡ Ok n → v ≡ number n
 flight_is i j v n e =
     elim (cases_Bool (i == j)) [
       | inl here ↦ number_is Flight 0 0 v n
@@ -85,7 +85,7 @@ flight_is i j v n e =
 abbrev number_row : List ℕ → Data
 number_row row = array (numbers row)
 
-row_is : (floors i : ℕ) (v : Data) (row : List ℕ) → row_in floors i v ≡ Ok row → v ≡ number_row row
+pub row_is : (floors i : ℕ) (v : Data) (row : List ℕ) → row_in floors i v ≡ Ok row → v ≡ number_row row
 unfolding row_in
 row_is floors i v row e =
     let a = bind_ok (items_in Flight v) _ row e in
@@ -94,7 +94,7 @@ row_is floors i v row e =
     items_are Flight v a.0 a.1 ∙ ap array
     (c.1 ∙ each_is (flight_in i) number (flight_is i) numbers refl (λ _ _. refl) 0 b.0 row b.2)
 
-table_is : (floors : ℕ) (v : Data) (rows : List (List ℕ)) → table_in floors v ≡ Ok rows
+pub table_is : (floors : ℕ) (v : Data) (rows : List (List ℕ)) → table_in floors v ≡ Ok rows
     → v ≡ array (number_rows rows)
 unfolding table_in
 table_is floors v rows e =
@@ -120,13 +120,13 @@ served_is floors (Some v) served some e =
       sym (ok_is (flags_of floors a.0) served a.2),
     )
 
-number_at_is : (field : Field) (low high : ℕ) (v : Data) (n : ℕ) → number_at field low high v ≡ Ok n
+pub number_at_is : (field : Field) (low high : ℕ) (v : Data) (n : ℕ) → number_at field low high v ≡ Ok n
     → get (name_of field) v ≡ Some (number n)
 number_at_is field low high v n e =
     let a = bind_ok (key field v) _ n e in
     key_is field (get (name_of field) v) a.0 a.1 ∙ ap Some (number_is field low high a.0 n a.2)
 
-car_is : (floors : ℕ) (v : Data) (car : CarPlan) → 1 ≤ floors → car_in floors v ≡ Ok car
+pub car_is : (floors : ℕ) (v : Data) (car : CarPlan) → 1 ≤ floors → car_in floors v ≡ Ok car
     → IsCarText floors v car
 unfolding car_in
 car_is floors (table members) car some e =

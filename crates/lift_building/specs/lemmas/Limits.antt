@@ -48,7 +48,7 @@ pub counted_ok : (b : Bool) (d : BuildingFault) (items those : Items) → counte
 counted_ok true d items those e = (refl, cc)
 counted_ok false d items those e = absurd cc
 
-between : (low high n : ℕ) → is_between low high n ≡ true → (low ≤ n) × (n ≤ high)
+pub between : (low high n : ℕ) → is_between low high n ≡ true → (low ≤ n) × (n ≤ high)
 between low high n e =
     let (l, h) = and_parts (nat_le low n) (nat_le n high) e in
     (grind (arith, nat_tests), grind (arith, nat_tests))
@@ -129,7 +129,7 @@ floors_ok field is_allowed floors v xs some e =
 abbrev pub IsFlight : ℕ → ℕ → ℕ → Type 0
 IsFlight i j time = (i ≡ j → time ≡ 0) × (i ≢ j → (1 ≤ time) × (time ≤ 600000))
 
-flight_ok : (i j : ℕ) (v : Data) (time : ℕ) → flight_in i j v ≡ Ok time → IsFlight i j time
+pub flight_ok : (i j : ℕ) (v : Data) (time : ℕ) → flight_in i j v ≡ Ok time → IsFlight i j time
 flight_ok i j v time e =
     elim (cases_Bool (i == j)) [
       | inl here ↦
@@ -150,7 +150,7 @@ pub record IsRow (floors i : ℕ) (row : List ℕ) : Type 0 where
   pub count : length row ≡ floors
   pub each : (j : ℕ) → j < length row → IsFlight i j (get_or row j 0)
 
-row_ok : (floors i : ℕ) (v : Data) (row : List ℕ) → row_in floors i v ≡ Ok row → IsRow floors i row
+pub row_ok : (floors i : ℕ) (v : Data) (row : List ℕ) → row_in floors i v ≡ Ok row → IsRow floors i row
 unfolding row_in
 row_ok floors i v row e =
     let a = bind_ok (items_in Flight v) (λ items.
@@ -165,7 +165,7 @@ row_ok floors i v row e =
       each = λ j lt. each_all (IsFlight i) (flight_in i) (flight_ok i) b.0 row b.2 j 0 lt;
     }
 
-table_ok : (floors : ℕ) (v : Data) (rows : List (List ℕ)) → table_in floors v ≡ Ok rows
+pub table_ok : (floors : ℕ) (v : Data) (rows : List (List ℕ)) → table_in floors v ≡ Ok rows
     → (length rows ≡ floors) × ((i : ℕ) (d : List ℕ) → i < length rows
     → IsRow floors i (get_or rows i d))
 unfolding table_in
@@ -219,7 +219,7 @@ number_at_ok field low high v n e =
     let a = bind_ok (key field v) (number_in field low high) n e in
     number_in_ok field low high a.0 n a.2
 
-car_ok : (floors : ℕ) (v : Data) (car : CarPlan) → 1 ≤ floors → car_in floors v ≡ Ok car
+pub car_ok : (floors : ℕ) (v : Data) (car : CarPlan) → 1 ≤ floors → car_in floors v ≡ Ok car
     → IsCar floors car
 unfolding car_in
 car_ok floors (table members) car some e =
@@ -259,7 +259,7 @@ cars_ok floors v cars some e =
           car_ok floors w car some h) b.0 cars b.2,
     )
 
-flights_ok : (plan : Plan)
+pub flights_ok : (plan : Plan)
     → (length plan.flights ≡ plan.floors) × ((i : ℕ) (d : List ℕ) → i < length plan.flights
     → IsRow plan.floors i (get_or plan.flights i d)) → HasFlights plan
 flights_ok plan found = record {
