@@ -29,7 +29,7 @@ all_legs floors [] inside = tt
 all_legs floors (row ∷ rows) inside = (legs_within floors row.aboard row.from row.to inside.0.0 inside.0.1, all_legs floors rows inside.1)
 
 -- all stops of these calls are in the building
-stops_within : (floors : ℕ) (rows : List Row) (position : Position) → AreWithin floors rows → AllBelow floors (stop_list rows position)
+pub stops_within : (floors : ℕ) (rows : List Row) (position : Position) → AreWithin floors rows → AllBelow floors (stop_list rows position)
 stops_within floors rows position inside = stops_at_legs (λ floor. floor < floors) rows position (all_legs floors rows (recursion_from_All (Within floors) rows inside))
 
 -- the same of a list of them

@@ -7,3 +7,5 @@ pub mod Leaving
 pub mod Putting
 pub mod Missing
 pub mod Joining
+pub mod Sooner
+pub mod Taken

@@ -25,7 +25,7 @@ has_halt-append x (h ∷ hs) gs = ap (λ b. same_halt h x || b) (has_halt-append
     regroup true b c = refl
     regroup false b c = refl
 
-either_missing : (a b : Bool) → a ≡ false → b ≡ false → (a || b) ≡ false
+pub either_missing : (a b : Bool) → a ≡ false → b ≡ false → (a || b) ≡ false
 either_missing true b no_a no_b = absurd cc
 either_missing false b no_a no_b = no_b
 

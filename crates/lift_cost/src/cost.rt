@@ -57,7 +57,8 @@ pub fn total_cost(building: &Building, position: Position, rows: &[Row], call: N
     ensures added { result + total_etd building.now position rows.now
         ≡ total_etd building.now position (with_new_call rows.now call) }
 
-    // The other passengers lose nothing, so this is no less than the time of the new ones.
+    // The others lose nothing, all together (each of them too: `nobody_arrives_sooner`), so this
+    // is no less than the time of the new ones.
     ensures own { own_etd building.now position rows.now call ≤ result }
 {
     let (cost, _own) = added(building, &position, rows, &call);
@@ -75,8 +76,8 @@ pub fn degradation(building: &Building, position: Position, rows: &[Row], call: 
     ensures parts { result + own_etd building.now position rows.now call
         ≡ total_cost building.now position rows.now call }
 
-    // The sum with the new call is the sum without it, the new passengers' own time, and this:
-    // nobody arrives sooner.
+    // The sum with the new call is the sum without it, the new passengers' own time, and this. (No
+    // other passenger arrives sooner: `nobody_arrives_sooner`.)
     ensures sums { result + own_etd building.now position rows.now call
         + total_etd building.now position rows.now
         ≡ total_etd building.now position (with_new_call rows.now call) }

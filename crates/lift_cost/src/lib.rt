@@ -12,5 +12,5 @@ mod ways;
 pub use among::arrival_at;
 pub use call::{NewCall, waiting_row};
 pub use cost::{degradation, etd, total_cost};
-pub use laws::arrivals_add_up;
+pub use laws::{arrivals_add_up, nobody_arrives_sooner};
 pub use scheduled::{cost_of, degradation_of, etd_of};

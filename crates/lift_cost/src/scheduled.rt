@@ -56,7 +56,8 @@ pub fn cost_of(building: &Building, schedule: &Schedule, call: NewCall) -> u64
     ensures added { result + total_etd building.now schedule.now.position schedule.now.rows
         ≡ total_etd building.now schedule.now.position (with_new_call schedule.now.rows call) }
 
-    // The other passengers lose nothing, so this is no less than the time of the new ones.
+    // The others lose nothing, all together (each of them too: `nobody_arrives_sooner`), so this
+    // is no less than the time of the new ones.
     ensures own { own_etd building.now schedule.now.position schedule.now.rows call ≤ result }
 {
     let (cost, _own) = added(building, schedule, &call);
@@ -74,8 +75,8 @@ pub fn degradation_of(building: &Building, schedule: &Schedule, call: NewCall) -
     ensures parts { result + own_etd building.now schedule.now.position schedule.now.rows call
         ≡ total_cost building.now schedule.now.position schedule.now.rows call }
 
-    // The sum with the new call is the sum without it, the new passengers' own time, and this:
-    // nobody arrives sooner.
+    // The sum with the new call is the sum without it, the new passengers' own time, and this. (No
+    // other passenger arrives sooner: `nobody_arrives_sooner`.)
     ensures sums { result + own_etd building.now schedule.now.position schedule.now.rows call
         + total_etd building.now schedule.now.position schedule.now.rows
         ≡ total_etd building.now schedule.now.position (with_new_call schedule.now.rows call) }
