@@ -7,6 +7,7 @@ ghost use Rattle.lift_base.specs.declared.history.Entry.{Entry as EntryValue};
 ghost use Rattle.lift_base.specs.declared.command.Reply.{Reply as ReplyValue};
 ghost use Rattle.lift_register.specs.Prelude.{BelongsTo, IsBalanced, IsWellFormed};
 ghost use Rattle.lift_policy.specs.View.{positions_of, AreSchedulesOf, IsViewIn};
+ghost use Rattle.lift_policy.specs.Eligible.{AreEligible};
 ghost use Rattle.lift_policy.specs.Step.{Step, view_of};
 ghost use Rattle.lift_policy.specs.Verdict.{IsVerdict};
 ghost use Rattle.lift_policy.specs.declared.verdict.Verdict.{Verdict as VerdictValue};
@@ -223,6 +224,7 @@ fn chosen<P: Policy>(
     requires possible { IsViewIn building.now (view_of group.now) }
     requires from { call.now.from < building.now.floors }
     requires to { call.now.to < building.now.floors }
+    requires eligible { AreEligible building.now (view_of group.now) call.now eligible }
     ensures member { Contains eligible result }
     ensures chosen { P.chooses policy.now building.now (view_of group.now) call.now eligible result }
 {

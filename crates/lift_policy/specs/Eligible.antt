@@ -1,6 +1,6 @@
 -- Which cars may take a new call, and what a policy may answer.
-use Rattle.std.specs.Prelude.{ℕ, ◌+◌, ◌<◌, ◌≤◌, ◌&&◌, Bool, nat_le, is_some, List, [], ◌∷◌, length}
-use Rattle.std.specs.Prelude.{filter}
+use Rattle.std.specs.Prelude.{ℕ, ◌≡◌, ◌+◌, ◌<◌, ◌≤◌, ◌&&◌, Bool, true, nat_le, is_some, List, [], ◌∷◌}
+use Rattle.std.specs.Prelude.{length, filter, All}
 use Rattle.lift_building.specs.Plan.{Plan, serves_floor, places_of}
 use Rattle.lift_register.specs.Prelude.{RegisterState, cars, rows_of, persons_of}
 use Rattle.lift_cost.specs.declared.call.NewCall.{NewCall}
@@ -16,6 +16,10 @@ can_take plan register call car =
 abbrev pub is_eligible : Plan → ViewState → NewCall → ℕ → Bool
 is_eligible plan view call car =
     is_some (position_of view.positions car) && can_take plan view.register call car
+
+-- each of these cars may take the call
+abbrev pub AreEligible : Plan → ViewState → NewCall → List ℕ → Type 0
+AreEligible plan view call letters = All (λ car. is_eligible plan view call car ≡ true) letters
 
 -- all cars that may take the call, by rising letter
 unfoldable pub eligible_cars : Plan → ViewState → NewCall → List ℕ

@@ -3,6 +3,7 @@ ghost use Rattle.std.specs.Prelude.{◌≡◌, ◌↔◌, ◌<◌, ◌≤◌, �
 ghost use Rattle.std.specs.Prelude.{IfSome, IsNone};
 ghost use Rattle.std.specs.Option.{option_to_list};
 ghost use Rattle.lift_policy.specs.Eligible.{can_take, is_eligible, eligible_cars, AreLetters};
+ghost use Rattle.lift_policy.specs.Eligible.{AreEligible};
 
 use crate::view::View;
 use arrayvec::ArrayVec;
@@ -42,10 +43,13 @@ impl Model for Eligible {
 
 impl Eligible {
     /// The cars that may take a call now; none where there is no such car.
+    #[tactic(auto, using(crate::specs::lemmas::Verdicts::are_eligible))]
     pub fn among(building: &Building, view: &View, call: NewCall) -> Option<Self>
         ensures some { IfSome result (λ eligible.
             eligible ≡ eligible_cars building.now view.now call) }
         ensures none { IsNone result ↔ (eligible_cars building.now view.now call ≡ []) }
+        // So a policy may be asked of them.
+        ensures each { IfSome result (AreEligible building.now view.now call) }
     {
         let letters = letters_among(building, view, &call);
         if letters.is_empty() {

@@ -3,7 +3,7 @@ ghost use Rattle.std.specs.Prelude.{ℕ, List, ◌≡◌, ◌<◌, Contains};
 ghost use Rattle.lift_building.specs.Plan.{Plan};
 ghost use Rattle.lift_cost.specs.declared.call.NewCall.{NewCall as Call};
 ghost use Rattle.lift_policy.specs.View.{ViewState, IsViewIn};
-ghost use Rattle.lift_policy.specs.Eligible.{eligible_cars};
+ghost use Rattle.lift_policy.specs.Eligible.{AreEligible};
 
 use crate::eligible::Eligible;
 use crate::view::View;
@@ -17,11 +17,14 @@ pub trait Policy {
     /// eligible cars.
     ghost chooses: { Self → Plan → ViewState → Call → List ℕ → ℕ → Type 0 };
 
-    /// Names one of the eligible cars. The call is between two floors of the building.
+    /// Names one of these cars, each of which may take the call at what is seen: `Eligible::among`
+    /// of the same building, view and call gives all of them. The call is between two floors of the
+    /// building.
     fn choose(&self, building: &Building, view: &View, call: NewCall, eligible: Eligible) -> Letter
         requires possible { IsViewIn building.now view.now }
         requires from { call.from < building.now.floors }
         requires to { call.to < building.now.floors }
+        requires eligible { AreEligible building.now view.now call eligible }
         ensures member { Contains eligible result }
         ensures chosen { chooses self.now building.now view.now call eligible result };
 
