@@ -14,7 +14,9 @@ agree s r i j u v at_u at_v =
           let a = f.asks asks in
           let b = g.answers answers in
           subst IsInOrder (λ k. record { asked = sym a.1 k; taken = sym b.1 k; answered = sym b.2 k; heard = sym a.2 k }) r.in_order;
-      ahead = λ asks looks. subst (λ z. IsAhead z v.clerk.taken) (sym (f.asks asks).1) (g.looks_ahead looks);
+      ahead = λ asks looks. subst (λ z. IsAhead z v.clerk.taken) (sym (f.asks asks).1) (g.looks_ahead looks).2;
       one_asks = λ one other. (f.asks one).0 ∙ sym (g.asks other).0;
       one_answers = λ one other. (f.answers one).0 ∙ sym (g.answers other).0;
+      one_ahead = λ one other. (f.looks_ahead one).1 ∙ sym (g.looks_ahead other).1;
+      lends = λ answers looks. (f.answers answers).3 ∙ (g.looks_ahead looks).0;
     }

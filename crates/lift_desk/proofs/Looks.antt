@@ -1,5 +1,5 @@
 -- Each step counts a look only of the word that it loads, and each right goes with its count.
-use Rattle.std.proofs.Common.{◌≡◌, ℕ, true, false, true≢false, List, [], ap, refl, sym, inl, inr}
+use Rattle.std.proofs.Common.{◌≡◌, ℕ, Bool, true, false, true≢false, List, [], ap, refl, sym, inl, inr}
 use Rattle.atomic_table.specs.Table.{Me}
 use Rattle.lift_desk.specs.declared.view.View.{View}
 use Rattle.lift_desk.specs.Rule.{united, terminal_part, clerk_part, ahead_part, ahead_of, ahead_note_of, noted_by}
@@ -29,6 +29,10 @@ stores_answer v word after may e = record { may = may; rights = record { slots =
 
 pub same_carries : (v u : View) → Carries v u v
 same_carries v u = record { asks = λ k. inl (k, refl); answers = λ k. inl (k, refl); ahead = λ k. inl (k, refl) }
+
+-- also where it lends, or has back what it lent
+pub lending_carries : (v u : View) (b : Bool) → Carries v u (record v { lends = b })
+lending_carries v u b = record { asks = λ k. inl (k, refl); answers = λ k. inl (k, refl); ahead = λ k. inl (k, refl) }
 
 pub united_carries : (v u : View) → Carries v u (united v u)
 united_carries v u = record { asks = λ k. inl (k, refl); answers = λ k. inr (k, refl); ahead = λ k. inr (inl (k, refl)) }

@@ -4,6 +4,7 @@
 mod ahead;
 mod desk;
 mod laws;
+mod lending;
 mod looker;
 mod note;
 mod place;
@@ -13,6 +14,7 @@ mod words;
 
 pub use desk::{ClerkSeat, Desk, DeskParts, TakeSeat};
 pub use laws::{seats_agree, words_are_asks_and_replies};
+pub use lending::{Lending, Lender, Whole};
 pub use note::Note;
 pub use seat::{AskRefusal, Seat};
 pub use view::{ClerkView, DeskRule, TerminalView, View};

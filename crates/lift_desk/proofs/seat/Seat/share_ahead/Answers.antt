@@ -4,7 +4,7 @@ use Rattle.lift_desk.proofs.Looks.{united_carries, loads_unseen, terminal_part_c
 use Rattle.lift_desk.proofs.seat.Seat.share_ahead.Goals as goal
 
 pub join-requires-clause-keeps : goal.join-requires-clause-keeps
-join-requires-clause-keeps c id another = ahead_unites_join _ _ _ _ c.self.invariant.asks c.requires.rights.1
+join-requires-clause-keeps c id another = ahead_unites_join _ _ _ _ c.self.invariant.asks c.requires.rights.0 c.requires.rights.1
 
 pub join-requires-clause-counts : goal.join-requires-clause-counts
 join-requires-clause-counts c = united_carries _ _
