@@ -1,5 +1,5 @@
 -- Places that are taken one by one, each with its table.
-use Rattle.std.proofs.Common.{◌≡◌, ℕ, zero, suc, ◌<◌, ◌≤◌, true, List, [], ◌∷◌, ◌++◌, ◌+◌, map, length, get_or, refl, sym, ap, ◌∙◌, arith, append_assoc, length-append, subst, Option, Some, None}
+use Rattle.std.proofs.Common.{◌≡◌, ℕ, zero, suc, ◌<◌, true, List, [], ◌∷◌, ◌++◌, map, length, get_or, refl, sym, ap, ◌∙◌, arith, append_assoc, length-append, subst, Option, Some, None}
 use Rattle.std.specs.Prelude.{MatchOption, IsSome}
 use Rattle.std.proofs.lemmas.List.{length-map}
 use Rattle.atomic_table.specs.Seated.{TableId}
@@ -60,8 +60,8 @@ same_table desk one left rest all x other more remain whole y e steps d ends man
     let far = next_below other more remain whole y d ends in
     let near = next_below one left rest all x e steps in
     ap (λ (p : ClerkPlace). p.table) (sym (next_is other more remain whole y no_place d ends))
-        ∙ sym (map_get whole (length other) far) ∙ ap (λ l. get_or l (length other) no_table) tables ∙ ap (λ n. get_or (map (λ (p : ClerkPlace). p.table) all) n no_table) many
-        ∙ map_get all (length one) near ∙ ap (λ (p : ClerkPlace). p.table) (next_is one left rest all x no_place e steps)
+    ∙ sym (map_get whole (length other) far) ∙ ap (λ l. get_or l (length other) no_table) tables ∙ ap (λ n. get_or (map (λ (p : ClerkPlace). p.table) all) n no_table) many
+    ∙ map_get all (length one) near ∙ ap (λ (p : ClerkPlace). p.table) (next_is one left rest all x no_place e steps)
   where
     map_get : (l : List ClerkPlace) (n : ℕ) → n < length l → get_or (map (λ (p : ClerkPlace). p.table) l) n no_table ≡ (get_or l n no_place).table
     map_get [] n h = absurd (omega arith)

@@ -18,7 +18,7 @@ ghost use Rattle.lift_desk.specs.Seats.{clerk_of, ahead_from, TakesAheadOf, AreS
 ghost use Rattle.lift_desk.specs.Seats.{LooksOnce, LookTells};
 
 use crate::ahead::AheadPlace;
-use crate::lending::{Lending, Lender, Whole};
+use crate::lending::{Lender, Lending, Whole};
 use crate::looker::{DeskTable, Looker};
 use crate::note::Note;
 use crate::place::Place;
@@ -210,7 +210,12 @@ impl Desk {
 
     /// Looks once for an ask of the terminal that is new to the clerk, by a seat that reads a note
     /// first: an ask that a seat ahead took is found, where it is new to the clerk too.
-    pub fn look_for<L: Lending>(&self, clerk: &mut ClerkSeat<L>, terminal: Terminal, note: Note) -> Option<Ask>
+    pub fn look_for<L: Lending>(
+        &self,
+        clerk: &mut ClerkSeat<L>,
+        terminal: Terminal,
+        note: Note,
+    ) -> Option<Ask>
         requires clerk { IsClerkOf self.now clerk.old }
         requires terminal { terminal < length self.now }
         requires note { IsNoteOf self.now terminal note }

@@ -14,7 +14,7 @@ mod words;
 
 pub use desk::{ClerkSeat, Desk, DeskParts, TakeSeat};
 pub use laws::{seats_agree, words_are_asks_and_replies};
-pub use lending::{Lending, Lender, Whole};
+pub use lending::{Lender, Lending, Whole};
 pub use note::Note;
 pub use seat::{AskRefusal, Seat};
 pub use view::{ClerkView, DeskRule, TerminalView, View};

@@ -12,7 +12,7 @@ ghost use Rattle.lift_desk.specs.Seats.{ClerkPlace, placed_at, Owes, TakesOf};
 ghost use Rattle.lift_desk.specs.Seats.{Says, seat_with, LookTells};
 
 use crate::ahead::AheadPlace;
-use crate::lending::{Lending, Lender, Whole};
+use crate::lending::{Lender, Lending, Whole};
 use crate::looker::{ANSWER, ASK, DeskTable, Looker};
 use crate::note::Note;
 use crate::seat::Seat;
