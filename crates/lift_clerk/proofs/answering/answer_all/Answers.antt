@@ -14,23 +14,15 @@ next : (answers items : List DueAnswer) (n : ℕ) (a : DueAnswer) → items ≡ 
 next answers items n a same inside is =
     drop_more answers n a inside ∙ ap (λ (x : DueAnswer). x ∷ drop (n + 1) answers) (ap (λ (l : List DueAnswer). get_or l n a) (sym same) ∙ sym is)
 
-pub answer-requires-clause-terminal : goal.answer-requires-clause-terminal
-answer-requires-clause-terminal g c =
+pub answer-requires : goal.answer-requires
+answer-requires g c =
     let i = c.loop-place.invariant in
     let answers = c.args.answers.now.items in
     let a = c.index-deref-place.result in
     let end = c.len-place-end.ensures.value in
     let is = next answers c.deref.result.now c.loop-place.place a c.deref.ensures.0 (omega arith) c.index-deref-place.is in
-    (subst (λ (l : List DueAnswer). AreOwed c.args.desk.now c.loop-place.seat (terminals_in l)) is i.owed).0
-
-pub answer-requires-clause-owes : goal.answer-requires-clause-owes
-answer-requires-clause-owes g c =
-    let i = c.loop-place.invariant in
-    let answers = c.args.answers.now.items in
-    let a = c.index-deref-place.result in
-    let end = c.len-place-end.ensures.value in
-    let is = next answers c.deref.result.now c.loop-place.place a c.deref.ensures.0 (omega arith) c.index-deref-place.is in
-    (subst (λ (l : List DueAnswer). AreOwed c.args.desk.now c.loop-place.seat (terminals_in l)) is i.owed).1
+    let owed = subst (λ (l : List DueAnswer). AreOwed c.args.desk.now c.loop-place.seat (terminals_in l)) is i.owed in
+    (omega arith, (i.seated, (owed.0, owed.1)))
 
 pub loop-place-preserved : goal.loop-place-preserved
 loop-place-preserved g c =
