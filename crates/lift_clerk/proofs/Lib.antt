@@ -11,3 +11,4 @@ pub mod Groups
 pub mod Stood
 pub mod Pasts
 pub mod Called
+pub mod Ordered

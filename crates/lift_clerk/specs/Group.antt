@@ -7,6 +7,7 @@ use Rattle.lift_desk.specs.declared.view.TerminalView.{TerminalView}
 use Rattle.lift_desk.specs.declared.words.Ask.{Ask}
 use Rattle.lift_desk.specs.Words.{ask_word}
 use Rattle.lift_desk.specs.Spelled.{ask_words, IsAsk}
+use Rattle.lift_desk.specs.Agree.{KnowAtOnce}
 use Rattle.lift_desk.specs.Steps.{with_ask, with_hearing, with_look, with_told_answers}
 use Rattle.lift_desk.specs.Seats.{TerminalSeat, view_at, Waits, HearsOf}
 use Rattle.lift_policy.specs.declared.command.Command.{Command}
@@ -59,16 +60,27 @@ abbrev pub AtSeat : TerminalSeat → TerminalSeat → (Terminals → Terminals �
 AtSeat old new says = (before after : Terminals) → before old.terminal ≡ old.view
     → ChangesAt before after old.terminal new.view → says before after old.terminal
 
--- By the desk's rule what a terminal heard is a prefix of what was answered there: `tell` and
--- `meet` say so.
+-- By the desk's rule what a terminal heard is a prefix of what was answered there.
 abbrev pub HearsAnswers : {D : Type 0} → GroupState D → Terminals → ℕ → Type 0
 HearsAnswers group terminals terminal =
     IsPrefix (terminals terminal).heard (view_at group.seat terminal).answered
 
--- And what was taken of each is a prefix of what it asked: `tell` says so.
+-- And what was taken of each is a prefix of what it asked.
 abbrev pub TakesAsks : {D : Type 0} → GroupState D → Terminals → Type 0
 TakesAsks group terminals = (terminal : ℕ)
     → IsPrefix (view_at group.seat terminal).taken (terminals terminal).asked
+
+-- At one moment, while the rule of each terminal's table holds: what the terminal's seat there knows,
+-- and what the group's does, whoever holds the two.
+abbrev pub SeenAtOnce : {D : Type 0} → GroupState D → Terminals → Type 0
+SeenAtOnce group terminals = (terminal : ℕ) → terminal < length group.seat
+    → KnowAtOnce (λ v. v.answers) (terminals terminal) (view_at group.seat terminal)
+
+-- So both are what the desk's rule says, at each moment and of each terminal.
+abbrev pub RuleOrders : Type 0 → Type 0
+RuleOrders D = (group : GroupState D) (terminals : Terminals) → SeenAtOnce group terminals
+    → TakesAsks group terminals
+    × ((terminal : ℕ) → terminal < length group.seat → HearsAnswers group terminals terminal)
 
 -- So it is with these commands after what was taken, which a word can spell.
 pub record WereAsked {D : Type 0} (group : GroupState D) (terminals : Terminals)

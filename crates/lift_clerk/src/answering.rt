@@ -8,7 +8,7 @@ ghost use Rattle.lift_clerk.specs.Answering.{reply_told, replies_told};
 
 use arrayvec::ArrayVec;
 use lift_base::{MOST_ENTRIES, Reply, Terminal};
-use lift_desk::{ClerkSeat, Desk};
+use lift_desk::{ClerkSeat, Desk, Lending};
 
 /// What a terminal is to be answered where its batch is safe.
 #[derive(Clone, Copy, Default)]
@@ -28,9 +28,9 @@ impl DueAnswer {
 
 /// Stores an answer for each of these terminals, to the last ask that was taken there: all the
 /// replies where the batch is safe, else Unknown for each.
-pub fn answer_all(
+pub fn answer_all<L: Lending>(
     desk: &Desk,
-    seat: &mut ClerkSeat,
+    seat: &mut ClerkSeat<L>,
     answers: &ArrayVec<DueAnswer, MOST_ENTRIES>,
     is_safe: bool,
 )

@@ -6,6 +6,7 @@ ghost use Rattle.lift_desk.specs.Seats.{IsSeatOf, IsToldAnswer, Waits};
 ghost use Rattle.lift_world.specs.declared.event.Event.TheVariants.{Ask as Asking, Hear};
 ghost use Rattle.lift_clerk.specs.Steps.{GroupState};
 ghost use Rattle.lift_clerk.specs.Group.{AtSeat, TerminalAsks, TerminalHears, HearsAnswers};
+ghost use Rattle.lift_clerk.specs.Group.{RuleOrders};
 ghost use Rattle.lift_clerk.specs.Past.{IsEvent, IsNoEvent, PastsGoOn, CallsAreSteps};
 ghost use Rattle.lift_clerk.specs.Past.{TurnGoesOn, FailureGoesOn, BrokenTurnGoesOn};
 ghost use Rattle.lift_clerk.specs.Once.{TurnsOnce};
@@ -14,7 +15,7 @@ use crate::clerk::Clerk;
 use crate::counts::Counts;
 use crate::machine::{laws, turn_once};
 use lift_base::{Body, Number, Reply};
-use lift_desk::{AskRefusal, Desk, Seat};
+use lift_desk::{AskRefusal, Desk, Seat, seats_agree};
 use lift_disk::Disk;
 use lift_journal::JournalFault;
 use lift_keeper::KeeperFault;
@@ -58,6 +59,14 @@ pub fn turn_goes_on<D: Disk, P: Policy + Drop>(
     pasts_go_on::<D>();
     policies_are_covered::<P>();
     turn_once(clerk)
+}
+
+/// What these laws want of a hear and of a turn is what the desk's rule says of both seats of each
+/// terminal, at each moment and whoever holds them.
+pub fn rule_orders<D: Disk>()
+    ensures { RuleOrders D }
+{
+    seats_agree();
 }
 
 /// One ask. It is stored where the terminal has heard the answers to all earlier ones, and a turn is

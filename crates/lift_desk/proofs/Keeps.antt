@@ -12,22 +12,22 @@ use Rattle.atomic_table.proofs.Lists.{at_set, at_snoc}
 use Rattle.lift_desk.specs.declared.view.ClerkView.{ClerkView}
 use Rattle.lift_desk.specs.declared.view.View.{View}
 use Rattle.lift_desk.specs.Words.{turn_of, number_of, last_of, IsAskWord, IsReplyWord}
-use Rattle.lift_desk.specs.Rule.{blank, opening_view, united, terminal_part, clerk_part, ahead_part, ahead_of, ahead_note_of, noted_by, stamp_of, CountTurns, Lists, IsInOrder, IsAhead, ViewFits, IsKept}
+use Rattle.lift_desk.specs.Rule.{blank, opening_view, lending, having_back, united, terminal_part, clerk_part, ahead_part, ahead_of, ahead_note_of, noted_by, stamp_of, CountTurns, Lists, IsInOrder, IsAhead, Holders, ViewFits, IsKept}
 use Rattle.lift_desk.specs.Steps.{with_ask, with_answer, with_hearing, with_look, with_taking, is_new_word, is_awaited, at_terminal, at_clerk, Asked, AnswersPlace, Looked, LookedAhead, Heard, Met, Compared, ComparedAhead}
 use Rattle.lift_desk.specs.lemmas.WordLists.{last_of-push, CountTurns-push, turn_of-last_of, CountTurns-prefix, CountTurns-stamped, prefix_length, stamped_length, prefix_whole, prefix_refl, prefix_nil, prefix_push, prefix_next, stamped_next, stamped_same, All-last_of, IsAhead-push, IsAhead-prefix, IsAhead-take, turn_at_most, turn_is_last}
 
 abbrev M : Type 0
 M = Me (Unit {0}) View
 
-abbrev AllFit : ℕ → ℕ → Lists → List View → Type 0
-AllFit terminal clerk l views = (seat : ℕ) (v : View) → get_elem? views seat ≡ some v → ViewFits terminal clerk l seat v
+abbrev AllFit : Holders → Lists → List View → Type 0
+AllFit who l views = (seat : ℕ) (v : View) → get_elem? views seat ≡ some v → ViewFits who l seat v
 
 -- one view changes, and the lists with it
-fit_set : (terminal clerk : ℕ) (l : Lists) (views : List View) (id : ℕ) (w : View) → ViewFits terminal clerk l id w
-    → ((j : ℕ) (u : View) → j ≢ id → get_elem? views j ≡ some u → ViewFits terminal clerk l j u) → AllFit terminal clerk l (set views id w)
-fit_set terminal clerk l views id w mine others j u e =
+fit_set : (who : Holders) (l : Lists) (views : List View) (id : ℕ) (w : View) → ViewFits who l id w
+    → ((j : ℕ) (u : View) → j ≢ id → get_elem? views j ≡ some u → ViewFits who l j u) → AllFit who l (set views id w)
+fit_set who l views id w mine others j u e =
     ⊎_elim
-    (λ (x : (j ≡ id) × (w ≡ u)). subst (λ (y : ℕ × View). ViewFits terminal clerk l y.0 y.1) (λ i. (sym x.0 i, x.1 i)) mine)
+    (λ (x : (j ≡ id) × (w ≡ u)). subst (λ (y : ℕ × View). ViewFits who l y.0 y.1) (λ i. (sym x.0 i, x.1 i)) mine)
     (λ (x : (j ≢ id) × (get_elem? views j ≡ some u)). others j u x.0 x.1)
     (at_set views id j w u e)
 
@@ -57,10 +57,10 @@ asks_keep slots id me word may free turn spelled s r _ at _ =
       answers_spelled = o.answers_spelled;
     } in
     let w = at_terminal v (with_ask v.terminal word) in
-    let fits : ViewFits r.terminal r.clerk l' id w = record {
+    let fits : ViewFits r.holders l' id w = record {
       asks = λ _. (a.0, ap (λ z. z ++ word ∷ []) a.1, a.2);
       answers = mine.answers;
-      looks_ahead = λ k. IsAhead-push l.asked v.clerk.taken word (mine.looks_ahead k);
+      looks_ahead = λ k. let y = mine.looks_ahead k in (y.0, y.1, IsAhead-push l.asked v.clerk.taken word y.2);
       told_answers = mine.told_answers;
       told_asks = prefix_push v.clerk.told l.asked word mine.told_asks;
       noted = λ any. Contains-append_left l.asked (word ∷ []) v.noted (mine.noted any);
@@ -69,16 +69,15 @@ asks_keep slots id me word may free turn spelled s r _ at _ =
       keeps,
       tt,
       record {
-        terminal = r.terminal;
-        clerk = r.clerk;
+        holders = r.holders;
         lists = l';
         words = ap (λ ws. set ws 0 word) r.words ∙ ap (λ z. z ∷ last_of l.answered ∷ []) (sym (last_of-push l.asked word));
         in_order = in_order;
-        views = fit_set r.terminal r.clerk l' s.views id w fits
+        views = fit_set r.holders l' s.views id w fits
             (λ j u apart e. let f = r.views j u e in record {
               asks = λ k. absurd (apart ((f.asks k).0 ∙ sym a.0));
               answers = f.answers;
-              looks_ahead = λ k. IsAhead-push l.asked u.clerk.taken word (f.looks_ahead k);
+              looks_ahead = λ k. let y = f.looks_ahead k in (y.0, y.1, IsAhead-push l.asked u.clerk.taken word y.2);
               told_answers = f.told_answers;
               told_asks = prefix_push u.clerk.told l.asked word f.told_asks;
               noted = λ any. Contains-append_left l.asked (word ∷ []) u.noted (f.noted any);
@@ -143,14 +142,13 @@ looks_so s r id v may not_ahead at false is =
     let below : turn_of n ≤ turn_of (last_of v.clerk.taken) = le_of _ _ is in
     let all : v.clerk.taken ≡ l.asked = a.1 ∙ prefix_whole l.taken l.asked o.taken (omega arith) in
     let w = at_clerk v (record { taken = v.clerk.taken; answered = v.clerk.answered; looks = suc v.clerk.looks; last = get_or s.words 0 0; told = v.clerk.told }) in
-    let mine : ViewFits r.terminal r.clerk l id w = record { asks = f.asks; answers = f.answers; looks_ahead = f.looks_ahead; told_answers = f.told_answers; told_asks = f.told_asks; noted = f.noted } in (
+    let mine : ViewFits r.holders l id w = record { asks = f.asks; answers = f.answers; looks_ahead = f.looks_ahead; told_answers = f.told_answers; told_asks = f.told_asks; noted = f.noted } in (
       record {
-        terminal = r.terminal;
-        clerk = r.clerk;
+        holders = r.holders;
         lists = l;
         words = loaded (last_of l.asked) (last_of l.answered) s.words 0 (omega arith) r.words;
         in_order = r.in_order;
-        views = fit_set r.terminal r.clerk l s.views id w mine (λ j u apart e. r.views j u e);
+        views = fit_set r.holders l s.views id w mine (λ j u apart e. r.views j u e);
       },
       λ e. off e,
       subst (IsPrefix v.clerk.told) (sym all) f.told_asks,
@@ -180,9 +178,9 @@ looks_so s r id v may not_ahead at true is =
       answers_spelled = o.answers_spelled;
     } in
     let w = at_clerk v (record { taken = v.clerk.taken ++ n ∷ []; answered = v.clerk.answered; looks = suc v.clerk.looks; last = n; told = v.clerk.told }) in
-    let mine : ViewFits r.terminal r.clerk l' id w = record {
+    let mine : ViewFits r.holders l' id w = record {
       asks = f.asks;
-      answers = λ _. (a.0, ap (λ z. z ++ n ∷ []) a.1, a.2);
+      answers = λ _. (a.0, ap (λ z. z ++ n ∷ []) a.1, a.2, a.3);
       looks_ahead = λ k. off (sym not_ahead ∙ k);
       told_answers = f.told_answers;
       told_asks = f.told_asks;
@@ -191,12 +189,11 @@ looks_so s r id v may not_ahead at true is =
     let taken_same : length v.clerk.taken ≡ length l.taken = ap length a.1 in
     let answered_same : length v.clerk.answered ≡ length l.answered = ap length a.2 in (
       record {
-        terminal = r.terminal;
-        clerk = r.clerk;
+        holders = r.holders;
         lists = l';
         words = loaded (last_of l.asked) (last_of l.answered) s.words 0 (omega arith) r.words;
         in_order = in_order;
-        views = fit_set r.terminal r.clerk l' s.views id w mine
+        views = fit_set r.holders l' s.views id w mine
             (λ j u apart e. let g = r.views j u e in record {
               asks = g.asks;
               answers = λ k. absurd (apart ((g.answers k).0 ∙ sym a.0));
@@ -254,9 +251,9 @@ answers_keep slots id me word may owed stamp spelled s r _ at _ =
       answers_spelled = All-push IsReplyWord l.answered word o.answers_spelled spelled;
     } in
     let w = at_clerk v (with_answer v.clerk word) in
-    let mine : ViewFits r.terminal r.clerk l' id w = record {
+    let mine : ViewFits r.holders l' id w = record {
       asks = f.asks;
-      answers = λ _. (a.0, a.1, ap (λ z. z ++ word ∷ []) a.2);
+      answers = λ _. (a.0, a.1, ap (λ z. z ++ word ∷ []) a.2, a.3);
       looks_ahead = f.looks_ahead;
       told_answers = prefix_push v.terminal.told l.answered word f.told_answers;
       told_asks = f.told_asks;
@@ -266,12 +263,11 @@ answers_keep slots id me word may owed stamp spelled s r _ at _ =
       keeps,
       tt,
       record {
-        terminal = r.terminal;
-        clerk = r.clerk;
+        holders = r.holders;
         lists = l';
         words = ap (λ ws. set ws 1 word) r.words ∙ ap (λ z. last_of l.asked ∷ z ∷ []) (sym (last_of-push l.answered word));
         in_order = in_order;
-        views = fit_set r.terminal r.clerk l' s.views id w mine
+        views = fit_set r.holders l' s.views id w mine
             (λ j u apart e. let g = r.views j u e in record {
               asks = g.asks;
               answers = λ k. absurd (apart ((g.answers k).0 ∙ sym a.0));
@@ -314,14 +310,13 @@ hears_so s r id v may at false is =
     let below : turn_of n ≤ length v.terminal.heard = heard_all (length v.terminal.heard) (length v.terminal.asked) (turn_of n) is (omega arith) (omega arith) in
     let all : v.terminal.heard ≡ l.answered = a.2 ∙ prefix_whole l.heard l.answered o.heard (omega arith) in
     let w = at_terminal v (with_look v.terminal (get_or s.words 1 0)) in
-    let mine : ViewFits r.terminal r.clerk l id w = record { asks = f.asks; answers = f.answers; looks_ahead = f.looks_ahead; told_answers = f.told_answers; told_asks = f.told_asks; noted = f.noted } in (
+    let mine : ViewFits r.holders l id w = record { asks = f.asks; answers = f.answers; looks_ahead = f.looks_ahead; told_answers = f.told_answers; told_asks = f.told_asks; noted = f.noted } in (
       record {
-        terminal = r.terminal;
-        clerk = r.clerk;
+        holders = r.holders;
         lists = l;
         words = loaded (last_of l.asked) (last_of l.answered) s.words 1 (omega arith) r.words;
         in_order = r.in_order;
-        views = fit_set r.terminal r.clerk l s.views id w mine (λ j u apart e. r.views j u e);
+        views = fit_set r.holders l s.views id w mine (λ j u apart e. r.views j u e);
       },
       λ e. off e,
       subst (IsPrefix v.terminal.told) (sym all) f.told_answers,
@@ -354,7 +349,7 @@ hears_so s r id v may at true is =
       answers_spelled = o.answers_spelled;
     } in
     let w = at_terminal v (record { asked = v.terminal.asked; heard = v.terminal.heard ++ n ∷ []; looks = suc v.terminal.looks; last = n; told = v.terminal.told }) in
-    let mine : ViewFits r.terminal r.clerk l' id w = record {
+    let mine : ViewFits r.holders l' id w = record {
       asks = λ _. (a.0, a.1, ap (λ z. z ++ n ∷ []) a.2);
       answers = f.answers;
       looks_ahead = f.looks_ahead;
@@ -363,12 +358,11 @@ hears_so s r id v may at true is =
       noted = f.noted;
     } in (
       record {
-        terminal = r.terminal;
-        clerk = r.clerk;
+        holders = r.holders;
         lists = l';
         words = loaded (last_of l.asked) (last_of l.answered) s.words 1 (omega arith) r.words;
         in_order = in_order;
-        views = fit_set r.terminal r.clerk l' s.views id w mine
+        views = fit_set r.holders l' s.views id w mine
             (λ j u apart e. let g = r.views j u e in record {
               asks = λ k. absurd (apart ((g.asks k).0 ∙ sym a.0));
               answers = g.answers;
@@ -410,26 +404,27 @@ meets_keep slots id me asks answers s r _ at _ =
     let n : ℕ = get_or s.words 1 0 in
     let n_is : n ≡ last_of l.answered = ap (λ z. get_or z 1 0) r.words in
     let w = at_terminal v (with_look v.terminal n) in
-    let mine : ViewFits r.terminal r.clerk l id w = record { asks = f.asks; answers = f.answers; looks_ahead = f.looks_ahead; told_answers = f.told_answers; told_asks = f.told_asks; noted = f.noted } in (
+    let mine : ViewFits r.holders l id w = record { asks = f.asks; answers = f.answers; looks_ahead = f.looks_ahead; told_answers = f.told_answers; told_asks = f.told_asks; noted = f.noted } in (
       w,
       keeps,
       tt,
       record {
-        terminal = r.terminal;
-        clerk = r.clerk;
+        holders = r.holders;
         lists = l;
         words = loaded (last_of l.asked) (last_of l.answered) s.words 1 (omega arith) r.words;
         in_order = o;
-        views = fit_set r.terminal r.clerk l s.views id w mine (λ j u apart e. r.views j u e);
+        views = fit_set r.holders l s.views id w mine (λ j u apart e. r.views j u e);
       },
       (refl, refl, n_is ∙ ap last_of (sym b.2), subst (λ (z : List ℕ × List ℕ). IsPrefix z.0 z.1) (λ i. (sym a.2 i, sym b.2 i)) o.heard),
     )
 
 -- the table at the start
+abbrev first_holders : Holders
+first_holders = record { terminal = 0; clerk = 0; ahead = 0; lent = false }
+
 pub begins : IsKept record { words = 0 ∷ 0 ∷ []; homes = []; views = opening_view ∷ [] }
 begins = record {
-  terminal = 0;
-  clerk = 0;
+  holders = first_holders;
   lists = record { asked = []; taken = []; answered = []; heard = [] };
   words = refl;
   in_order = record {
@@ -444,8 +439,8 @@ begins = record {
   views = one;
 }
   where
-    one : (seat : ℕ) (v : View) → get_elem? (opening_view ∷ []) seat ≡ some v → ViewFits 0 0 (record { asked = []; taken = []; answered = []; heard = [] }) seat v
-    one zero v e = subst (ViewFits 0 0 (record { asked = []; taken = []; answered = []; heard = [] }) 0) (some-injective opening_view v e) (record { asks = λ _. (refl, refl, refl); answers = λ _. (refl, refl, refl); looks_ahead = λ k. off k; told_answers = prefix_nil []; told_asks = prefix_nil []; noted = λ any. absurd (any refl) })
+    one : (seat : ℕ) (v : View) → get_elem? (opening_view ∷ []) seat ≡ some v → ViewFits first_holders (record { asked = []; taken = []; answered = []; heard = [] }) seat v
+    one zero v e = subst (ViewFits first_holders (record { asked = []; taken = []; answered = []; heard = [] }) 0) (some-injective opening_view v e) (record { asks = λ _. (refl, refl, refl); answers = λ _. (refl, refl, refl, refl); looks_ahead = λ k. off k; told_answers = prefix_nil []; told_asks = prefix_nil []; noted = λ any. absurd (any refl) })
     one (suc seat) v e = absurd (some-ne-none v (sym e))
 
 at_end : (l : List View) (a b : View) (j : ℕ) → get_elem? l j ≢ some b → get_elem? (l ++ a ∷ []) j ≡ some b → j ≡ length l
@@ -456,18 +451,19 @@ at_end (x ∷ xs) a b (suc j) n e = ap suc (at_end xs a b j n e)
 
 -- a seat with both rights becomes the terminal's, and the new one is the clerk's; these words were answered and asked
 parts_split : (id : ℕ) (v : View) (told_answers told_asks : List ℕ) → v.asks ≡ true → v.answers ≡ true
-    → ((terminal clerk : ℕ) (l : Lists) → ViewFits terminal clerk l id v → IsPrefix told_answers l.answered × IsPrefix told_asks l.asked)
+    → ((who : Holders) (l : Lists) → ViewFits who l id v → IsPrefix told_answers l.answered × IsPrefix told_asks l.asked)
     → Splits IsKept id v (terminal_part v told_answers) (clerk_part v told_asks)
 parts_split id v told_answers told_asks asks answers told s r at =
     let l = r.lists in
     let f = r.views id v at in
     let a = f.asks asks in
     let b = f.answers answers in
-    let begun = told r.terminal r.clerk l f in
+    let begun = told r.holders l f in
     let left = terminal_part v told_answers in
     let right = clerk_part v told_asks in
     let vs = set s.views id left in
-    let Old : ℕ → View → Type 0 = λ j u. (u.asks ≡ true → (j ≡ r.terminal) × (u.terminal.asked ≡ l.asked) × (u.terminal.heard ≡ l.heard)) × (u.answers ≢ true) × (u.looks_ahead ≡ true → IsAhead l.asked u.clerk.taken)
+    let who = r.holders in
+    let Old : ℕ → View → Type 0 = λ j u. (u.asks ≡ true → (j ≡ who.terminal) × (u.terminal.asked ≡ l.asked) × (u.terminal.heard ≡ l.heard)) × (u.answers ≢ true) × (u.looks_ahead ≡ true → (who.lent ≡ true) × (j ≡ who.ahead) × IsAhead l.asked u.clerk.taken)
     × IsPrefix u.terminal.told l.answered × IsPrefix u.clerk.told l.asked × (u.noted ≢ 0 → Contains l.asked u.noted) in
     let left_fits : Old id left = ((λ _. a), (λ k. off k), (λ k. off k), begun.0, prefix_nil l.asked, (λ any. absurd (any refl))) in
     let old : (j : ℕ) (u : View) → get_elem? vs j ≡ some u → Old j u = λ j u e.
@@ -476,8 +472,7 @@ parts_split id v told_answers told_asks asks answers told s r at =
     (λ (x : (j ≢ id) × (get_elem? s.views j ≡ some u)). let g = r.views j u x.1 in (g.asks, (λ k. x.0 ((g.answers k).0 ∙ sym b.0)), g.looks_ahead, g.told_answers, g.told_asks, g.noted))
     (at_set s.views id j left u e) in
     record {
-      terminal = r.terminal;
-      clerk = length vs;
+      holders = record who { clerk = length vs };
       lists = l;
       words = r.words;
       in_order = r.in_order;
@@ -485,7 +480,7 @@ parts_split id v told_answers told_asks asks answers told s r at =
           (λ (x : get_elem? vs j ≡ some u). let g = old j u x in record { asks = g.0; answers = λ k. absurd (g.1 k); looks_ahead = g.2; told_answers = g.3; told_asks = g.4; noted = g.5 })
           (λ (is : right ≡ u). record {
             asks = λ k. off (ap (λ (y : View). y.asks) is ∙ k);
-            answers = λ k. (at_end vs right u j (λ x. (old j u x).1 k) e, ap (λ (y : View). y.clerk.taken) (sym is) ∙ b.1, ap (λ (y : View). y.clerk.answered) (sym is) ∙ b.2);
+            answers = λ k. (at_end vs right u j (λ x. (old j u x).1 k) e, ap (λ (y : View). y.clerk.taken) (sym is) ∙ b.1, ap (λ (y : View). y.clerk.answered) (sym is) ∙ b.2, ap (λ (y : View). y.lends) (sym is) ∙ b.3);
             looks_ahead = λ k. off (ap (λ (y : View). y.looks_ahead) is ∙ k);
             told_answers = subst (λ (z : View). IsPrefix z.terminal.told l.answered) is (prefix_nil l.answered);
             told_asks = subst (λ (z : View). IsPrefix z.clerk.told l.asked) is begun.1;
@@ -497,65 +492,102 @@ parts_split id v told_answers told_asks asks answers told s r at =
 -- each is told what the other has stored
 pub seats_split : (id : ℕ) (v : View) → v.asks ≡ true → v.answers ≡ true → Splits IsKept id v (terminal_part v v.clerk.answered) (clerk_part v v.terminal.asked)
 seats_split id v asks answers = parts_split id v v.clerk.answered v.terminal.asked asks answers
-    (λ terminal clerk l f. (subst (λ z. IsPrefix z l.answered) (sym (f.answers answers).2) (prefix_refl l.answered), subst (λ z. IsPrefix z l.asked) (sym (f.asks asks).1) (prefix_refl l.asked)))
+    (λ who l f. (subst (λ z. IsPrefix z l.answered) (sym (f.answers answers).2) (prefix_refl l.answered), subst (λ z. IsPrefix z l.asked) (sym (f.asks asks).1) (prefix_refl l.asked)))
 
 -- neither is told anything new
 pub untold_split : (id : ℕ) (v : View) → v.asks ≡ true → v.answers ≡ true → Splits IsKept id v (terminal_part v v.terminal.told) (clerk_part v v.clerk.told)
-untold_split id v asks answers = parts_split id v v.terminal.told v.clerk.told asks answers (λ terminal clerk l f. (f.told_answers, f.told_asks))
+untold_split id v asks answers = parts_split id v v.terminal.told v.clerk.told asks answers (λ who l f. (f.told_answers, f.told_asks))
 
 -- a new seat that may store nothing, beside one that keeps to the rule
-adds : (id : ℕ) (v w : View) (s : State (Unit {0}) View) (r : IsKept s) → ViewFits r.terminal r.clerk r.lists id v → ((j : ℕ) → ViewFits r.terminal r.clerk r.lists j w)
+adds : (id : ℕ) (v w : View) (s : State (Unit {0}) View) (r : IsKept s) → ViewFits r.holders r.lists id v → ((j : ℕ) → ViewFits r.holders r.lists j w)
     → IsKept record { words = s.words; homes = s.homes; views = set s.views id v ++ w ∷ [] }
 adds id v w s r old new = record {
-  terminal = r.terminal;
-  clerk = r.clerk;
+  holders = r.holders;
   lists = r.lists;
   words = r.words;
   in_order = r.in_order;
   views = λ j u e. ⊎_elim
-      (λ (x : get_elem? (set s.views id v) j ≡ some u). fit_set r.terminal r.clerk r.lists s.views id v old (λ i y apart e'. r.views i y e') j u x)
-      (λ (is : w ≡ u). subst (ViewFits r.terminal r.clerk r.lists j) is (new j))
+      (λ (x : get_elem? (set s.views id v) j ≡ some u). fit_set r.holders r.lists s.views id v old (λ i y apart e'. r.views i y e') j u x)
+      (λ (is : w ≡ u). subst (ViewFits r.holders r.lists j) is (new j))
       (at_snoc (set s.views id v) w u j e);
 }
 
-pub ahead_split : (id : ℕ) (v : View) → v.answers ≡ true → Splits IsKept id v v (ahead_of v)
-ahead_split id v may s r at =
+-- a new seat that looks ahead, as no other one does then
+adds_ahead : (id : ℕ) (v w : View) (s : State (Unit {0}) View) (r : IsKept s)
+    → v.looks_ahead ≡ false → w.asks ≡ false → w.answers ≡ false → IsAhead r.lists.asked w.clerk.taken → IsPrefix w.terminal.told r.lists.answered → IsPrefix w.clerk.told r.lists.asked → w.noted ≡ 0
+    → ViewFits (record r.holders { ahead = length (set s.views id v); lent = true }) r.lists id v
+    → ((j : ℕ) (u : View) → j ≢ id → get_elem? s.views j ≡ some u → (u.looks_ahead ≢ true) × (u.answers ≡ true → u.lends ≡ true))
+    → IsKept record { words = s.words; homes = s.homes; views = set s.views id v ++ w ∷ [] }
+adds_ahead id v w s r silent no_asks no_answers took told_answers told_asks no_note mine others =
+    let l = r.lists in
+    let vs = set s.views id v in
+    let who : Holders = record r.holders { ahead = length vs; lent = true } in
+    let left : (u : View) → v ≡ u → u.looks_ahead ≢ true = λ u is k. off (sym silent ∙ ap (λ (y : View). y.looks_ahead) is ∙ k) in
+    let none : (j : ℕ) (u : View) → get_elem? vs j ≡ some u → u.looks_ahead ≢ true = λ j u e.
+    ⊎_elim (λ (x : (j ≡ id) × (v ≡ u)). left u x.1) (λ (x : (j ≢ id) × (get_elem? s.views j ≡ some u)). (others j u x.0 x.1).0) (at_set s.views id j v u e) in
+    record {
+      holders = who;
+      lists = l;
+      words = r.words;
+      in_order = r.in_order;
+      views = λ j u e. ⊎_elim
+          (λ (x : get_elem? vs j ≡ some u). fit_set who l s.views id v mine (λ i y apart at. let f = r.views i y at in let o = others i y apart at in record {
+            asks = f.asks;
+            answers = λ k. let b = f.answers k in (b.0, b.1, b.2, o.1 k);
+            looks_ahead = λ k. absurd (o.0 k);
+            told_answers = f.told_answers;
+            told_asks = f.told_asks;
+            noted = f.noted;
+          }) j u x)
+          (λ (is : w ≡ u). record {
+            asks = λ k. off (sym no_asks ∙ ap (λ (y : View). y.asks) is ∙ k);
+            answers = λ k. off (sym no_answers ∙ ap (λ (y : View). y.answers) is ∙ k);
+            looks_ahead = λ k. (refl, at_end vs w u j (λ x. none j u x k) e, subst (λ (y : View). IsAhead l.asked y.clerk.taken) is took);
+            told_answers = subst (λ (y : View). IsPrefix y.terminal.told l.answered) is told_answers;
+            told_asks = subst (λ (y : View). IsPrefix y.clerk.told l.asked) is told_asks;
+            noted = λ any. absurd (any (ap (λ (y : View). y.noted) (sym is) ∙ no_note));
+          })
+          (at_snoc vs w u j e);
+    }
+
+-- the clerk's seat lends the right to look ahead, which it had not lent
+pub ahead_split : (id : ℕ) (v : View) → v.answers ≡ true → v.looks_ahead ≡ false → v.lends ≡ false → Splits IsKept id v (lending v) (ahead_of v)
+ahead_split id v may silent has s r at =
     let f = r.views id v at in
     let a = f.answers may in
     let o = r.in_order in
-    adds id v (ahead_of v) s r f (λ j. record {
-      asks = λ k. off k;
-      answers = λ k. off k;
-      looks_ahead = λ _. subst (IsAhead r.lists.asked) (sym a.1) (IsAhead-prefix r.lists.asked r.lists.taken o.turns o.taken);
-      told_answers = prefix_nil r.lists.answered;
+    adds_ahead id (lending v) (ahead_of v) s r silent refl refl
+    (subst (IsAhead r.lists.asked) (sym a.1) (IsAhead-prefix r.lists.asked r.lists.taken o.turns o.taken)) (prefix_nil r.lists.answered) f.told_asks refl
+    (record {
+      asks = f.asks;
+      answers = λ _. (a.0, a.1, a.2, refl);
+      looks_ahead = λ k. off (sym silent ∙ k);
+      told_answers = f.told_answers;
       told_asks = f.told_asks;
-      noted = λ any. absurd (any refl);
+      noted = f.noted;
     })
+    (λ j u apart e. let g = r.views j u e in ((λ k. true≢false (sym (g.looks_ahead k).0 ∙ sym a.3 ∙ has)), (λ k. absurd (apart ((g.answers k).0 ∙ sym a.0)))))
 
 -- a seat with the terminal's rights and a seat ahead's is parted; the seat ahead is told what was asked
 pub ahead_parts_split : (id : ℕ) (v : View) → v.asks ≡ true → v.looks_ahead ≡ true → Splits IsKept id v (terminal_part v v.terminal.told) (ahead_part v)
 ahead_parts_split id v asks looks s r at =
     let f = r.views id v at in
     let a = f.asks asks in
+    let b = f.looks_ahead looks in
     let l = r.lists in
-    adds id (terminal_part v v.terminal.told) (ahead_part v) s r (record {
+    adds_ahead id (terminal_part v v.terminal.told) (ahead_part v) s r refl refl refl b.2 (prefix_nil l.answered) (subst (λ z. IsPrefix z l.asked) (sym a.1) (prefix_refl l.asked)) refl
+    (record {
       asks = λ _. a;
       answers = λ k. off k;
       looks_ahead = λ k. off k;
       told_answers = f.told_answers;
       told_asks = prefix_nil l.asked;
       noted = λ any. absurd (any refl);
-    }) (λ j. record {
-      asks = λ k. off k;
-      answers = λ k. off k;
-      looks_ahead = λ _. f.looks_ahead looks;
-      told_answers = prefix_nil l.answered;
-      told_asks = subst (λ z. IsPrefix z l.asked) (sym a.1) (prefix_refl l.asked);
-      noted = λ any. absurd (any refl);
     })
+    (λ j u apart e. let g = r.views j u e in ((λ k. apart ((g.looks_ahead k).1 ∙ sym b.1)), (λ k. (g.answers k).3 ∙ b.0)))
 
-blank_fits : (terminal clerk : ℕ) (l : Lists) (seat : ℕ) → ViewFits terminal clerk l seat blank
-blank_fits terminal clerk l seat = record {
+blank_fits : (who : Holders) (l : Lists) (seat : ℕ) → ViewFits who l seat blank
+blank_fits who l seat = record {
   asks = λ k. off k;
   answers = λ k. off k;
   looks_ahead = λ k. off k;
@@ -564,18 +596,31 @@ blank_fits terminal clerk l seat = record {
   noted = λ any. absurd (any refl);
 }
 
--- a seat is spent, and another may have learned what it was told
-spends : (id : ℕ) (v : View) (other : ℕ) (u w : View) (s : State (Unit {0}) View) (r : IsKept s) → ViewFits r.terminal r.clerk r.lists id w
+-- a seat is spent, and another has what it had
+spends_as : (who : Holders) (id other : ℕ) (w : View) (s : State (Unit {0}) View) (r : IsKept s) → ViewFits who r.lists id w
+    → ((j : ℕ) (y : View) → j ≢ id → j ≢ other → get_elem? s.views j ≡ some y → ViewFits who r.lists j y)
     → IsKept record { words = s.words; homes = s.homes; views = set (set s.views id w) other blank }
-spends id v other u w s r mine = record {
-  terminal = r.terminal;
-  clerk = r.clerk;
+spends_as who id other w s r mine others = record {
+  holders = who;
   lists = r.lists;
   words = r.words;
   in_order = r.in_order;
-  views = fit_set r.terminal r.clerk r.lists (set s.views id w) other blank (blank_fits r.terminal r.clerk r.lists other)
-      (λ j y apart e. fit_set r.terminal r.clerk r.lists s.views id w mine (λ i x _ e'. r.views i x e') j y e);
+  views = fit_set who r.lists (set s.views id w) other blank (blank_fits who r.lists other)
+      (λ j y not_other e. ⊎_elim
+      (λ (x : (j ≡ id) × (w ≡ y)). subst (λ (z : ℕ × View). ViewFits who r.lists z.0 z.1) (λ i. (sym x.0 i, x.1 i)) mine)
+      (λ (x : (j ≢ id) × (get_elem? s.views j ≡ some y)). others j y x.0 not_other x.1)
+      (at_set s.views id j w y e));
 }
+
+-- a seat is spent, and another may have learned what it was told
+spends : (id : ℕ) (v : View) (other : ℕ) (u w : View) (s : State (Unit {0}) View) (r : IsKept s) → ViewFits r.holders r.lists id w
+    → IsKept record { words = s.words; homes = s.homes; views = set (set s.views id w) other blank }
+spends id v other u w s r mine = spends_as r.holders id other w s r mine (λ j y apart not_other e. r.views j y e)
+
+-- the seat that is joined in stood at its number before
+was_there : (views : List View) (id other : ℕ) (w u : View) → other ≢ id → get_elem? (set views id w) other ≡ some u → get_elem? views other ≡ some u
+was_there views id other w u apart there =
+    ⊎_elim (λ (x : (other ≡ id) × (w ≡ u)). absurd (apart x.0)) (λ (x : (other ≢ id) × (get_elem? views other ≡ some u)). x.1) (at_set views id other w u there)
 
 -- a seat ahead notes the last ask that it took
 pub notes_split : (id : ℕ) (v : View) → v.looks_ahead ≡ true → Splits IsKept id v v (ahead_note_of v)
@@ -586,7 +631,7 @@ notes_split id v may s r at =
       looks_ahead = λ k. off k;
       told_answers = prefix_nil r.lists.answered;
       told_asks = prefix_nil r.lists.asked;
-      noted = last_asked r.lists.asked v.clerk.taken ((r.views id v at).looks_ahead may);
+      noted = last_asked r.lists.asked v.clerk.taken ((r.views id v at).looks_ahead may).2;
     })
   where
     last_asked : (asked taken : List ℕ) → IsAhead asked taken → last_of taken ≢ 0 → Contains asked (last_of taken)
@@ -600,60 +645,80 @@ notes_join id v other u s r at apart there =
     let g = r.views other u was in
     spends id v other u (noted_by v u) s r (record { asks = f.asks; answers = f.answers; looks_ahead = f.looks_ahead; told_answers = f.told_answers; told_asks = f.told_asks; noted = g.noted })
 
-pub ahead_join : (id : ℕ) (v : View) (other : ℕ) (u : View) → Joins IsKept id v other u v blank
-ahead_join id v other u s r at apart there = spends id v other u v s r (r.views id v at)
+-- the clerk has back what it lent
+pub ahead_join : (id : ℕ) (v : View) (other : ℕ) (u : View) → v.answers ≡ true → u.looks_ahead ≡ true → Joins IsKept id v other u (having_back v) blank
+ahead_join id v other u answers looks s r at apart there =
+    let w = having_back v in
+    let f = r.views id v at in
+    let b = f.answers answers in
+    let g = (r.views other u (was_there s.views id other w u apart there)).looks_ahead looks in
+    spends_as (record r.holders { lent = false }) id other w s r
+    (record {
+      asks = f.asks;
+      answers = λ _. (b.0, b.1, b.2, refl);
+      looks_ahead = λ k. absurd (apart (g.1 ∙ sym (f.looks_ahead k).1));
+      told_answers = f.told_answers;
+      told_asks = f.told_asks;
+      noted = f.noted;
+    })
+    (λ j y not_id not_other e. let h = r.views j y e in record {
+      asks = h.asks;
+      answers = λ k. absurd (not_id ((h.answers k).0 ∙ sym b.0));
+      looks_ahead = λ k. absurd (not_other ((h.looks_ahead k).1 ∙ sym g.1));
+      told_answers = h.told_answers;
+      told_asks = h.told_asks;
+      noted = h.noted;
+    })
 
 -- the clerk's rights go to the terminal's seat
-pub unites_join : (id : ℕ) (v : View) (other : ℕ) (c : View) → v.asks ≡ true → c.answers ≡ true → Joins IsKept id v other c (united v c) blank
-unites_join id v other c asks answers s r at apart there =
-    let l = r.lists in
+pub unites_join : (id : ℕ) (v : View) (other : ℕ) (c : View) → v.asks ≡ true → c.answers ≡ true → c.looks_ahead ≡ false → Joins IsKept id v other c (united v c) blank
+unites_join id v other c asks answers silent s r at apart there =
     let w = united v c in
-    let was : get_elem? s.views other ≡ some c = ⊎_elim (λ (x : (other ≡ id) × (w ≡ c)). absurd (apart x.0)) (λ (x : (other ≢ id) × (get_elem? s.views other ≡ some c)). x.1) (at_set s.views id other w c there) in
     let f = r.views id v at in
-    let g = r.views other c was in
+    let g = r.views other c (was_there s.views id other w c apart there) in
     let a = f.asks asks in
     let b = g.answers answers in
-    let mine : ViewFits r.terminal id l id w = record {
+    spends_as (record r.holders { clerk = id }) id other w s r
+    (record {
       asks = λ _. a;
-      answers = λ _. (refl, b.1, b.2);
-      looks_ahead = g.looks_ahead;
+      answers = λ _. (refl, b.1, b.2, b.3);
+      looks_ahead = λ k. off (sym silent ∙ k);
       told_answers = f.told_answers;
       told_asks = g.told_asks;
       noted = λ any. absurd (any refl);
-    } in record {
-      terminal = r.terminal;
-      clerk = id;
-      lists = l;
-      words = r.words;
-      in_order = r.in_order;
-      views = fit_set r.terminal id l (set s.views id w) other blank (blank_fits r.terminal id l other)
-          (λ j y not_other e. ⊎_elim
-          (λ (x : (j ≡ id) × (w ≡ y)). subst (λ (z : ℕ × View). ViewFits r.terminal id l z.0 z.1) (λ i. (sym x.0 i, x.1 i)) mine)
-          (λ (x : (j ≢ id) × (get_elem? s.views j ≡ some y)). let h = r.views j y x.1 in record {
-            asks = h.asks;
-            answers = λ k. absurd (not_other ((h.answers k).0 ∙ sym b.0));
-            looks_ahead = h.looks_ahead;
-            told_answers = h.told_answers;
-            told_asks = h.told_asks;
-            noted = h.noted;
-          })
-          (at_set s.views id j w y e));
-    }
+    })
+    (λ j y not_id not_other e. let h = r.views j y e in record {
+      asks = h.asks;
+      answers = λ k. absurd (not_other ((h.answers k).0 ∙ sym b.0));
+      looks_ahead = h.looks_ahead;
+      told_answers = h.told_answers;
+      told_asks = h.told_asks;
+      noted = h.noted;
+    })
 
 -- the rights of a seat ahead go to the terminal's seat
-pub ahead_unites_join : (id : ℕ) (v : View) (other : ℕ) (u : View) → v.asks ≡ true → u.answers ≡ false → Joins IsKept id v other u (united v u) blank
-ahead_unites_join id v other u asks silent s r at apart there =
+pub ahead_unites_join : (id : ℕ) (v : View) (other : ℕ) (u : View) → v.asks ≡ true → u.looks_ahead ≡ true → u.answers ≡ false → Joins IsKept id v other u (united v u) blank
+ahead_unites_join id v other u asks looks silent s r at apart there =
     let w = united v u in
-    let was : get_elem? s.views other ≡ some u = ⊎_elim (λ (x : (other ≡ id) × (w ≡ u)). absurd (apart x.0)) (λ (x : (other ≢ id) × (get_elem? s.views other ≡ some u)). x.1) (at_set s.views id other w u there) in
     let f = r.views id v at in
-    let g = r.views other u was in
-    spends id v other u w s r (record {
+    let g = r.views other u (was_there s.views id other w u apart there) in
+    let b = g.looks_ahead looks in
+    spends_as (record r.holders { ahead = id }) id other w s r
+    (record {
       asks = λ _. f.asks asks;
       answers = λ k. off (sym silent ∙ k);
-      looks_ahead = g.looks_ahead;
+      looks_ahead = λ _. (b.0, refl, b.2);
       told_answers = f.told_answers;
       told_asks = g.told_asks;
       noted = λ any. absurd (any refl);
+    })
+    (λ j y not_id not_other e. let h = r.views j y e in record {
+      asks = h.asks;
+      answers = h.answers;
+      looks_ahead = λ k. absurd (not_other ((h.looks_ahead k).1 ∙ sym b.1));
+      told_answers = h.told_answers;
+      told_asks = h.told_asks;
+      noted = h.noted;
     })
 
 -- a seat with both rights has all that there is
@@ -668,12 +733,11 @@ compares_keep slots id me asks answers s r _ at _ =
       keeps,
       tt,
       record {
-        terminal = r.terminal;
-        clerk = r.clerk;
+        holders = r.holders;
         lists = l;
         words = loaded (last_of l.asked) (last_of l.answered) s.words 0 (omega arith) r.words;
         in_order = r.in_order;
-        views = fit_set r.terminal r.clerk l s.views id v f (λ j u apart e. r.views j u e);
+        views = fit_set r.holders l s.views id v f (λ j u apart e. r.views j u e);
       },
       (refl, subst IsInOrder (λ i. record { asked = sym a.1 i; taken = sym b.1 i; answered = sym b.2 i; heard = sym a.2 i }) r.in_order),
     )
@@ -688,14 +752,13 @@ compares_ahead_keep slots id me asks looks s r _ at _ =
       keeps,
       tt,
       record {
-        terminal = r.terminal;
-        clerk = r.clerk;
+        holders = r.holders;
         lists = l;
         words = loaded (last_of l.asked) (last_of l.answered) s.words 0 (omega arith) r.words;
         in_order = r.in_order;
-        views = fit_set r.terminal r.clerk l s.views id v f (λ j u apart e. r.views j u e);
+        views = fit_set r.holders l s.views id v f (λ j u apart e. r.views j u e);
       },
-      (refl, subst (λ z. IsAhead z v.clerk.taken) (sym (f.asks asks).1) (f.looks_ahead looks)),
+      (refl, subst (λ z. IsAhead z v.clerk.taken) (sym (f.asks asks).1) (f.looks_ahead looks).2),
     )
 
 abbrev AheadSo : State (Unit {0}) View → ℕ → View → ℕ → Bool → Type 0
@@ -715,24 +778,23 @@ ahead_so s r id v may no_answer at b is =
     let n_is : n ≡ last_of l.asked = ap (λ z. get_or z 0 0) r.words in
     let asked : turn_of n ≡ length l.asked = ap turn_of n_is ∙ c.asked in
     let w = at_clerk v (record { taken = if b then v.clerk.taken ++ n ∷ [] else v.clerk.taken; answered = v.clerk.answered; looks = suc v.clerk.looks; last = n; told = v.clerk.told }) in
-    let mine : ViewFits r.terminal r.clerk l id w = record {
+    let mine : ViewFits r.holders l id w = record {
       asks = f.asks;
       answers = λ k. off (sym no_answer ∙ k);
-      looks_ahead = λ k. taken_more l.asked v.clerk.taken n b n_is asked (f.looks_ahead k) is;
+      looks_ahead = λ k. let y = f.looks_ahead k in (y.0, y.1, taken_more l.asked v.clerk.taken n b n_is asked y.2 is);
       told_answers = f.told_answers;
       told_asks = f.told_asks;
       noted = f.noted;
     } in (
       record {
-        terminal = r.terminal;
-        clerk = r.clerk;
+        holders = r.holders;
         lists = l;
         words = loaded (last_of l.asked) (last_of l.answered) s.words 0 (omega arith) r.words;
         in_order = r.in_order;
-        views = fit_set r.terminal r.clerk l s.views id w mine (λ j u apart e. r.views j u e);
+        views = fit_set r.holders l s.views id w mine (λ j u apart e. r.views j u e);
       },
       λ e. let above : turn_of (last_of v.clerk.taken) < turn_of n = lt_of _ _ (is ∙ e) in subst IsAskWord (sym n_is) (All-last_of IsAskWord l.asked o.asks_spelled (omega arith)),
-      taken_last l.asked v.clerk.taken n b o.turns n_is asked (f.looks_ahead may) is,
+      taken_last l.asked v.clerk.taken n b o.turns n_is asked (f.looks_ahead may).2 is,
     )
   where
     taken_last : (asked taken : List ℕ) (n : ℕ) (b : Bool) → CountTurns 1 asked → n ≡ last_of asked → turn_of n ≡ length asked → IsAhead asked taken → nat_lt (turn_of (last_of taken)) (turn_of n) ≡ b

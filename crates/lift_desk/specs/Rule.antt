@@ -1,7 +1,7 @@
 -- The rule of one terminal's table: its two words, what the terminal knows, and what the clerk
 -- knows.
-use Rattle.std.specs.Prelude.{◌≡◌, ◌≢◌, ℕ, suc, ◌≤◌, true, false, List, [], ◌∷◌, map, length, All}
-use Rattle.std.specs.Prelude.{Contains}
+use Rattle.std.specs.Prelude.{◌≡◌, ◌≢◌, ℕ, suc, ◌≤◌, Bool, true, false, List, [], ◌∷◌, map, length}
+use Rattle.std.specs.Prelude.{All, Contains}
 use Rattle.std.specs.List.Sorted.{IsStrictlyIncreasing}
 use mathlib.Core.List.{IsPrefix}
 use mathlib.Core.Option.{some}
@@ -25,6 +25,7 @@ blank = record {
   asks = false;
   answers = false;
   looks_ahead = false;
+  lends = false;
   terminal = no_asks;
   clerk = no_answers;
   noted = 0;
@@ -39,6 +40,13 @@ clerk_view = record blank { answers = true }
 -- the first seat, before it is split into the terminal's and the clerk's
 abbrev pub opening_view : View
 opening_view = record blank { asks = true; answers = true }
+
+-- the clerk's seat while another one looks ahead of it, and when that one was joined in again
+abbrev pub lending : View → View
+lending v = record v { lends = true }
+
+abbrev pub having_back : View → View
+having_back v = record v { lends = false }
 
 -- what a seat that looks ahead of the clerk begins with: what the clerk took and was told of
 abbrev pub taken_only : ClerkView → ClerkView
@@ -68,7 +76,8 @@ terminal_part v words = record terminal_view { terminal = record v.terminal { to
 
 -- the clerk's part of it, which is told that these words were asked
 abbrev pub clerk_part : View → List ℕ → View
-clerk_part v words = record clerk_view { clerk = record v.clerk { told = words } }
+clerk_part v words =
+    record clerk_view { lends = v.lends; clerk = record v.clerk { told = words } }
 
 -- the part of it that looks ahead of the clerk, which is told what the terminal has asked
 abbrev pub ahead_part : View → View
@@ -108,24 +117,33 @@ pub record IsAhead (asked taken : List ℕ) : Type 0 where
   pub asked_all : All (Contains asked) taken
   pub rise : IsStrictlyIncreasing (map turn_of taken)
 
--- One seat at most stores asks and one answers, and what these know is all that there is. What a
--- seat was told began all of it, and still does. What it read in a note was asked
-pub record ViewFits (terminal clerk : ℕ) (l : Lists) (seat : ℕ) (v : View) : Type 0 where
-  pub asks : v.asks ≡ true → (seat ≡ terminal) × (v.terminal.asked ≡ l.asked)
+-- Which seats these are, by their numbers: the terminal's, the clerk's, and the one that looks ahead
+-- of the clerk while the clerk has lent it that right.
+pub record Holders : Type 0 where
+  pub terminal : ℕ
+  pub clerk : ℕ
+  pub ahead : ℕ
+  pub lent : Bool
+
+-- One seat at most stores asks and one answers, and what these know is all that there is. One at
+-- most looks ahead, and only while the clerk's knows that it lends. What a seat was told began all
+-- of it, and still does. What it read in a note was asked
+pub record ViewFits (who : Holders) (l : Lists) (seat : ℕ) (v : View) : Type 0 where
+  pub asks : v.asks ≡ true → (seat ≡ who.terminal) × (v.terminal.asked ≡ l.asked)
       × (v.terminal.heard ≡ l.heard)
-  pub answers : v.answers ≡ true
-      → (seat ≡ clerk) × (v.clerk.taken ≡ l.taken) × (v.clerk.answered ≡ l.answered)
-  pub looks_ahead : v.looks_ahead ≡ true → IsAhead l.asked v.clerk.taken
+  pub answers : v.answers ≡ true → (seat ≡ who.clerk) × (v.clerk.taken ≡ l.taken)
+      × (v.clerk.answered ≡ l.answered) × (v.lends ≡ who.lent)
+  pub looks_ahead : v.looks_ahead ≡ true
+      → (who.lent ≡ true) × (seat ≡ who.ahead) × IsAhead l.asked v.clerk.taken
   pub told_answers : IsPrefix v.terminal.told l.answered
   pub told_asks : IsPrefix v.clerk.told l.asked
   pub noted : v.noted ≢ 0 → Contains l.asked v.noted
 
 -- the two words are the last ask and the last answer
 pub record IsKept (s : State (Unit {0}) View) : Type 0 where
-  pub terminal : ℕ
-  pub clerk : ℕ
+  pub holders : Holders
   pub lists : Lists
   pub words : s.words ≡ last_of lists.asked ∷ last_of lists.answered ∷ []
   pub in_order : IsInOrder lists
   pub views : (seat : ℕ) (v : View) → get_elem? s.views seat ≡ some v
-      → ViewFits terminal clerk lists seat v
+      → ViewFits holders lists seat v

@@ -114,7 +114,8 @@ impl AheadPlace {
     }
 
     pub(crate) fn into_looker(self) -> Looker
-        ensures { place_of result ≡ self }
+        ensures same { place_of result ≡ self }
+        ensures ahead { self.seated ≡ true → result.view.looks_ahead ≡ true }
     {
         let AheadPlace { looker, turn: _ } = self;
         looker

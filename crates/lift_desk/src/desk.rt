@@ -18,6 +18,7 @@ ghost use Rattle.lift_desk.specs.Seats.{clerk_of, ahead_from, TakesAheadOf, AreS
 ghost use Rattle.lift_desk.specs.Seats.{LooksOnce, LookTells};
 
 use crate::ahead::AheadPlace;
+use crate::lending::{Lender, Lending, Whole};
 use crate::looker::{DeskTable, Looker};
 use crate::note::Note;
 use crate::place::Place;
@@ -49,13 +50,15 @@ impl Model for Desk {
     ghost invariant = { IsDesk };
 }
 
-/// The clerk's seats, one for each terminal. Contracts see what was taken and answered at each.
+/// The clerk's seats, one for each terminal. Contracts see what was taken and answered at each. At
+/// each terminal's table the clerk has the right to look ahead, or a seat of a `TakeSeat` has it until
+/// it is joined in again: by the table's rule no two have it, and this type says which it is.
 #[derive(Drop)]
-pub struct ClerkSeat {
-    places: ArrayVec<Place, MOST_TERMINALS>,
+pub struct ClerkSeat<L: Lending = Whole> {
+    places: ArrayVec<Place<L>, MOST_TERMINALS>,
 }
 
-impl Model for ClerkSeat {
+impl<L: Lending> Model for ClerkSeat<L> {
     ghost use Rattle.std.specs.Prelude.{List};
     ghost use Rattle.lift_desk.specs.Seats.{ClerkPlace, AllSeated};
 
@@ -66,7 +69,7 @@ impl Model for ClerkSeat {
     ghost invariant = { λ s. AllSeated s.places.items };
 }
 
-impl ClerkSeat {
+impl<L: Lending> ClerkSeat<L> {
     /// Whether the clerk took an ask of the terminal that it has not answered.
     pub fn owes(&self, terminal: Terminal) -> bool
         requires { terminal < length self.now }
@@ -129,7 +132,7 @@ impl Desk {
     {
         let mut tables = with_room(alloc, terminals)?;
         let mut seats = with_room(alloc, terminals)?;
-        let mut places: ArrayVec<Place, MOST_TERMINALS> = ArrayVec::new();
+        let mut places: ArrayVec<Place<Whole>, MOST_TERMINALS> = ArrayVec::new();
         for t in 0..terminals {
             let terminal = Terminal::new(t as u8).unwrap();
             let (table, first, second) = new_table(alloc)?;
@@ -192,7 +195,7 @@ impl Desk {
     /// Looks once for an ask of the terminal that is new to the clerk.
     // (each turn looks at each terminal)
     #[inline(always)]
-    pub fn look(&self, clerk: &mut ClerkSeat, terminal: Terminal) -> Option<Ask>
+    pub fn look<L: Lending>(&self, clerk: &mut ClerkSeat<L>, terminal: Terminal) -> Option<Ask>
         requires clerk { IsClerkOf self.now clerk.old }
         requires terminal { terminal < length self.now }
         ensures looked { LooksOnce TakesOf clerk.old terminal clerk.new result }
@@ -207,7 +210,12 @@ impl Desk {
 
     /// Looks once for an ask of the terminal that is new to the clerk, by a seat that reads a note
     /// first: an ask that a seat ahead took is found, where it is new to the clerk too.
-    pub fn look_for(&self, clerk: &mut ClerkSeat, terminal: Terminal, note: Note) -> Option<Ask>
+    pub fn look_for<L: Lending>(
+        &self,
+        clerk: &mut ClerkSeat<L>,
+        terminal: Terminal,
+        note: Note,
+    ) -> Option<Ask>
         requires clerk { IsClerkOf self.now clerk.old }
         requires terminal { terminal < length self.now }
         requires note { IsNoteOf self.now terminal note }
@@ -226,7 +234,7 @@ impl Desk {
     }
 
     /// Stores the answer to the last ask that the clerk took of the terminal.
-    pub fn answer(&self, clerk: &mut ClerkSeat, terminal: Terminal, reply: Reply)
+    pub fn answer<L: Lending>(&self, clerk: &mut ClerkSeat<L>, terminal: Terminal, reply: Reply)
         requires clerk { IsClerkOf self.now clerk.old }
         requires terminal { terminal < length self.now }
         requires owes { Owes (view_at clerk.old terminal) }
@@ -247,7 +255,7 @@ impl Desk {
     /// Tells the clerk what the terminal has asked so far, and the terminal what the clerk has
     /// answered so far: after a later look that ask is taken, and after a later `hear` that
     /// answer is heard. It stores nothing, and gives nothing of what it loads.
-    pub fn tell(&self, seat: &mut Seat, clerk: &mut ClerkSeat)
+    pub fn tell<L: Lending>(&self, seat: &mut Seat, clerk: &mut ClerkSeat<L>)
         requires seat { IsSeatOf self.now seat.old }
         requires clerk { IsClerkOf self.now clerk.old }
         ensures seat { seat.new ≡ seat_with seat.old
@@ -269,7 +277,7 @@ impl Desk {
 
     /// Looks once at the terminal's answer word, and says whether it is the last word that the
     /// clerk stored there, 0 for none. It always is, since nobody else stores there.
-    pub fn meet(&self, seat: &mut Seat, clerk: &mut ClerkSeat) -> bool
+    pub fn meet<L: Lending>(&self, seat: &mut Seat, clerk: &mut ClerkSeat<L>) -> bool
         requires seat { IsSeatOf self.now seat.old }
         requires clerk { IsClerkOf self.now clerk.old }
         ensures looked { seat.new ≡ seat_with seat.old
@@ -287,21 +295,24 @@ impl Desk {
     }
 
     /// Cuts off seats that take asks ahead of the answers. They begin with what the clerk took and
-    /// was told of, and the clerk keeps the right to answer.
-    pub fn split(&self, clerk: ClerkSeat) -> (TakeSeat, ClerkSeat)
+    /// was told of, and the clerk keeps the right to answer. Only a clerk that has lent nothing can
+    /// be split: so at most one seat of each terminal looks ahead.
+    pub fn split(&self, clerk: ClerkSeat) -> (TakeSeat, ClerkSeat<Lender>)
         requires { IsClerkOf self.now clerk }
         ensures ahead { result.0 ≡ ahead_from clerk }
         ensures clerk { result.1 ≡ clerk }
         ensures stays { IsClerkOf self.now result.0 }
     {
-        let ClerkSeat { mut places } = clerk;
+        let ClerkSeat { places } = clerk;
         let mut ahead: ArrayVec<AheadPlace, MOST_TERMINALS> = ArrayVec::new();
-        for at in 0..places.len() {
-            let table = &self.tables[at];
-            let place = &mut places[at];
-            ahead.push(place.split(table));
+        let mut behind: ArrayVec<Place<Lender>, MOST_TERMINALS> = ArrayVec::new();
+        for place in places {
+            let table = &self.tables[behind.len()];
+            let (first, second) = place.split(table);
+            ahead.push(first);
+            behind.push(second);
         }
-        (TakeSeat { places: ahead }, ClerkSeat { places })
+        (TakeSeat { places: ahead }, ClerkSeat { places: behind })
     }
 
     /// Looks once for an ask of the terminal that is new to these seats.
@@ -368,20 +379,22 @@ impl Desk {
         place.note(table)
     }
 
-    /// Gives the seats ahead back to the clerk.
-    pub fn join(&self, ahead: TakeSeat, clerk: ClerkSeat) -> ClerkSeat
+    /// Gives the seats ahead back to the clerk, of each terminal the one that looks ahead there: only
+    /// with it the clerk has back what it lent.
+    pub fn join(&self, ahead: TakeSeat, clerk: ClerkSeat<Lender>) -> ClerkSeat
         requires ahead { IsClerkOf self.now ahead }
         requires clerk { IsClerkOf self.now clerk }
         ensures { result ≡ clerk }
     {
-        let TakeSeat { places: mut seats } = ahead;
-        let ClerkSeat { mut places } = clerk;
-        while let Some(seat) = seats.pop() {
-            let at = seats.len();
-            let table = &self.tables[at];
-            let place = &mut places[at];
-            place.join(table, seat);
+        let TakeSeat { places: seats } = ahead;
+        let ClerkSeat { places } = clerk;
+        let mut seats = seats.into_iter();
+        let mut whole: ArrayVec<Place<Whole>, MOST_TERMINALS> = ArrayVec::new();
+        for place in places {
+            let table = &self.tables[whole.len()];
+            let seat = seats.next().unwrap();
+            whole.push(place.join(table, seat));
         }
-        ClerkSeat { places }
+        ClerkSeat { places: whole }
     }
 }

@@ -4,6 +4,7 @@
 mod ahead;
 mod desk;
 mod laws;
+mod lending;
 mod looker;
 mod note;
 mod place;
@@ -12,7 +13,8 @@ mod view;
 mod words;
 
 pub use desk::{ClerkSeat, Desk, DeskParts, TakeSeat};
-pub use laws::words_are_asks_and_replies;
+pub use laws::{seats_agree, words_are_asks_and_replies};
+pub use lending::{Lender, Lending, Whole};
 pub use note::Note;
 pub use seat::{AskRefusal, Seat};
 pub use view::{ClerkView, DeskRule, TerminalView, View};

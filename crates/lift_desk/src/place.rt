@@ -12,26 +12,29 @@ ghost use Rattle.lift_desk.specs.Seats.{ClerkPlace, placed_at, Owes, TakesOf};
 ghost use Rattle.lift_desk.specs.Seats.{Says, seat_with, LookTells};
 
 use crate::ahead::AheadPlace;
+use crate::lending::{Lender, Lending, Whole};
 use crate::looker::{ANSWER, ASK, DeskTable, Looker};
 use crate::note::Note;
 use crate::seat::Seat;
 use crate::view::{AheadSeats, AnswerStore, AskLoad, Notes};
 use crate::words::{Ask, read_ask, reply_word, turn_of};
 use lift_base::{Number, Reply};
-use std::marker::Model;
+use std::marker::{Model, PhantomData};
 use std::mem;
 
-/// The clerk's seat at a terminal's table, or a stand-in for it.
+/// The clerk's seat at a terminal's table, or a stand-in for it. By its type it has lent the right to
+/// look ahead of it or not.
 #[derive(Drop)]
-pub struct Place {
+pub struct Place<L: Lending> {
     looker: Looker,
     turn: u32,
     number: Number,
     owes: bool,
     answered: u64,
+    lending: PhantomData<L>,
 }
 
-impl Model for Place {
+impl<L: Lending> Model for Place<L> {
     ghost use Rattle.lift_desk.specs.Seats.{ClerkPlace, place_of};
 
     ghost Value = { ClerkPlace };
@@ -40,10 +43,10 @@ impl Model for Place {
 
     ghost use Rattle.lift_desk.specs.PlaceInside.{IsPlaced};
 
-    ghost invariant = { IsPlaced };
+    ghost invariant = { λ p. IsPlaced L.lends p };
 }
 
-impl Default for Place {
+impl<L: Lending> Default for Place<L> {
     ghost is_default = { λ p. p.seated ≡ false };
 
     fn default() -> Self {
@@ -53,6 +56,7 @@ impl Default for Place {
             number: Number::default(),
             owes: false,
             answered: 0,
+            lending: PhantomData,
         }
     }
 }
@@ -73,8 +77,8 @@ fn read_note(table: &DeskTable, looker: &mut Looker, note: Option<Note>)
     }
 }
 
-impl Place {
-    pub(crate) fn new(looker: Looker) -> Place
+impl Place<Whole> {
+    pub(crate) fn new(looker: Looker) -> Self
         requires { (looker.seated ≡ true) × (looker.view ≡ clerk_view) }
         ensures { result ≡ placed_at looker.table no_answers }
     {
@@ -84,9 +88,69 @@ impl Place {
             number: Number::default(),
             owes: false,
             answered: 0,
+            lending: PhantomData,
         }
     }
 
+    // A seat ahead of this one, which begins with what this one took.
+    pub(crate) fn split(self, table: &DeskTable) -> (AheadPlace, Place<Lender>)
+        requires table { (self.table ≡ table.now.shared.table_id)
+            × (table.now.shared.table_id.words ≡ 2) }
+        requires seated { self.seated ≡ true }
+        ensures ahead { result.0 ≡ placed_at self.table (taken_only self.view) }
+        ensures same { result.1 ≡ self }
+    {
+        let Place {
+            mut looker,
+            turn,
+            number,
+            owes,
+            answered,
+            lending: _,
+        } = self;
+        let ahead = AheadPlace::new(looker.split::<AheadSeats>(table), turn);
+        let place = Place {
+            looker,
+            turn,
+            number,
+            owes,
+            answered,
+            lending: PhantomData,
+        };
+        (ahead, place)
+    }
+}
+
+impl Place<Lender> {
+    // Takes back the seat ahead of this one.
+    pub(crate) fn join(self, table: &DeskTable, ahead: AheadPlace) -> Place<Whole>
+        requires table { (self.table ≡ table.now.shared.table_id)
+            × (table.now.shared.table_id.words ≡ 2) }
+        requires seated { (self.seated ≡ true) × (ahead.seated ≡ true)
+            × (ahead.table ≡ self.table) }
+        ensures { result ≡ self }
+    {
+        let Place {
+            mut looker,
+            turn,
+            number,
+            owes,
+            answered,
+            lending: _,
+        } = self;
+        looker.join::<AheadSeats>(table, ahead.into_looker());
+        Place {
+            looker,
+            turn,
+            number,
+            owes,
+            answered,
+            lending: PhantomData,
+        }
+    }
+}
+
+impl<L: Lending> Place<L> {
     // Reads the note of an ask that was taken ahead, if there is one, and then looks once.
     #[inline(always)]
     pub(crate) fn look(&mut self, table: &DeskTable, note: Option<Note>) -> Option<Ask>
@@ -168,28 +232,5 @@ impl Place {
         let (word, looker) = seat.meet(table, looker);
         self.looker = looker;
         word == self.answered
-    }
-
-    // A seat ahead of this one, which begins with what this one took.
-    pub(crate) fn split(&mut self, table: &DeskTable) -> AheadPlace
-        requires table { (self.old.table ≡ table.now.shared.table_id)
-            × (table.now.shared.table_id.words ≡ 2) }
-        requires seated { self.old.seated ≡ true }
-        ensures same { self.new ≡ self.old }
-        ensures ahead { result ≡ placed_at self.old.table (taken_only self.old.view) }
-    {
-        let ahead = self.looker.split::<AheadSeats>(table);
-        AheadPlace::new(ahead, self.turn)
-    }
-
-    // Takes back the seat ahead of this one.
-    pub(crate) fn join(&mut self, table: &DeskTable, ahead: AheadPlace)
-        requires table { (self.old.table ≡ table.now.shared.table_id)
-            × (table.now.shared.table_id.words ≡ 2) }
-        requires seated { (self.old.seated ≡ true) × (ahead.seated ≡ true)
-            × (ahead.table ≡ self.old.table) }
-        ensures { self.new ≡ self.old }
-    {
-        self.looker.join::<AheadSeats>(table, ahead.into_looker());
     }
 }

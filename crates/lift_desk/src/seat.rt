@@ -142,7 +142,7 @@ impl Seat {
         requires table { (self.old.table ≡ table.now.shared.table_id)
             × (table.now.shared.table_id.words ≡ 2) }
         requires clerk { (clerk.table ≡ self.old.table) × (clerk.seated ≡ true)
-            × (clerk.view.answers ≡ true) }
+            × (clerk.view.answers ≡ true) × (clerk.view.looks_ahead ≡ false) }
         ensures told { self.new ≡ seat_with self.old
             (with_told_answers self.old.view clerk.view.clerk.answered) }
         ensures clerk { result ≡ record clerk { view = clerk_part clerk.view self.old.view.asked } }
@@ -159,7 +159,7 @@ impl Seat {
         requires table { (self.old.table ≡ table.now.shared.table_id)
             × (table.now.shared.table_id.words ≡ 2) }
         requires clerk { (clerk.table ≡ self.old.table) × (clerk.seated ≡ true)
-            × (clerk.view.answers ≡ true) }
+            × (clerk.view.answers ≡ true) × (clerk.view.looks_ahead ≡ false) }
         ensures looked { self.new ≡ seat_with self.old (with_look self.old.view result.0) }
         ensures last { result.0 ≡ last_of clerk.view.clerk.answered }
         ensures heard { IsPrefix self.old.view.heard clerk.view.clerk.answered }

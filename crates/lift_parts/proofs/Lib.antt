@@ -6,3 +6,4 @@ pub mod TiedFlush
 pub mod TiedTerminals
 pub mod GoesOn
 pub mod Keeps
+pub mod OrderedAhead

@@ -1,6 +1,6 @@
 -- What the machine of events is while the two parts run, and which of its events their turns are.
 use Rattle.lift_clerk.specs.TakenAndAnswered.{answer_words, ask_of}
-use Rattle.std.specs.Prelude.{ℕ, ◌≡◌, ◌≢◌, ◌≤◌, ◌+◌, Bool, true, false, List, [], ◌∷◌, ◌++◌, length}
+use Rattle.std.specs.Prelude.{ℕ, ◌≡◌, ◌≢◌, ◌<◌, ◌≤◌, ◌+◌, Bool, true, false, List, [], ◌∷◌, ◌++◌, length}
 use Rattle.std.specs.Prelude.{map, filter, count_by, All, IsTrue, Some, Option, Result, Ok, Err}
 use Rattle.std.specs.List.{flat_map}
 use Rattle.lift_base.specs.declared.history.Entry.{Entry}
@@ -9,6 +9,7 @@ use Rattle.lift_journal.specs.declared.fault.JournalFault.TheVariants.{Disk, Bro
 use Rattle.lift_desk.specs.declared.view.ClerkView.{ClerkView}
 use Rattle.lift_desk.specs.Rule.{IsAhead}
 use Rattle.lift_desk.specs.Spelled.{ask_words, IsAsk}
+use Rattle.lift_desk.specs.Agree.{KnowAtOnce}
 use Rattle.lift_desk.specs.Seats.{ClerkPlace, view_at}
 use Rattle.lift_policy.specs.Eligible.{Choice}
 use Rattle.lift_policy.specs.declared.command.Command.{Command}
@@ -26,6 +27,7 @@ use Rattle.lift_world.specs.Relay.{IsBetweenScans, IsBetweenFlushes, IsBrokenBet
 use Rattle.lift_world.specs.Relay.{allocator_events, flusher_events, failing_flush, broken_flush}
 use Rattle.lift_clerk.specs.declared.counts.Counts.{Counts}
 use Rattle.lift_clerk.specs.Clerk.{ClerkState}
+use Rattle.lift_clerk.specs.Group.{Terminals, ShowsTerminal}
 use Rattle.lift_clerk.specs.Visits.{commands_of}
 use Rattle.lift_clerk.specs.Machine.{IsReached, IsMachineOf}
 use Rattle.lift_parts.specs.declared.taken.NotedCommand.{NotedCommand}
@@ -200,6 +202,19 @@ pub record TakesAsked (asked : List Command) (terminal : ℕ) (view : ClerkView)
 
 abbrev pub AllTakesAsked : List Command → List ClerkPlace → Type 0
 AllTakesAsked asked places = (terminal : ℕ) → TakesAsked asked terminal (view_at places terminal)
+
+-- At one moment, while the rule of each terminal's table holds: what the terminal's seat there knows,
+-- and what the one ahead of the clerk does, whoever holds the two.
+abbrev pub AheadAtOnce : List ClerkPlace → Terminals → Type 0
+AheadAtOnce places terminals = (terminal : ℕ) → terminal < length places
+    → KnowAtOnce (λ v. v.looks_ahead) (terminals terminal) (view_at places terminal)
+
+-- So what the allocator took is what the desk's rule says, where each terminal asked what it did in
+-- this world.
+abbrev pub RuleOrdersAhead : Type 0
+RuleOrdersAhead = (w : World) (terminals : Terminals) (places : List ClerkPlace)
+    → ((terminal : ℕ) → ShowsTerminal w terminal (terminals terminal))
+    → AheadAtOnce places terminals → AllTakesAsked w.asked places
 
 -- The line holds at most four batches: of those that were sent at most so many weren't received.
 abbrev pub HasRoom : {D P : Type 0} → AllocatorState P → FlusherState D → Type 0

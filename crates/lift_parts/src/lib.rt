@@ -9,5 +9,6 @@ mod tie;
 pub use counts::FlushCounts;
 pub use taken::NotedCommand;
 pub use tie::{
-    flushes_are_steps, parts_are_clerks, relays_are_the_machines, turns_keep_what_was_given,
+    flushes_are_steps, parts_are_clerks, relays_are_the_machines, rule_orders_ahead,
+    turns_keep_what_was_given,
 };

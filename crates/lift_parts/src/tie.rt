@@ -5,13 +5,14 @@ ghost use Rattle.lift_parts.specs.History.{FlushesStand, TurnsGoOn, SplitsGoOn, 
 ghost use Rattle.lift_parts.specs.Tie.{SplitsAreNoEvents, RejoiningsAreNoEvents};
 ghost use Rattle.lift_parts.specs.Tie.{IdleTurnsAreNoEvents, TerminalsKeepParts};
 ghost use Rattle.lift_parts.specs.Tie.{SendingsAreNoEvents, TellingsAreNoEvents};
-ghost use Rattle.lift_parts.specs.Tie.{QueuedHaveRoom, ScansAreAllocations};
+ghost use Rattle.lift_parts.specs.Tie.{QueuedHaveRoom, RuleOrdersAhead, ScansAreAllocations};
 ghost use Rattle.lift_parts.specs.Tie.{FlushesAreFlushes, FailedFlushesAreFailures};
 ghost use Rattle.lift_parts.specs.Tie.{BrokenFlushesAreBroken};
 ghost use Rattle.lift_parts.specs.Keeping.{TurnsKeep};
 ghost use Rattle.lift_parts.specs.Past.{FlushesLeadOn, SplitsKeepPasts, JoinedKeepPasts};
 
 use lift_clerk::{histories_are_runs, pasts_go_on};
+use lift_desk::seats_agree;
 use lift_disk::Disk;
 use lift_policy::Policy;
 use lift_register::registers_join;
@@ -30,6 +31,14 @@ fn relay_laws()
     parts_interleave();
     terminals_pass();
     registers_join();
+}
+
+/// What a scan's law wants of what the allocator took is what the desk's rule says of a terminal's seat
+/// and the one ahead of the clerk, at each moment and whoever holds them.
+pub fn rule_orders_ahead()
+    ensures { RuleOrdersAhead }
+{
+    seats_agree();
 }
 
 /// The two parts are in some world of the machine between any two turns of each. A split of a clerk

@@ -25,7 +25,7 @@ use crate::places::with_both;
 use crate::relay::Key;
 use crate::settling::Settler;
 use crate::witness::{HeardBy, Witness};
-use lift_desk::{ClerkSeat, Desk, Seat};
+use lift_desk::{ClerkSeat, Desk, Lender, Seat};
 use lift_disk::Disk;
 use lift_keeper::{KeeperFault, Writer};
 use lift_parts::{FlushCounts, flushes_are_steps};
@@ -60,7 +60,7 @@ impl<'d, 'b, D: Disk, K> Flusher<'d, 'b, D, K> {
     /// The part that makes safe of a clerk that was just split, at the end of a line.
     pub(crate) fn new(
         desk: &'d Desk,
-        seat: ClerkSeat,
+        seat: ClerkSeat<Lender>,
         writer: Writer<'b, D>,
         end: ReceiveEnd,
     ) -> Self

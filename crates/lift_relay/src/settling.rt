@@ -19,7 +19,7 @@ use arrayvec::ArrayVec;
 use lift_base::{MOST_ENTRIES, Terminal};
 use lift_clerk::{Clerk, DueAnswer, answer_all};
 use lift_decider::Decider;
-use lift_desk::{ClerkSeat, Desk, Seat, TakeSeat};
+use lift_desk::{ClerkSeat, Desk, Lender, Seat, TakeSeat};
 use lift_disk::Disk;
 use lift_keeper::{Keeper, KeeperFault, Writer};
 use lift_parts::{FlushCounts, NotedCommand};
@@ -34,7 +34,7 @@ use std::marker::{Model, PhantomData};
 #[derive(Drop)]
 pub struct Settler<'d, 'b, D: Disk, K> {
     desk: &'d Desk,
-    seat: ClerkSeat,
+    seat: ClerkSeat<Lender>,
     writer: Writer<'b, D>,
     key: PhantomData<K>,
 }
@@ -56,7 +56,7 @@ impl<'d, 'b, D: Disk, K> Model for Settler<'d, 'b, D, K> {
 /// note says. Gives the answers that these terminals are owed: each command's reply.
 fn look_again(
     desk: &Desk,
-    seat: &mut ClerkSeat,
+    seat: &mut ClerkSeat<Lender>,
     commands: ArrayVec<NotedCommand, MOST_ENTRIES>,
 ) -> ArrayVec<DueAnswer, MOST_ENTRIES>
     requires seated { IsClerkOf desk.now seat.old }
@@ -83,7 +83,7 @@ fn look_again(
 }
 
 /// Whether an ask that these seats took is unanswered, at some terminal.
-fn owes(desk: &Desk, seat: &ClerkSeat) -> bool
+fn owes(desk: &Desk, seat: &ClerkSeat<Lender>) -> bool
     requires { IsClerkOf desk.now seat.now }
     ensures { (result ≡ false) ↔ OwesNothing seat.now }
 {
@@ -114,7 +114,7 @@ fn commit_nothing<D: Disk>(writer: &mut Writer<'_, D>) -> Result<FlushCounts, Ke
 
 impl<'d, 'b, D: Disk, K> Settler<'d, 'b, D, K> {
     /// The seats that answer, and the writer.
-    pub(crate) fn new(desk: &'d Desk, seat: ClerkSeat, writer: Writer<'b, D>) -> Self
+    pub(crate) fn new(desk: &'d Desk, seat: ClerkSeat<Lender>, writer: Writer<'b, D>) -> Self
         requires seated { IsClerkOf desk.now seat }
         ensures { result ≡ record { desk = desk.now; seat = seat; writer = writer.entry } }
     {

@@ -1,10 +1,10 @@
 -- The clerk's places after one of them has changed.
-use Rattle.std.proofs.Common.{◌≡◌, ◌≢◌, ℕ, zero, suc, ◌+◌, ◌<◌, ◌≤◌, true, List, [], ◌∷◌, ◌++◌, map}
+use Rattle.std.proofs.Common.{◌≡◌, ◌≢◌, ℕ, zero, suc, ◌+◌, ◌<◌, true, List, [], ◌∷◌, ◌++◌, map}
 use Rattle.std.proofs.Common.{take, drop, length, set, get_or, refl, sym, ap, ◌∙◌, subst, arith}
 use Rattle.std.proofs.Common.{length-set, add-zero, zero-add, Some}
 use Rattle.std.specs.Prelude.{slice_get}
 use Rattle.std.specs.List.{refill}
-use Rattle.std.proofs.lemmas.List.{length-map, length-take, get_or-take, set-get_or, take_all}
+use Rattle.std.proofs.lemmas.List.{length-map}
 use Rattle.atomic_table.specs.Seated.{TableId}
 use Rattle.lift_desk.specs.Seats.{ClerkPlace, no_place, no_table, seats_from, clerk_of, ahead_from}
 use Rattle.lift_desk.specs.Seats.{view_at, clerk_with, placed_at, IsClerkOf, AreSeatsOf}
@@ -173,67 +173,11 @@ ahead_seated (p ∷ clerk) zero h = refl
 ahead_seated (p ∷ clerk) (suc k) h = ahead_seated clerk k (omega arith)
 
 -- the seats ahead of all the clerk's places are at the same tables
-pub ahead_at : (desk : List TableId) (places ahead : List ClerkPlace) (n : ℕ)
-    → ahead ≡ ahead_from (take n places) → length places ≤ n → IsClerkOf desk places
-    → IsClerkOf desk ahead
-ahead_at desk places ahead n e whole is =
-    ap (map (λ (p : ClerkPlace). p.table))
-    (e ∙ ap ahead_from (take_all n places whole)) ∙ tables_ahead places ∙ is
+pub ahead_at : (desk : List TableId) (places ahead : List ClerkPlace) → ahead ≡ ahead_from places
+    → IsClerkOf desk places → IsClerkOf desk ahead
+ahead_at desk places ahead e is = ap (map (λ (p : ClerkPlace). p.table)) e ∙ tables_ahead places ∙ is
   where
     tables_ahead : (l : List ClerkPlace)
         → map (λ (p : ClerkPlace). p.table) (ahead_from l) ≡ map (λ (p : ClerkPlace). p.table) l
     tables_ahead [] = refl
     tables_ahead (p ∷ l) = ap (λ ts. p.table ∷ ts) (tables_ahead l)
-
--- the last of some places, which stand at the first tables
-pub last_table : (desk : List TableId) (seats : List ClerkPlace) (s : ClerkPlace) (n : ℕ)
-    → map (λ (p : ClerkPlace). p.table) seats ≡ take (length seats) desk
-    → Some s ≡ slice_get seats n → n < length seats → length seats ≤ length desk
-    → s.table ≡ get_or desk n no_table
-last_table desk [] s n e is h fits = absurd (omega arith)
-last_table [] (p ∷ seats) s n e is h fits = absurd (omega arith)
-last_table (z ∷ desk) (p ∷ seats) s zero e is h fits = let head : p.table ≡ z = cc in
-    let same : s ≡ p = cc in ap (λ (q : ClerkPlace). q.table) same ∙ head
-last_table (z ∷ desk) (p ∷ seats) s (suc n) e is h fits =
-    let rest : map (λ (p : ClerkPlace). p.table) seats ≡ take (length seats) desk = cc in
-    last_table desk seats s n rest is (omega arith) (omega arith)
-
-pub last_seated : (seats : List ClerkPlace) (s : ClerkPlace) (n : ℕ) → AllSeated seats
-    → Some s ≡ slice_get seats n → n < length seats → s.seated ≡ true
-last_seated [] s n all is h = absurd (omega arith)
-last_seated (p ∷ seats) s zero all is h = let same : s ≡ p = cc in
-    ap (λ (q : ClerkPlace). q.seated) same ∙ all zero h
-last_seated (p ∷ seats) s (suc n) all is h =
-    last_seated seats s n (λ k below. all (suc k) (omega arith)) is (omega arith)
-
--- without the last of them
-pub tables_fewer : (desk : List TableId) (seats : List ClerkPlace) (n : ℕ) → n ≤ length seats
-    → map (λ (p : ClerkPlace). p.table) seats ≡ take (length seats) desk
-    → map (λ (p : ClerkPlace). p.table) (take n seats) ≡ take (length (take n seats)) desk
-tables_fewer desk seats zero h e = refl
-tables_fewer desk [] (suc n) h e = absurd (omega arith)
-tables_fewer [] (p ∷ seats) (suc n) h e = absurd (cc)
-tables_fewer (z ∷ desk) (p ∷ seats) (suc n) h e =
-    let head : p.table ≡ z = cc in
-    let rest : map (λ (p : ClerkPlace). p.table) seats ≡ take (length seats) desk = cc in
-    let r = tables_fewer desk seats n (omega arith) rest in
-    λ i. head i ∷ r i
-
-pub seated_fewer : (seats : List ClerkPlace) (n : ℕ) → AllSeated seats → AllSeated (take n seats)
-seated_fewer seats n all k h =
-    ap (λ (p : ClerkPlace). p.seated)
-    (get_or-take n seats k no_place (omega (arith, length-take n seats))) ∙ all k
-    (omega (arith, length-take n seats))
-
-pub table_at_desk : {X : Type 0} (f : X
-    → TableId) (desk : List TableId) (tables : List X) (i : ℕ) (t : X) → map f tables ≡ desk
-    → i < length tables → t ≡ get_or tables i t → get_or desk i no_table ≡ f t
-table_at_desk f desk tables i t e h is =
-    ap (λ l. get_or l i no_table) (sym e) ∙ map_at f tables i no_table t h ∙ ap f (sym is)
-
--- a place that is put back as it was
-pub refill_same : (places now : List ClerkPlace) (i : ℕ) (p q : ClerkPlace) → now ≡ places
-    → q ≡ get_or now i q → p ≡ q → refill (length places) places (set now i p) ≡ places
-refill_same places now i p q e is same =
-    refill_set places now i p e ∙ ap (λ z.
-    set places i z) (same ∙ is ∙ ap (λ l. get_or l i q) e) ∙ set-get_or places i q

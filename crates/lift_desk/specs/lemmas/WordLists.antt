@@ -179,6 +179,13 @@ IsAhead-prefix asked taken turns p =
       rise = turns_rise 1 taken (CountTurns-prefix 1 taken asked p turns);
     }
 
+-- nothing was taken
+pub IsAhead-nothing : (asked : List ℕ) → IsAhead asked []
+IsAhead-nothing asked = record {
+  asked_all = λ k d below. absurd (omega arith);
+  rise = λ i below. absurd (omega arith);
+}
+
 rise_push : (xs : List ℕ) (x : ℕ) → IsStrictlyIncreasing (map turn_of xs)
     → turn_of (last_of xs) < turn_of x → IsStrictlyIncreasing (map turn_of (xs ++ x ∷ []))
 rise_push [] x h above i below = absurd (omega arith)

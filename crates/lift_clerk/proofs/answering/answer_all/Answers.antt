@@ -14,26 +14,18 @@ next : (answers items : List DueAnswer) (n : ℕ) (a : DueAnswer) → items ≡ 
 next answers items n a same inside is =
     drop_more answers n a inside ∙ ap (λ (x : DueAnswer). x ∷ drop (n + 1) answers) (ap (λ (l : List DueAnswer). get_or l n a) (sym same) ∙ sym is)
 
-pub answer-requires-clause-terminal : goal.answer-requires-clause-terminal
-answer-requires-clause-terminal c =
+pub answer-requires : goal.answer-requires
+answer-requires g c =
     let i = c.loop-place.invariant in
     let answers = c.args.answers.now.items in
     let a = c.index-deref-place.result in
     let end = c.len-place-end.ensures.value in
     let is = next answers c.deref.result.now c.loop-place.place a c.deref.ensures.0 (omega arith) c.index-deref-place.is in
-    (subst (λ (l : List DueAnswer). AreOwed c.args.desk.now c.loop-place.seat (terminals_in l)) is i.owed).0
-
-pub answer-requires-clause-owes : goal.answer-requires-clause-owes
-answer-requires-clause-owes c =
-    let i = c.loop-place.invariant in
-    let answers = c.args.answers.now.items in
-    let a = c.index-deref-place.result in
-    let end = c.len-place-end.ensures.value in
-    let is = next answers c.deref.result.now c.loop-place.place a c.deref.ensures.0 (omega arith) c.index-deref-place.is in
-    (subst (λ (l : List DueAnswer). AreOwed c.args.desk.now c.loop-place.seat (terminals_in l)) is i.owed).1
+    let owed = subst (λ (l : List DueAnswer). AreOwed c.args.desk.now c.loop-place.seat (terminals_in l)) is i.owed in
+    (omega arith, (i.seated, (owed.0, owed.1)))
 
 pub loop-place-preserved : goal.loop-place-preserved
-loop-place-preserved c =
+loop-place-preserved g c =
     let i = c.loop-place.invariant in
     let is_safe = c.args.is_safe in
     let answers = c.args.answers.now.items in
@@ -55,13 +47,13 @@ loop-place-preserved c =
     }
 
 pub returns-clause-stored : goal.returns-clause-stored
-returns-clause-stored c =
+returns-clause-stored g c =
     let end = c.len-place-end.ensures.value in
     let ended = c.loop-place-test.false in
     ap (λ (l : List DueAnswer). with_answers c.args.is_safe c.loop-place.seat l) (sym (drop_all c.loop-place.place c.args.answers.now.items (omega arith))) ∙ c.loop-place.invariant.stored
 
 pub returns-clause-in_range : goal.returns-clause-in_range
-returns-clause-in_range c =
+returns-clause-in_range g c =
     let end = c.len-place-end.ensures.value in
     let ended = c.loop-place-test.false in
     c.loop-place.invariant.in_range (subst (λ (l : List DueAnswer). All IsReply (replies_told c.args.is_safe l)) (sym (drop_all c.loop-place.place c.args.answers.now.items (omega arith))) (All-nil IsReply))

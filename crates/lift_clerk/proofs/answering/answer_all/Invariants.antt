@@ -5,7 +5,7 @@ use Rattle.lift_clerk.specs.Answering.{AreOwed, terminals_in, replies_told, with
 use Rattle.lift_clerk.proofs.answering.answer_all.Given as goal
 
 abbrev pub invariant-loop-place : goal.invariant-loop-place
-invariant-loop-place l = record {
+invariant-loop-place g l = record {
   -- the answers that are left
   owed : AreOwed l.desk l.seat (terminals_in (drop l.place l.answers.items));
   stored : with_answers l.is_safe l.seat (drop l.place l.answers.items) ≡ with_answers l.is_safe l.fn.seat l.answers.items;

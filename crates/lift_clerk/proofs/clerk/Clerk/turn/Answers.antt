@@ -1,4 +1,4 @@
-use Rattle.std.proofs.Common.{◌≡◌, inl, inr, true, false, length, refl, sym, ap, ◌∙◌, subst}
+use Rattle.std.proofs.Common.{◌≡◌, inl, inr, true, false, length, refl, sym, ap, ◌∙◌, subst, arith}
 use Rattle.std.specs.Prelude.{Ok, Err}
 use Rattle.lift_register.specs.Register.{register_of}
 use Rattle.lift_policy.specs.Step.{State}
@@ -127,15 +127,15 @@ returns-in-Err-clause-rests g c = λ was.
     (broken_turn s.desk.now (g.P.Policy.chooses s.parts.policy) old new now.seat between answers c.self.invariant.seated all c.answer_all-in-Err.ensures.stored c.answer_all-in-Err.ensures.in_range refl
     broken (same_keeper c.commit.new.self between c.in-Err.ensures.unmoved (c.in-Err.ensures.commits.rests (ap (λ (w : WriterView g.row.D.Denot). w.is_broken) writer ∙ broken))))
 
-pub answer_all-requires-clause-owed : goal.answer_all-requires-clause-owed
-answer_all-requires-clause-owed g c =
+pub answer_all-requires : goal.answer_all-requires
+answer_all-requires g c =
     let s = c.self.inside in
-    owes_all s.desk.now (g.P.Policy.chooses s.parts.policy) s.parts.seat c.scan_desk.new.scanner.seat s.parts.keeper c.scan_desk.new.scanner.keeper c.scan_desk.new.found.items c.self.invariant.seated c.scan_desk.ensures.1
+    (omega arith, (c.scan_desk.ensures.1.seated, owes_all s.desk.now (g.P.Policy.chooses s.parts.policy) s.parts.seat c.scan_desk.new.scanner.seat s.parts.keeper c.scan_desk.new.scanner.keeper c.scan_desk.new.found.items c.self.invariant.seated c.scan_desk.ensures.1))
 
-pub answer_all-requires-in-Err-clause-owed : goal.answer_all-requires-in-Err-clause-owed
-answer_all-requires-in-Err-clause-owed g c =
+pub answer_all-requires-in-Err : goal.answer_all-requires-in-Err
+answer_all-requires-in-Err g c =
     let s = c.self.inside in
-    owes_all s.desk.now (g.P.Policy.chooses s.parts.policy) s.parts.seat c.scan_desk.new.scanner.seat s.parts.keeper c.scan_desk.new.scanner.keeper c.scan_desk.new.found.items c.self.invariant.seated c.scan_desk.ensures.1
+    (omega arith, (c.scan_desk.ensures.1.seated, owes_all s.desk.now (g.P.Policy.chooses s.parts.policy) s.parts.seat c.scan_desk.new.scanner.seat s.parts.keeper c.scan_desk.new.scanner.keeper c.scan_desk.new.found.items c.self.invariant.seated c.scan_desk.ensures.1))
 
 pub returns-in-Ok-clause-turns : goal.returns-in-Ok-clause-turns
 returns-in-Ok-clause-turns g c =

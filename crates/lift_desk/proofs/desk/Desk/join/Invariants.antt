@@ -1,14 +1,12 @@
-use Rattle.std.proofs.Common.{◌≡◌, ◌≤◌, length, map, take}
-use Rattle.lift_desk.specs.Seats.{AllSeated, ClerkPlace}
+use Rattle.std.proofs.Common.{◌≡◌, List, ◌++◌, length}
+use Rattle.lift_desk.specs.Seats.{ClerkPlace}
 use Rattle.lift_desk.proofs.desk.Desk.join.Given as goal
 
-abbrev pub invariant-loop-seat : goal.invariant-loop-seat
-invariant-loop-seat l = record {
-  places : l.places.items ≡ l.initial.places.items;
-  tables : map (λ (p : ClerkPlace). p.table) l.seats.items ≡ take (length l.seats.items) l.self;
-  fits : length l.seats.items ≤ length l.self;
-  seated : AllSeated l.seats.items;
+abbrev pub invariant-loop-place : goal.invariant-loop-place
+invariant-loop-place l = record {
+  can_next : (goal.iterator-loop-place).can_next l.place-iterator;
+  is_finite : (goal.iterator-loop-place).is_finite l.place-iterator;
+  whole : l.whole.items ++ l.place-iterator ≡ l.fn.clerk;
+  -- the seats that were joined in, and those that are left
+  ahead : (joined : List ClerkPlace) × (joined ++ l.seats ≡ l.fn.ahead) × (length joined ≡ length l.whole.items);
 }
-
-abbrev pub decreases-loop-seat : goal.decreases-loop-seat
-decreases-loop-seat l = length l.seats.items

@@ -9,7 +9,7 @@ use Rattle.lift_desk.specs.lemmas.WordLists.{last_of-push}
 use Rattle.lift_desk.proofs.place.Place.answer.Goals as goal
 
 pub store-requires-clause-keeps : goal.store-requires-clause-keeps
-store-requires-clause-keeps c id =
+store-requires-clause-keeps g c id =
     let i = c.self.invariant in
     let m : View = c.self.inside.looker.view in
     let word : ℕ = c.reply_word-word.result in
@@ -21,10 +21,10 @@ store-requires-clause-keeps c id =
     answers_keep _ _ _ _ (i.answers seated) owed (λ k. (turn k, number k)) c.reply_word-word.ensures.word.spelled
 
 pub store-requires-clause-counts : goal.store-requires-clause-counts
-store-requires-clause-counts c after e = stores_answer _ _ _ e
+store-requires-clause-counts g c after e = stores_answer _ _ _ (c.self.invariant.answers (ap (λ p. p.seated) c.self.view_is ∙ c.requires.seated)) e
 
 pub invariant_of-self : goal.invariant_of-self
-invariant_of-self c =
+invariant_of-self g c =
     let i = c.self.invariant in
     let m : View = c.self.inside.looker.view in
     let word : ℕ = c.reply_word-word.result in
@@ -40,6 +40,7 @@ invariant_of-self c =
     let last_is : last_of v.clerk.answered ≡ word = ap last_of answered ∙ last_of-push m.clerk.answered word in record {
       answers = λ _. ap (λ (v : View). v.answers) new ∙ i.answers seated;
       in_order = ap (λ (v : View). v.looks_ahead) new ∙ i.in_order;
+      lends = λ _. ap (λ (v : View). v.lends) new ∙ i.lends seated;
       turn = i.turn ∙ ap length (sym taken);
       last_taken = ap (λ l. turn_of (last_of l)) taken ∙ i.last_taken ∙ ap length (sym taken);
       in_range = i.in_range;

@@ -1,4 +1,4 @@
-use Rattle.std.proofs.Common.{◌≡◌, ℕ, suc, ◌+◌, [], ◌∷◌, ◌++◌, length, true, true≢false, sym, ap, ◌∙◌, arith}
+use Rattle.std.proofs.Common.{◌≡◌, ℕ, suc, ◌+◌, [], ◌∷◌, ◌++◌, length, true, true≢false, sym, ap, ◌∙◌, inl, arith}
 use Rattle.std.proofs.lemmas.List.{length_push}
 use Rattle.lift_desk.specs.declared.view.View.{View}
 use Rattle.lift_desk.specs.Words.{turn_of, number_of, last_of}
@@ -10,16 +10,17 @@ use Rattle.lift_desk.specs.lemmas.WordLists.{last_of-push}
 use Rattle.lift_desk.proofs.place.Place.look.Goals as goal
 
 pub load-word-requires-clause-keeps : goal.load-word-requires-clause-keeps
-load-word-requires-clause-keeps c id =
+load-word-requires-clause-keeps g c id =
     let i = c.self.invariant in
     let read = c.read_note.ensures.1 in
     looks_keep _ _ _ (ap (λ l. l.view.answers) read ∙ i.answers (ap (λ p. p.seated) c.self.view_is ∙ c.requires.seated)) (ap (λ l. l.view.looks_ahead) read ∙ i.in_order)
 
 pub load-word-requires-clause-counts : goal.load-word-requires-clause-counts
-load-word-requires-clause-counts c found after e = loads_ask _ _ _ e.1
+load-word-requires-clause-counts g c found after e =
+    loads_ask _ _ _ (inl (ap (λ l. l.view.answers) c.read_note.ensures.1 ∙ c.self.invariant.answers (ap (λ p. p.seated) c.self.view_is ∙ c.requires.seated))) e.1
 
 pub invariant_of-self-2 : goal.invariant_of-self-2
-invariant_of-self-2 c =
+invariant_of-self-2 g c =
     let i = c.self.invariant in
     let seated : c.self.inside.looker.seated ≡ true = ap (λ p. p.seated) c.self.view_is ∙ c.requires.seated in
     let m : View = c.self.inside.looker.view in
@@ -43,6 +44,7 @@ invariant_of-self-2 c =
     let last_is : last_of v.clerk.taken ≡ word = ap last_of taken ∙ last_of-push m.clerk.taken word in record {
       answers = λ _. ap (λ (v : View). v.answers) new ∙ i.answers seated;
       in_order = ap (λ (v : View). v.looks_ahead) new ∙ i.in_order;
+      lends = λ _. ap (λ (v : View). v.lends) new ∙ i.lends seated;
       turn = omega arith;
       last_taken = ap turn_of last_is ∙ omega arith;
       in_range = c.turn_of-turn.ensures.in_range;

@@ -4,7 +4,7 @@ use Rattle.lift_desk.proofs.Looks.{united_carries, loads_answer, terminal_part_c
 use Rattle.lift_desk.proofs.seat.Seat.meet.Goals as goal
 
 pub join-requires-clause-keeps : goal.join-requires-clause-keeps
-join-requires-clause-keeps c id another = unites_join _ _ _ _ c.self.invariant.asks c.requires.clerk.2
+join-requires-clause-keeps c id another = unites_join _ _ _ _ c.self.invariant.asks c.requires.clerk.2 c.requires.clerk.3
 
 pub join-requires-clause-counts : goal.join-requires-clause-counts
 join-requires-clause-counts c = united_carries _ _
@@ -15,7 +15,7 @@ load-word-requires-clause-keeps c id =
     meets_keep _ _ _ (ap (λ s. s.view.asks) j ∙ c.self.invariant.asks) (ap (λ s. s.view.answers) j ∙ c.requires.clerk.2)
 
 pub load-word-requires-clause-counts : goal.load-word-requires-clause-counts
-load-word-requires-clause-counts c found after e = loads_answer _ _ _ _ e.1
+load-word-requires-clause-counts c found after e = loads_answer _ _ _ _ (ap (λ s. s.view.asks) c.join.ensures ∙ c.self.invariant.asks) e.1
 
 pub split-requires-clause-keeps : goal.split-requires-clause-keeps
 split-requires-clause-keeps c id =

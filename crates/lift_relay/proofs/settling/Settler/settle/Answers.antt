@@ -1,4 +1,4 @@
-use Rattle.std.proofs.Common.{◌≡◌, true, false, List, length, refl, sym, ap, ◌∙◌, subst}
+use Rattle.std.proofs.Common.{◌≡◌, true, false, List, length, refl, sym, ap, ◌∙◌, subst, arith}
 use Rattle.std.specs.Prelude.{Ok, Err}
 use Rattle.atomic_table.specs.Seated.{TableId}
 use Rattle.lift_base.specs.declared.history.Entry.{Entry}
@@ -29,25 +29,25 @@ look_again-answers-requires-clause-due g c =
 pub look_again-answers-requires-clause-apart : goal.look_again-answers-requires-clause-apart
 look_again-answers-requires-clause-apart g c = subst (λ (l : List NotedCommand). AreApart (commands_in l)) (sym c.into_commands.ensures.value) c.entries.ensures.apart
 
-pub answer_all-requires-clause-owed : goal.answer_all-requires-clause-owed
-answer_all-requires-clause-owed g c =
+pub answer_all-requires : goal.answer_all-requires
+answer_all-requires g c =
     let s = c.self.inside in
     let batch = c.args.batch in
     let taken = c.into_commands.ensures in
     let looked = c.look_again-answers.ensures in
     let desk : batch.desk ≡ s.desk.now = c.requires.at_desk ∙ ap (λ (v : SettlerState g.row.D.Denot). v.desk) (sym c.self.view_is) in
-    owes_them s.desk.now s.seat c.look_again-answers.new.seat batch.commands c.into_commands.result.items c.look_again-answers.result.items taken.value looked.found looked.looked looked.answers
-    c.self.invariant (subst (λ (d : List TableId). AreBelow (length d) (commands_in batch.commands)) desk c.entries.ensures.at_desk) c.entries.ensures.apart
+    (omega arith, (looked.seated, owes_them s.desk.now s.seat c.look_again-answers.new.seat batch.commands c.into_commands.result.items c.look_again-answers.result.items taken.value looked.found looked.looked looked.answers
+    c.self.invariant (subst (λ (d : List TableId). AreBelow (length d) (commands_in batch.commands)) desk c.entries.ensures.at_desk) c.entries.ensures.apart))
 
-pub answer_all-requires-in-Err-clause-owed : goal.answer_all-requires-in-Err-clause-owed
-answer_all-requires-in-Err-clause-owed g c =
+pub answer_all-requires-in-Err : goal.answer_all-requires-in-Err
+answer_all-requires-in-Err g c =
     let s = c.self.inside in
     let batch = c.args.batch in
     let taken = c.into_commands.ensures in
     let looked = c.look_again-answers.ensures in
     let desk : batch.desk ≡ s.desk.now = c.requires.at_desk ∙ ap (λ (v : SettlerState g.row.D.Denot). v.desk) (sym c.self.view_is) in
-    owes_them s.desk.now s.seat c.look_again-answers.new.seat batch.commands c.into_commands.result.items c.look_again-answers.result.items taken.value looked.found looked.looked looked.answers
-    c.self.invariant (subst (λ (d : List TableId). AreBelow (length d) (commands_in batch.commands)) desk c.entries.ensures.at_desk) c.entries.ensures.apart
+    (omega arith, (looked.seated, owes_them s.desk.now s.seat c.look_again-answers.new.seat batch.commands c.into_commands.result.items c.look_again-answers.result.items taken.value looked.found looked.looked looked.answers
+    c.self.invariant (subst (λ (d : List TableId). AreBelow (length d) (commands_in batch.commands)) desk c.entries.ensures.at_desk) c.entries.ensures.apart))
 
 pub returns-in-Ok-clause-settles : goal.returns-in-Ok-clause-settles
 returns-in-Ok-clause-settles g c =
