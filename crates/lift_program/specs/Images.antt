@@ -110,9 +110,9 @@ image_files {F} {O} {told} {runs} {disk} {shown_runs} {shown_disk} opener stands
           IsRefused opener (stands_in_the_way (stands path)) (opens to_be_made path)
           (fails_making (unnamed path) gives fails sectors);
       is_unserved = λ path. IsRefused opener (stands path) (opens to_be_used path)
-          (fails_opening gives fails (Lock ∷ []));
+          (fails_opening gives fails holds (Lock ∷ []));
       is_unshown = λ path.
-          IsRefused opener (stands path) (opens to_be_read path) (fails_opening gives fails []);
+          IsRefused opener (stands path) (opens to_be_read path) (fails_opening gives fails holds []);
       Made = SectorFile F told;
       made_state = sector_file_state_of holds;
       is_just_made = IsJustMade opens names gives holds;
