@@ -24,6 +24,22 @@ returns-in_err-fill_with_zeros-clause-failed g c =
     (fails_after gives fails (Lock ∷ Restrict ∷ SetLength 0 ∷ SetLength (sectors * 512) ∷ []) (zeros ++ SyncAll ∷ []) (file_of old) (file_of c.set_length-2.new.self) (file_of c.fill_with_zeros.new.self) first.led
     (fails_before gives fails zeros (SyncAll ∷ []) (file_of c.set_length-2.new.self) (file_of c.fill_with_zeros.new.self) failed))
 
+pub returns-in_err-set_length-2-clause-failed : goal.returns-in_err-set_length-2-clause-failed
+returns-in_err-set_length-2-clause-failed g c =
+    let gives = g.F.ToldFile.gives in
+    let fails = g.F.ToldFile.fails in
+    let old = c.args.self.now in
+    let sectors = c.args.sectors in
+    let zeros = zero_writes sectors ((sectors + 127) / 128) in
+    let locked : IsMaking gives (Lock ∷ []) old c.lock.new.self = search rules in
+    let restricted : IsMaking gives (Restrict ∷ []) c.lock.new.self c.restrict.new.self = search rules in
+    let emptied : IsMaking gives (SetLength 0 ∷ []) c.restrict.new.self c.set_length.new.self = search rules in
+    let first = making_then gives (Lock ∷ []) (Restrict ∷ SetLength 0 ∷ []) old c.lock.new.self c.set_length.new.self locked
+    (making_then gives (Restrict ∷ []) (SetLength 0 ∷ []) c.lock.new.self c.restrict.new.self c.set_length.new.self restricted emptied) in
+    let failed : fails (file_of c.set_length.new.self) (SetLength (sectors * 512)) (file_of c.set_length-2.new.self) = search rules in
+    in_err _
+    (fails_after gives fails (Lock ∷ Restrict ∷ SetLength 0 ∷ []) (SetLength (sectors * 512) ∷ zeros ++ SyncAll ∷ []) (file_of old) (file_of c.set_length.new.self) (file_of c.set_length-2.new.self) first.led (inl failed))
+
 pub returns-clause-making : goal.returns-clause-making
 returns-clause-making g c =
     let gives = g.F.ToldFile.gives in
