@@ -8,7 +8,7 @@ use Rattle.lift_disk.specs.Runs.{GivesRun}
 use Rattle.lift_disk.specs.Trace.{Access}
 use Rattle.lift_disk.specs.Trace.Access.{Read as ReadSector, Write as WriteSector, Sync as SyncSectors}
 use Rattle.lift_disk.specs.FileCalls.{FileCall, in_bytes, sync_calls, without_given}
-use Rattle.lift_disk.specs.FileCalls.FileCall.{Read, ReadSectors, Write, SyncData, SetLength, SyncAll, GetLength, DropCached, Lock}
+use Rattle.lift_disk.specs.FileCalls.FileCall.{Read, ReadSectors, Write, SyncData, SetLength, SyncAll, GetLength, DropCached, Lock, Restrict}
 
 in_bytes-push : (calls : List Access) (call : Access) → in_bytes (calls ++ call ∷ []) ≡ in_bytes calls ++ in_bytes (call ∷ [])
 in_bytes-push [] call = refl
@@ -26,6 +26,7 @@ without_given-append (SetLength bytes ∷ calls) more = ap (λ (l : List FileCal
 without_given-append (SyncAll ∷ calls) more = ap (λ (l : List FileCall). SyncAll ∷ l) (without_given-append calls more)
 without_given-append (GetLength bytes ∷ calls) more = ap (λ (l : List FileCall). GetLength bytes ∷ l) (without_given-append calls more)
 without_given-append (Lock ∷ calls) more = ap (λ (l : List FileCall). Lock ∷ l) (without_given-append calls more)
+without_given-append (Restrict ∷ calls) more = ap (λ (l : List FileCall). Restrict ∷ l) (without_given-append calls more)
 without_given-append (DropCached ∷ calls) more = without_given-append calls more
 
 -- a sync of a device is one of its file, whatever is dropped after it
