@@ -1,7 +1,8 @@
 //! The listening socket, and a connection's. Here alone a connection is accepted, read and written;
 //! everything else has what keeps it, and what shuts it down.
 
-ghost use Rattle.std.specs.Prelude.{◌≡◌, IfErr, None};
+ghost use Rattle.std.specs.Prelude.{◌≡◌, IfErr};
+ghost use Rattle.std.specs.Io.{ReadsAtMost};
 ghost use Rattle.std.specs.declared.net.tcp.TcpListener.{TcpListener as Listener};
 
 use crate::attending::Attendance;
@@ -182,7 +183,9 @@ impl<'s, R: Clock> PeerReader<'s, R> {
     }
 
     /// Reads, as the first line is still to come.
-    fn read_first(&self, buf: &mut [u8]) -> io::Result<usize> {
+    fn read_first(&self, buf: &mut [u8]) -> io::Result<usize>
+        ensures { ReadsAtMost result buf.new }
+    {
         let Some(left) = self.left() else {
             return Err(too_late());
         };
@@ -196,8 +199,6 @@ impl<'s, R: Clock> PeerReader<'s, R> {
 }
 
 impl<'s, R: Clock> Read for PeerReader<'s, R> {
-    ghost remaining = { λ _. None };
-
     fn read(&mut self, buf: &mut [u8]) -> io::Result<usize> {
         match self.peer.stage.load(Ordering::SeqCst) {
             AWAITED => self.read_first(buf),
