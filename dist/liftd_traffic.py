@@ -9,6 +9,7 @@ import json
 import os
 import pathlib
 import random
+import select
 import shlex
 import socket
 import subprocess
@@ -26,6 +27,7 @@ PATTERNS = {"up": (1.0, 0.0), "lunch": (0.45, 0.45), "down": (0.0, 1.0), "inter"
 WAIT_MS = 1000  # between two asks of a kiosk for a passenger who has a ticket
 JAM_MS = 90_000  # a mean wait in the last quarter that is longer is called a jam
 AFTER = 3  # the drain lasts so many times as long as what was measured, at most
+START_S, ANSWER_S = 60, 75  # how long a server may take to start, and to answer
 SHM = pathlib.Path("/dev/shm")
 
 
@@ -118,6 +120,8 @@ class Served:
                 port = free.getsockname()[1]
             words = [liftd, "serve", "group.image", "group.toml", "--port", str(port), "--sessions", "1000000", "--policy", policy]
             process = subprocess.Popen(words, cwd=self.room.name, stdout=subprocess.PIPE, stderr=subprocess.PIPE, text=True)
+            if not select.select([process.stdout], [], [], START_S)[0]:
+                process.kill()
             if process.stdout.readline():
                 return process, port
             said = process.communicate()[1].strip()
@@ -126,7 +130,7 @@ class Served:
         raise Failed(f"{liftd} serve: {said}")
 
     def connect(self, terminal, port):
-        stream = socket.create_connection(("127.0.0.1", port), timeout=75)
+        stream = socket.create_connection(("127.0.0.1", port), timeout=ANSWER_S)
         stream.setsockopt(socket.IPPROTO_TCP, socket.TCP_NODELAY, 1)
         self.lines[terminal] = stream
         greeting = self.say(terminal, terminal)
@@ -134,14 +138,15 @@ class Served:
             raise Failed(f"{terminal} is greeted {' '.join(greeting)!r}")
 
     def say(self, terminal, line):
-        stream = self.lines[terminal]
-        stream.sendall(line.encode() + b"\n")
-        told = stream.recv(64)
-        while not told.endswith(b"\n"):
-            piece = stream.recv(64)
-            if not piece:
-                raise Failed(f"{terminal} has lost its connection at {line!r}")
-            told += piece
+        stream, told = self.lines[terminal], b""
+        try:
+            stream.sendall(line.encode() + b"\n")
+            while not told.endswith(b"\n"):
+                if not (piece := stream.recv(64)):
+                    raise Failed(f"{terminal} has lost its connection at {line!r}")
+                told += piece
+        except OSError as fault:
+            raise Failed(f"{terminal} has no answer to {line!r}: {fault}") from None
         return told.decode().split()
 
     def place(self, car, floor, dir):
@@ -590,6 +595,9 @@ class Lesser(driving.Driving):
         yield driving.At(self.now + self.open_ms())
         self.dir = self.named = stop[1]
         return (yield driving.Stop(self.floor, self.dir))  # and where the next stop is here too, its doors open again
+
+    def goal(self, stop, before):
+        return stop[0] if stop else before if self.home is None else self.home
 
     def place(self, floor, stop):
         self.named = stop[1] if stop else self.named

@@ -209,7 +209,10 @@ static struct stop ask(const char *word, long number, int floor, const char *dir
     return told(heard);
 }
 
-static struct stop place(int floor, int patience) { return ask("PLACE", 0, floor, direction, patience); }
+static struct stop place(int floor, int patience, struct stop before) {
+    struct stop stop = ask("PLACE", 0, floor, direction, patience);
+    return stop.is_answered ? stop : before;
+}
 
 /* Driving */
 
@@ -221,7 +224,8 @@ static double braking_ms(int floor) {
     return least / 2;
 }
 
-/* It flies towards a stop, or home where it has none, and gives the next stop as it is once it stands. */
+/* It flies towards a stop, or home where it has none, and gives the next stop as it is once it stands. Without an answer in time it does
+ * as it was told last. */
 static struct stop fly(struct stop stop) {
     int origin = here, goal = stop.floor == NONE ? home : stop.floor, way = goal > origin ? 1 : -1, floor = origin;
     double since = now_ms();
@@ -231,14 +235,14 @@ static struct stop fly(struct stop stop) {
         floor = next;
         for (int again = 0; again < 2; again++) { /* as soon as it can stop there next, and just before it has to brake or to pass */
             if (again) wait_until(since + flight[origin][floor] - braking_ms(floor) - LEAD_MS);
-            stop = place(floor, LEAD_MS);
-            if (stop.is_answered) goal = stop.floor == NONE ? home : stop.floor;
+            stop = place(floor, LEAD_MS, stop);
+            goal = stop.floor == NONE ? home : stop.floor;
         }
         if ((goal - floor) * way <= 0) break;
     }
     wait_until(since + flight[origin][floor]);
     here = floor;
-    return place(here, 0); /* as it stands, before it shows a direction or opens */
+    return place(here, LEAD_MS, stop); /* as it stands, before it shows a direction or opens */
 }
 
 /* The doors open, and passengers leave and board; it reports the stop before they close, and keeps them open while the next is here. */
@@ -263,11 +267,12 @@ int main(int count, char **words) {
     if (is_simulated) setvbuf(stdout, NULL, _IOLBF, 0);
     if (!read_building(words[3], letter[0] - 'A')) return fprintf(stderr, "car: %s isn't a building with car %s\n", words[3], letter), 1;
     if (count > 8) home = atoi(words[8]);
-    struct stop stop = place(here, 0);
+    struct stop stop = {.floor = NONE};
+    stop = place(here, 0, stop);
     for (;;) {
         if (stop.floor == NONE && --idles == 0) return 0;
         if (stop.floor == here) stop = exchange(stop);
         else if (stop.floor != NONE || here != home) stop = fly(stop);
-        else wait_until(now_ms() + IDLE_MS), stop = place(here, 0);
+        else wait_until(now_ms() + IDLE_MS), stop = place(here, 0, stop);
     }
 }

@@ -108,31 +108,26 @@ class Driving:
 
     def fly(self, stop):
         """It flies towards a stop, or home where it has none, and gives the next stop as it is once it stands. At each floor where it can
-        still stop it asks whether it is to."""
+        still stop it asks whether it is to. Without an answer in time it does as it was told last."""
         origin, since = self.floor, self.now
         goal = stop[0] if stop else self.home
         way = 1 if goal > origin else -1
         self.dir = "up" if way == 1 else "down"
-        ahead = [floor for floor in self.serves[::way] if (floor - origin) * way > 0]
-        for floor in ahead:
+        for floor in [it for it in self.serves[::way] if (it - origin) * way > 0]:
             self.flight = (origin, since, goal)
-            # the next floor at which it can stop, as soon as it is that one
-            answer = yield Place(floor, self.dir, LEAD_MS)
-            goal = self.goal(answer, goal)
-            yield At(since + self.times[origin][floor] - self.braking_ms(floor) - LEAD_MS)
-            # and once more just before it has to brake for it, or to pass
-            answer = yield Place(floor, self.dir, LEAD_MS)
-            goal = self.goal(answer, goal)
-            if (goal - floor) * way <= 0 or floor == ahead[-1]:
+            # as soon as it is the next floor at which it can stop, and once more just before it has to brake for it or to pass
+            for moment in (since, since + self.times[origin][floor] - self.braking_ms(floor) - LEAD_MS):
+                yield At(moment)
+                stop = self.told((yield Place(floor, self.dir, LEAD_MS)), stop)
+                goal = stop[0] if stop else goal if self.home is None else self.home
+            if (goal - floor) * way <= 0:
                 break
         self.flight = (origin, since, floor)
         yield At(since + self.times[origin][floor])
         self.floor, self.flight = floor, None
         # as it stands, before it shows a direction or opens
-        return (yield Place(floor, self.dir))
+        return self.told((yield Place(floor, self.dir, LEAD_MS)), stop)
 
-    def goal(self, answer, before):
-        """The floor towards which it flies, after an answer or without one."""
-        if answer == UNANSWERED:
-            return before
-        return answer[0] if answer else before if self.home is None else self.home
+    def told(self, answer, before):
+        """The next stop after an answer, or where none came in time."""
+        return before if answer == UNANSWERED else answer
