@@ -574,7 +574,7 @@ class Front:
         return ["STOP", str(self.front.last.get(letter(car), 0) + 1), str(stop.floor), stop.dir]
 
     def held(self, car, stop, now):
-        return 1000 * self.front.asked(letter(car), self.words_of(car, stop), now / 1000)[1]
+        return round(1000 * self.front.asked(letter(car), self.words_of(car, stop), now / 1000)[1])
 
     def stopped(self, car, stop, now):
         self.front.answered(letter(car), self.words_of(car, stop), ["IDLE"], now / 1000)
