@@ -284,7 +284,7 @@ class Piped:
             words = line.split()
             if words[0] == "AT":
                 yield driving.At(float(words[1]))
-                said, is_open = f"NOW {self.now}", False
+                said, is_open = "NOW " + f"{self.now:.3f}".rstrip("0").rstrip("."), False
             elif words[0] == "PLACE":
                 said = said_of((yield driving.Place(int(words[1]), words[2])))
             else:
