@@ -15,7 +15,6 @@ import socket
 import subprocess
 import sys
 import tempfile
-import tomllib
 
 HERE = pathlib.Path(__file__).resolve().parent
 if not (HERE / "driving.py").exists():
@@ -39,12 +38,12 @@ class Failed(Exception):
 
 
 class Passenger:
-    __slots__ = ("come", "start", "to", "dir", "car", "given", "there", "boarded", "opened", "left", "first_given", "refused", "behind", "full", "passed", "is_measured")
+    __slots__ = ("come", "start", "to", "dir", "car", "given", "there", "opened", "left", "first_given", "refused", "behind", "full", "passed", "is_measured")
 
     def __init__(self, come, start, to, is_measured):
         self.come, self.start, self.to, self.is_measured = come, start, to, is_measured
         self.dir = "up" if to > start else "down"
-        self.car = self.given = self.there = self.boarded = self.opened = self.left = self.first_given = None
+        self.car = self.given = self.there = self.opened = self.left = self.first_given = None
         self.refused = self.behind = self.full = 0
         self.passed = False
 
@@ -320,7 +319,7 @@ class Simulation:
         self.places = [None] * len(cars)
         self.opened = [0.0] * len(cars)
         self.came, self.unfinished = [], 0
-        self.lines, self.is_over = 0, False
+        self.is_over = False
         self.turn, self.cycles = 0, [[] for _ in cars]  # when each car has stopped at the lobby
         self.lobby = lobby_of(building)
         if group.name == "conventional":
@@ -375,7 +374,6 @@ class Simulation:
         if self.front and not self.front.may_call(kiosk, passenger, self.now):
             self.at(self.now + WAIT_MS, self.call, passenger)
             return
-        self.lines += 1
         car = self.group.call(kiosk, passenger.to)
         is_waiting = self.front and self.front.answered(kiosk, passenger, car, self.now)
         if car is None:
@@ -407,7 +405,6 @@ class Simulation:
                     return
                 told = None
             elif isinstance(step, driving.Place):
-                self.lines += 1
                 self.moved(number, step)
                 told = self.group.place(number, step.floor, step.dir)
             else:
@@ -437,7 +434,6 @@ class Simulation:
 
     def stop(self, number, stop):
         """Passengers leave and board, and the group is told."""
-        self.lines += 1
         opened = self.opened[number] = self.cars[number].opened_at(stop.floor)
         if (before := self.places[number]) and before[0] != stop.floor:
             way = "up" if stop.floor > before[0] else "down"
@@ -465,7 +461,7 @@ class Simulation:
         return self.group.stop(number, stop.floor, stop.dir)
 
     def board(self, number, passenger, opened):
-        passenger.car, passenger.boarded, passenger.opened = number, self.now, max(opened, passenger.there)
+        passenger.car, passenger.opened = number, max(opened, passenger.there)
         self.aboard[number].append(passenger)
 
     def stop_of_buttons(self, number, stop, opened):
