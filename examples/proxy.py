@@ -48,6 +48,9 @@ class Front:
         self.last, self.given_out = {}, 0
         self.tickets, self.used = {}, {}  # each ticket's party, and when it was asked for last; each kiosk's last one
 
+    def has(self, terminal):
+        return int(terminal[1:]) < len(self.kiosks) if terminal[0] == "K" and terminal[1:] else terminal in self.calls
+
     def persons(self):
         return sum(call.party for calls in self.calls.values() for call in calls)
 
@@ -133,10 +136,11 @@ async def pass_on(reader, writer):
 
 async def pass_lines(reader, writer, from_server, to_server, terminal, front):
     """Passes on a line at a time, as the front has it, and its answer. A greeting tells the number that is in."""
-    greeting = (await from_server.readline()).split()
-    if greeting[:1] == [b"READY"]:
-        front.last[terminal] = int(greeting[1])
-    writer.write(b" ".join(greeting) + b"\n")
+    greeting = await from_server.readline()
+    writer.write(greeting)
+    if not greeting.startswith(b"READY "):
+        return  # BUSY, LATE or BAD: liftd has closed it
+    front.last[terminal] = int(greeting.split()[1])
     while (line := await reader.readline()).endswith(b"\n"):
         words = line.decode("ascii", "replace").rstrip("\r\n").split(" ")
         begun = time.monotonic()
@@ -197,6 +201,8 @@ async def listen(server, address, terminals, front):
         if not parts:
             sys.exit(f"proxy.py: {word} isn't PORT=TERMINAL or PORT=TERMINAL@FROM")
         port, terminal, line, only = int(parts[1]), parts[2], first_line(parts[2]), parts[3]
+        if front and not front.has(terminal):
+            sys.exit(f"proxy.py: the building has no {terminal}")
 
         async def taken(reader, writer, terminal=terminal, line=line, only=only):
             if only not in (None, writer.get_extra_info("peername")[0]):
