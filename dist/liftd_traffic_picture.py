@@ -77,7 +77,7 @@ def picture(told):
             for figure, dash in (("way", ""), ("wait", ' stroke-dasharray="5 4"')):
                 lines.append((HUES[at % len(HUES)], dash, [(percent, mean(runs, figure)) for percent, runs in rows]))
         panels.append((pattern, lines, sorted({float(key[1][:-1]) for key, _ in told if key[0] == pattern})))
-    return drawn(panels, names, "% of the population that come in five minutes; s: whole lines to the destination, broken lines the wait")
+    return drawn(panels, names, "% of the population that come in five minutes; s: whole lines to the destination, broken lines the wait; what reaches the top goes beyond it")
 
 
 def picture_of_burst(told, waits, minutes):
@@ -90,4 +90,4 @@ def picture_of_burst(told, waits, minutes):
             means = [(place + 2.5, [wait for minute in waits(runs)[place:place + 5] for wait in minute]) for place in range(0, minutes, 5)]
             lines.append((HUES[at % len(HUES)], "", [(place, sum(told) / len(told)) for place, told in means if told]))
         panels.append((" ".join(key), lines, list(range(0, minutes + 1, 20))))
-    return drawn(panels, names, "minutes; s that those waited who came then")
+    return drawn(panels, names, "minutes; s that those waited who came then; what reaches the top goes beyond it")
