@@ -104,6 +104,8 @@ def main(port, letter, file, floor, dir, idles=0, speed=1.0, home=None):
     with open(file, "rb") as text:
         building = tomllib.load(text)
     car = ord(letter) - 65
+    if not 0 <= car < len(building["cars"]):
+        sys.exit(f"car.py: {file} has no car {letter}")
     if home is None:
         home = driving.home_of(building, driving.serves_of(building, car))
     driver = driving.Driving(building, car, floor, dir, home)
