@@ -48,10 +48,10 @@ int main(int count, char **words) {
     signal(SIGPIPE, SIG_IGN); /* a line to a connection that is gone fails, and doesn't end the kiosk */
     int port = atoi(words[1]), kiosk = atoi(words[2]), reason;
     long last = connect_to(port, kiosk);
-    char line[80], answer[80], letter;
-    for (int at = 3; at < count; at++)
+    char line[80], answer[80], ticket[32] = "", letter;
+    for (int at = 3; at < count; at++, ticket[0] = 0)
         for (;;) { /* the number stays the same until the call is answered, so it is never asked twice over */
-            snprintf(line, sizeof line, "CALL %ld %d", last + 1, atoi(words[at]));
+            snprintf(line, sizeof line, "CALL %ld %d%s", last + 1, atoi(words[at]), ticket);
             if (!tell(line, answer, sizeof answer)) { usleep(200000); connect_to(port, kiosk); continue; }
             if (sscanf(answer, "CAR %c", &letter) == 1) { printf("floor %s: car %c\n", words[at], letter); last++; break; }
             if (sscanf(answer, "NO %d", &reason) == 1) {
@@ -59,7 +59,16 @@ int main(int count, char **words) {
                 printf("floor %s: refused, reason %d\n", words[at], reason);
                 break;
             }
-            usleep(200000); /* UNKNOWN, LATE, SPENT: ask again with this number, and not at once */
+            if (sscanf(answer, "WAIT %d", &reason) == 1) { /* a queue in front, as that of proxy.py: ask again with the ticket */
+                snprintf(ticket, sizeof ticket, " 1 %d", reason);
+                sleep(1);
+                continue;
+            }
+            if (strcmp(answer, "SPENT\n") == 0) {
+                fputs("kiosk: SPENT: it has asked as often as it may since liftd was started; it has to be started again\n", stderr);
+                return 3;
+            }
+            usleep(200000); /* UNKNOWN, LATE: ask again with this number, and not at once */
             connect_to(port, kiosk);
         }
     return 0;

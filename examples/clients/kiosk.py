@@ -36,18 +36,25 @@ class Kiosk:
     def call(self, floor, party=1):
         """Asks until the call is answered: a letter, or the reason of a refusal. Its number stays the same, so it is never asked twice
         over, until it is told that the number is another call's."""
-        number = self.last + 1
+        number, ticket = self.last + 1, ""
         while True:
             try:
-                answer = self.tell(f"CALL {number} {floor} {party}").split()
+                answer = self.tell(f"CALL {number} {floor} {party}{ticket}").split()
             except OSError:
                 answer = []
+            if answer[:1] == ["WAIT"]:  # a queue in front, as that of proxy.py: ask again with the ticket
+                ticket = " " + answer[1]
+                time.sleep(1)
+                continue
+            if answer[:1] == ["SPENT"]:
+                print("kiosk.py: SPENT: it has asked as often as it may since liftd was started; it has to be started again", file=sys.stderr)
+                sys.exit(3)
             if answer[:1] == ["CAR"]:
                 self.last = number
                 return "car " + answer[1]
             if answer[:1] == ["NO"] and answer[1] not in ("4", "5", "6"):
                 return "refused, reason " + answer[1]
-            time.sleep(0.2)  # UNKNOWN, LATE, SPENT or a closed connection: ask again with this number, and not at once
+            time.sleep(0.2)  # UNKNOWN, LATE or a closed connection: ask again with this number, and not at once
             self.connect()
             if answer[:1] == ["NO"]:
                 number = self.last + 1  # that number is another call's: the greeting has told the last one

@@ -91,7 +91,7 @@ function makeBuilding(state) {
     const list = make(byId("lists"), "div", "list");
     list.style.setProperty("--colour", colour(car.letter));
     return { shaft, halts, cabin, riders, list, title: make(list, "b", "", `Car ${car.letter}`),
-      load: make(list, "span"), stops: make(list, "span", "stops"), exchange: make(list, "code", "exchange") };
+      load: make(list, "span"), times: make(list, "span", "times"), stops: make(list, "span", "stops"), exchange: make(list, "code", "exchange") };
   });
   return { waiting, cars };
 }
@@ -126,8 +126,17 @@ function showCar(parts, car, rows) {
   }
   parts.shaft.setAttribute("aria-label", `Car ${car.letter} near floor ${Math.round(car.height)}, ${persons} aboard, stops ${halts || "none"}`);
   setText(parts.load, `${persons} of ${car.places} places`);
+  setText(parts.times, car.wait === null ? "" : `wait ${seconds(car.wait)}, to goal ${seconds(car.way)}`);
   setText(parts.stops, halts || "no stops");
   setText(parts.exchange, car.exchange);
+}
+
+const seconds = (value) => (value === null ? "–" : `${value.toFixed(0)} s`);
+
+function morningOf(morning) {
+  if (!morning.came) return morning.pattern ? "Passengers come" : "";
+  return `${morning.came} came, ${morning.arrived} have arrived, ${morning.waiting} wait, ${morning.refused} times no car had room. `
+    + `Mean wait ${seconds(morning.wait)}, to the goal ${seconds(morning.way)}`;
 }
 
 function statusOf(state) {
@@ -156,6 +165,8 @@ function show(state) {
   byId("kill").disabled = !state.alive;
   showSpeed(byId("speed"), String(state.speed));
   setText(byId("done"), `Calls carried: ${state.done}`);
+  setText(byId("morning"), morningOf(state.morning));
+  if (document.activeElement !== byId("pattern")) byId("pattern").value = state.morning.pattern || "";
   state.kiosks.forEach((kiosk, number) => showKiosk(page.kiosks[number], kiosk, state.alive));
   page.building.waiting.forEach((place, floor) => showRiders(place, state.rows.filter((row) => !row.aboard && row.from === floor)));
   state.cars.forEach((car, number) => showCar(page.building.cars[number], car, state.rows));
@@ -172,4 +183,7 @@ async function look() {
 
 byId("kill").addEventListener("click", () => post("/kill", {}));
 byId("speed").addEventListener("change", (event) => post("/speed", { speed: Number(event.target.value) }));
+const play = () => post("/morning", { pattern: byId("pattern").value || null, rate: Number(byId("rate").value) || 6 });
+byId("pattern").addEventListener("change", play);
+byId("rate").addEventListener("change", play);
 look();

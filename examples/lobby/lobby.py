@@ -21,6 +21,7 @@ import time
 import tomllib
 
 sys.dont_write_bytecode = True
+from morning import PATTERNS, Morning
 from terminals import Car, Clock, Kiosk
 
 HERE = pathlib.Path(__file__).resolve().parent
@@ -48,11 +49,11 @@ class Group(threading.Thread):
         self.floors, self.clock = building["floors"], Clock(speed)
         self.kiosks = [Kiosk(self, number, floor) for number, floor in enumerate(building["kiosks"])]
         self.places = [car["places"] for car in building["cars"]]
-        self.cars = [Car(self, chr(65 + number), car.get("serves", list(range(self.floors))), building, self.clock)
-                     for number, car in enumerate(building["cars"])]
+        self.cars = [Car(self, chr(65 + number), building, self.clock) for number in range(len(building["cars"]))]
+        self.morning = Morning(self, building)
 
     def begin(self):
-        for thread in [self, threading.Thread(target=self.watch, daemon=True), *self.kiosks, *self.cars]:
+        for thread in [self, threading.Thread(target=self.watch, daemon=True), *self.kiosks, *self.cars, self.morning]:
             thread.start()
 
     def end(self):
@@ -86,12 +87,21 @@ class Group(threading.Thread):
             else:
                 time.sleep(0.1)  # a checkpoint may have overtaken it
 
+    def start_again(self, why):
+        """A terminal has asked as often as it may: only a new start of the server helps."""
+        print(f"lobby: {why}; the server is started again", file=sys.stderr, flush=True)
+        self.process.kill()
+
+    def stopped(self, letter, stop, opened):
+        self.morning.stopped(letter, stop, opened)
+
     def state(self):
         rows = self.rows
         return {"floors": self.floors, "alive": self.is_alive, "starts": self.starts, "process": self.process and self.process.pid,
                 "fault": self.fault, "speed": self.clock.speed, "done": self.done, "rows": rows,
                 "kiosks": [kiosk.state() for kiosk in self.kiosks],
-                "cars": [car.state(rows) | {"places": places} for car, places in zip(self.cars, self.places)]}
+                "morning": self.morning.state(),
+                "cars": [car.state(rows) | {"places": places} | self.morning.of_car(car.letter) for car, places in zip(self.cars, self.places)]}
 
 
 def row_of(car, kiosk, number, start, to, status, party="x1"):
@@ -152,6 +162,11 @@ def carry_out(group, path, said):
         group.clock.run_at(min(100.0, max(0.1, float(said["speed"]))))
     elif path == "/kill":
         group.process.kill()
+    elif path == "/morning":
+        pattern, rate = said["pattern"], float(said["rate"])
+        if pattern not in (None, *PATTERNS) or not 0 < rate <= 120:
+            raise ValueError("no such pattern or rate")
+        group.morning.play(pattern, rate)
     else:
         raise ValueError("no such page")
 

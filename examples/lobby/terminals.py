@@ -1,9 +1,14 @@
-"""The terminals of a lobby: kiosks that ask for a car, and cars that drive by their building's own times. Each is one
-connection to `liftd serve`, and speaks the lines of docs/integrating.md."""
+"""The terminals of a lobby: kiosks that ask for a car, and cars that drive by their building's own times, as the reference client
+does. Each is one connection to `liftd serve`, and speaks the lines of docs/integrating.md."""
+import pathlib
 import queue
 import socket
+import sys
 import threading
 import time
+
+sys.path.insert(0, str(pathlib.Path(__file__).resolve().parent.parent / "clients"))
+import driving
 
 TICK = 0.05  # seconds between two looks at what goes on
 REFUSALS = {
@@ -65,6 +70,8 @@ class Terminal(threading.Thread):
         if answer[:1] in (["CAR"], ["NO"], ["NEXT"], ["IDLE"]):
             self.exchange = f"{line} → {' '.join(answer)}"
             return answer
+        if answer[:1] == ["SPENT"]:
+            self.group.start_again(f"{self.first_line} is SPENT: it has asked as often as it may since the start")
         time.sleep(0.2)
         self.connect()
         return []
@@ -94,7 +101,8 @@ class Kiosk(Terminal):
             pass
         return answer
 
-    def ask(self, floor, party):
+    def ask(self, floor, party, passenger=None):
+        """`passenger` is one of a morning, who is told the letter, or that there is none."""
         self.letter, self.message, self.verdict = None, "Please wait", ""
         number = self.last + 1
         word, argument = self.answer_to(number, floor, party)
@@ -103,6 +111,8 @@ class Kiosk(Terminal):
             self.group.changed.set()
         else:
             self.message = REFUSALS.get(argument, f"Refused, reason {argument}")
+        if passenger:
+            self.group.morning.answered(passenger, argument if word == "CAR" else None)
 
     def ask_again(self):
         number, floor, party, letter = self.call
@@ -118,73 +128,81 @@ class Kiosk(Terminal):
 
 
 class Car(Terminal):
-    """Drives to its next stop, lets the passengers exchange, and reports the stop."""
+    """Drives as the reference client does, by the lobby's clock."""
 
-    def __init__(self, group, letter, serves, building, clock):
+    def __init__(self, group, letter, building, clock):
         super().__init__(group, f"CAR {letter}")
-        self.letter, self.serves, self.clock = letter, serves, clock
-        self.times, self.door_ms = building["flight"], building["door_ms"]
-        self.floor, self.direction = min(serves), "up"
-        self.told = (self.floor, self.direction, None)  # and in which start of the group
-        self.flight = None  # from, to, since when
-        self.is_open = False
+        self.letter, self.clock = letter, clock
+        car = ord(letter) - 65
+        self.serves = driving.serves_of(building, car)
+        home = driving.home_of(building, self.serves)
+        self.driver = driving.Driving(building, car, min(self.serves), home=home)
+        self.told = (self.driver.floor, self.driver.dir, None)  # and in which start of the group
+        self.is_lost = False
 
     def run(self):
         self.connect()
+        steps, told = self.driver.steps(), None
         while True:
-            stop = self.place(self.floor, self.direction)
-            if stop:
-                self.floor, self.direction = self.fly(stop)
-                self.exchange_passengers()
+            self.driver.now = self.clock.now()
+            step = steps.send(told)
+            if isinstance(step, driving.At):
+                told = self.wait_until(step.ms)
+            elif isinstance(step, driving.Stop):
+                told = self.stop(step)
             else:
-                time.sleep(6 * TICK)
+                told = self.place_on_the_way(step) if step.patience else self.place(step)
 
-    def place(self, floor, direction):
-        """Tells the next floor at which it can stop; its next stop, if it has one."""
-        answer = self.tell(f"PLACE {floor} {direction}")
-        if answer[:1] in (["NEXT"], ["IDLE"]):
-            self.told = (floor, direction, self.group.starts)
-        return (int(answer[1]), answer[2]) if answer[:1] == ["NEXT"] else None
+    def wait_until(self, ms):
+        while self.clock.now() < ms:
+            if self.told[2] != self.group.starts and not self.driver.flight and self.group.is_alive:
+                self.place(driving.Place(self.driver.floor, self.driver.dir))  # after a start it says again where it is
+            time.sleep(min(TICK, max(0.001, (ms - self.clock.now()) / 1000 / self.clock.speed)))
 
-    def fly(self, stop):
-        """Flies to this stop, or to another that comes up on the way; the stop where it stands then."""
-        origin, since = self.floor, self.clock.now()
-        while (elapsed := self.clock.now() - since) < self.times[origin][stop[0]]:
-            self.flight = (origin, stop[0], since)
-            ahead = (self.next_floor(origin, stop[0], elapsed), "up" if stop[0] > origin else "down")
-            if self.told != (*ahead, self.group.starts):
-                stop = self.place(*ahead) or stop
-            time.sleep(TICK)
-        self.flight = None
-        return stop
+    def place(self, step):
+        while True:
+            answer = self.tell(driving.line_of(step, 0)[0])
+            if answer[:1] in (["NEXT"], ["IDLE"]):
+                self.told = (step.floor, step.dir, self.group.starts)
+                return driving.stop_of(answer)
 
-    def next_floor(self, origin, target, elapsed):
-        """The first floor on the way at which it can still stop; it brakes half a floor before."""
-        step = 1 if target > origin else -1
-        for floor in range(origin + step, target, step):
-            if floor in self.serves and elapsed <= self.times[origin][floor] - self.times[floor - step][floor] / 2:
-                return floor
-        return target
+    def place_on_the_way(self, step):
+        """A car that flies waits for nobody: without a server it drives on to the stop that was named last."""
+        if not self.group.is_alive:
+            self.is_lost = True
+        elif self.is_lost or self.told[2] != self.group.starts:
+            self.is_lost = False
+            self.connect()
+        if self.is_lost:
+            return driving.UNANSWERED
+        try:
+            answer = self.say(driving.line_of(step, 0)[0])
+        except OSError:
+            answer = []
+        if answer[:1] not in (["NEXT"], ["IDLE"]):
+            self.is_lost = True
+            return driving.UNANSWERED
+        self.exchange = f"PLACE {step.floor} {step.dir} → {' '.join(answer)}"
+        self.told = (step.floor, step.dir, self.group.starts)
+        return driving.stop_of(answer)
 
-    def exchange_passengers(self):
-        self.is_open, until = True, self.clock.now() + self.door_ms
-        while self.clock.now() < until:
-            if self.told[2] != self.group.starts:
-                self.place(self.floor, self.direction)
-            time.sleep(TICK)
-        self.is_open, number = False, self.last + 1
-        while self.last < number:  # a greeting may tell that the stop is in
-            if self.tell(f"STOP {number} {self.floor} {self.direction}")[:1] in (["NEXT"], ["IDLE"]):
-                self.last = number
-        self.told = (self.floor, self.direction, self.group.starts)
+    def stop(self, step):
+        """Reports a stop, again and again with its number, until it is answered."""
+        line, number = driving.line_of(step, self.last)
+        while (answer := self.tell(line))[:1] not in (["NEXT"], ["IDLE"]):
+            pass
+        self.last = max(self.last, number)
+        self.told = (step.floor, step.dir, self.group.starts)
+        self.group.stopped(self.letter, step, self.driver.opened)
         self.group.changed.set()
+        return driving.stop_of(answer)
 
     def height(self):
         """Where it is now, in floors: it speeds up and slows down."""
-        if not (flight := self.flight):
-            return self.floor
-        origin, target, since = flight
-        part = min(1.0, (self.clock.now() - since) / self.times[origin][target])
+        if not (flight := self.driver.flight):
+            return self.driver.floor
+        origin, since, target = flight
+        part = min(1.0, (self.clock.now() - since) / max(1, self.driver.times[origin][target]))
         return origin + (target - origin) * part * part * (3 - 2 * part)
 
     def halts(self, rows):
@@ -201,5 +219,5 @@ class Car(Terminal):
 
     def state(self, rows):
         own = [row for row in rows if row["car"] == self.letter]
-        return {"letter": self.letter, "height": self.height(), "open": self.is_open, "serves": self.serves,
+        return {"letter": self.letter, "height": self.height(), "open": self.driver.is_open, "serves": self.serves,
                 "halts": self.halts(own), "exchange": self.exchange}
