@@ -99,11 +99,11 @@ line_send = Arc-send queue queue_send queue_sync
 pass_send : IsSend (Seat.the_row (Option.the_row Batch.the_row) doing)
 pass_send = passes.the_send (Option.the_row Batch.the_row) doing (option_send Batch.the_row batch_send)
 
-side_send : IsSend Side.the_row
-side_send = view_send _ _ _ _ _ (declared_send side_inside.the_type (line_send, (pass_send, (as_row_send bool-field (search sendable depth 6), (as_row_send bool-field (search sendable depth 6), tt)))))
+side_send : IsSend (Side.the_row queue (Seat.the_row (Option.the_row Batch.the_row) doing))
+side_send = view_send _ _ _ _ _ (declared_send (side_inside.the_type queue (Seat.the_row (Option.the_row Batch.the_row) doing)) (line_send, (pass_send, (as_row_send bool-field (search sendable depth 6), (as_row_send bool-field (search sendable depth 6), tt)))))
 
 pub end_send : IsSend SendEnd.the_row
-end_send = view_send _ _ _ _ _ (declared_send end_inside.the_type (as_row_send Side.the_field side_send, (as_row_send u64-field (search sendable depth 6), tt)))
+end_send = view_send _ _ _ _ _ (declared_send end_inside.the_type (as_row_send (Side.the_field queue (Seat.the_row (Option.the_row Batch.the_row) doing)) side_send, (as_row_send u64-field (search sendable depth 6), tt)))
 
 parts_send : (b : NamedLft) (P : RattleType) → IsSend P → IsSend (AheadParts.the_row b P)
 parts_send b P s = declared_send (AheadParts.the_type b P) (as_row_send TakeSeat.the_field seat_is.the_send, (as_row_send (Decider.the_field b) (decider_is.the_send b), (as_row_send (row_field P) s, tt)))

@@ -1,29 +1,16 @@
--- The two ends of a line, once their sides met.
+-- The two ends of a line, once their passes met.
 use Rattle.std.proofs.Common.{◌≡◌, List, ap, ◌∙◌}
 use Rattle.atomic_table.specs.Seated.{TableId}
 use Rattle.lift_building.specs.Plan.{Plan}
 use Rattle.lift_relay.specs.declared.line.EndView.{EndView}
 use Rattle.lift_parts.specs.Batch.{BatchState}
-use Rattle.lift_parts.specs.Line.{ReceiveState, Tries}
-use Rattle.lift_relay.specs.Side.{SideState}
+use Rattle.lift_parts.specs.Line.{Tries}
 use Rattle.lift_relay.specs.ReceiveInside.{receiver_of}
 use Rattle.lift_relay.specs.Rule.{receiving, with_both_passes}
 
-abbrev receives_at : TableId → Plan → List TableId → EndView → Tries → ReceiveState
-receives_at line building desk v tries = record {
-  line = line;
-  received = v.received;
-  known = v.known;
-  building = building;
-  desk = desk;
-  state = v.behind;
-  turns = v.next_turns;
-  tries = tries;
-}
-
--- what the end that receives shows once its side met the other, which may have told it what was sent
-pub receiver_met : (old new mine : SideState) (gone known : List BatchState) → new.line ≡ old.line → mine.knows.building ≡ old.knows.building → mine.knows.desk ≡ old.knows.desk
-    → new.knows ≡ record (receiving (with_both_passes mine.knows old.knows)) { gone = gone; known = known } → new.tries ≡ old.tries → receiver_of new ≡ record (receiver_of old) { known = known }
-receiver_met old new mine gone known line building desk is tries =
-    ap (λ (p : TableId × EndView × Tries). receives_at p.0 p.1.building p.1.desk p.1 p.2) (λ i. (line i, is i, tries i))
-    ∙ ap (λ (p : Plan × List TableId). receives_at old.line p.0 p.1 (record old.knows { known = known }) old.tries) (λ i. (building i, desk i))
+-- what the end that receives shows once its pass met the other, which may have told it what was sent
+pub receiver_met : (line now : TableId) (old new mine : EndView) (tries after : Tries) (gone known : List BatchState) → now ≡ line → mine.building ≡ old.building → mine.desk ≡ old.desk
+    → new ≡ record (receiving (with_both_passes mine old)) { gone = gone; known = known } → after ≡ tries → receiver_of now new after ≡ record (receiver_of line old tries) { known = known }
+receiver_met line now old new mine tries after gone known same building desk is stay =
+    (λ i. receiver_of (same i) (is i) (stay i))
+    ∙ ap (λ (p : Plan × List TableId). receiver_of line (record old { building = p.0; desk = p.1; known = known }) tries) (λ i. (building i, desk i))

@@ -9,5 +9,6 @@ pub mod Flushed
 pub mod Turned
 pub mod Ran
 pub mod Told
+mod Unheard
 pub mod Crosses
 pub mod Draining

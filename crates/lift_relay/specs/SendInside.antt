@@ -1,24 +1,28 @@
 use Rattle.std.specs.Prelude.{◌≡◌, true, length}
+use Rattle.atomic_table.specs.Seated.{TableId}
+use Rattle.crossbeam_queue.specs.Passes.{view, IsPassOf, ruled_capacity}
 use Rattle.lift_relay.specs.declared.line.SendEnd.TheInside.{Inside}
-use Rattle.lift_parts.specs.Line.{SendState}
-use Rattle.lift_relay.specs.Side.{SideState}
+use Rattle.lift_relay.specs.declared.line.EndView.{EndView}
+use Rattle.lift_parts.specs.Line.{SendState, Tries}
 
-abbrev pub sender_of : SideState → SendState
-sender_of s = record {
-  line = s.line;
-  sent = s.knows.sent;
-  gone = s.knows.gone;
-  building = s.knows.building;
-  desk = s.knows.desk;
-  state = s.knows.ahead;
-  turns = s.knows.turns_ahead;
-  tries = s.tries;
+abbrev pub sender_of : TableId → EndView → Tries → SendState
+sender_of line v tries = record {
+  line = line;
+  sent = v.sent;
+  gone = v.gone;
+  building = v.building;
+  desk = v.desk;
+  state = v.ahead;
+  turns = v.turns_ahead;
+  tries = tries;
 }
 
 abbrev pub seen : Inside → SendState
-seen s = sender_of s.side
+seen s = sender_of s.side.pass.table_id (view s.side.pass) s.side.tries
 
 pub record IsSendEnd (s : Inside) : Type 0 where
-  pub begun : s.side.knows.begun ≡ true
-  pub sends : s.side.knows.sends ≡ true
-  pub count : s.count ≡ length s.side.knows.sent
+  pub of_line : IsPassOf s.side.line s.side.pass
+  pub capacity : ruled_capacity s.side.line ≡ 4
+  pub begun : (view s.side.pass).begun ≡ true
+  pub sends : (view s.side.pass).sends ≡ true
+  pub count : s.count ≡ length (view s.side.pass).sent

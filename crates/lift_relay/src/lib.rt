@@ -12,6 +12,7 @@ mod held;
 mod line;
 mod pair;
 mod places;
+mod queue;
 mod refused;
 mod relay;
 mod scan;

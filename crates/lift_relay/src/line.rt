@@ -8,7 +8,8 @@ use crate::basis::Basis;
 use crate::batch::Batch;
 use crate::side::Side;
 use crossbeam_queue::protocol::{Join, Lesson, Outcome, Protocol, Split};
-use lift_base::Memory;
+use crossbeam_queue::{Pass, RuledArrayQueue};
+use lift_base::{MOST_BATCHES, Memory, passed_queue, two_owners};
 use lift_building::Building;
 use lift_desk::Desk;
 use std::alloc::Global;
@@ -50,8 +51,9 @@ impl Protocol<Batch, EndView> for InOrder {
     ghost first = { opening_view };
 }
 
-// The first pass sends, and the new one receives.
-pub struct Ends;
+// The first pass sends, and the new one receives. Before they part, the first learns what the queue
+// holds.
+struct Ends;
 
 impl Split<EndView> for Ends {
     ghost use Rattle.lift_relay.specs.Rule.{sending, receiving};
@@ -59,6 +61,12 @@ impl Split<EndView> for Ends {
     ghost left = { sending };
 
     ghost right = { receiving };
+}
+
+impl Lesson<Batch, EndView> for Ends {
+    ghost use Rattle.lift_relay.specs.Rule.{HoldsUnreceived};
+
+    ghost fact = { HoldsUnreceived };
 }
 
 // The sending pass takes in the receiving one.
@@ -83,17 +91,8 @@ impl Join<EndView> for EndsTold {
     ghost spent = { spent_pass };
 }
 
-// What the queue holds, of a pass that both sends and receives.
-pub struct QueueContents;
-
-impl Lesson<Batch, EndView> for QueueContents {
-    ghost use Rattle.lift_relay.specs.Rule.{HoldsUnreceived};
-
-    ghost fact = { HoldsUnreceived };
-}
-
 // A batch without commands names the building, the desk and the first state.
-pub struct FirstBatch;
+struct FirstBatch;
 
 impl Outcome<Batch, EndView> for FirstBatch {
     ghost use Rattle.lift_relay.specs.Rule.{Named};
@@ -102,7 +101,7 @@ impl Outcome<Batch, EndView> for FirstBatch {
 }
 
 // The line has begun there.
-pub struct LineStart;
+struct LineStart;
 
 impl Outcome<Batch, EndView> for LineStart {
     ghost use Rattle.lift_relay.specs.Rule.{Begun};
@@ -140,10 +139,12 @@ impl Lesson<Batch, EndView> for Receives {
     ghost fact = { ReceivedBefore };
 }
 
+type LineSide = Side<RuledArrayQueue<Batch, EndView, InOrder>, Pass<Batch, EndView>>;
+
 /// The allocator's end. Contracts see which line it is of, what was sent, and where that leads.
 #[derive(Drop)]
 pub struct SendEnd {
-    side: Side,
+    side: LineSide,
     count: u64,
 }
 
@@ -162,7 +163,7 @@ impl Model for SendEnd {
 /// The flusher's end. Contracts see which line it is of, what was received, and where that leads.
 #[derive(Drop)]
 pub struct ReceiveEnd {
-    side: Side,
+    side: LineSide,
     count: u64,
 }
 
@@ -184,14 +185,20 @@ impl Model for ReceiveEnd {
 pub fn new_line(alloc: Global, first: Batch) -> Result<(SendEnd, ReceiveEnd), Memory>
     ensures { IfOk result (λ ends. IsLine first ends.0 ends.1) }
 {
-    let (sender, receiver) = Side::both(alloc, first)?;
+    let (queue, mut pass) = passed_queue::<Batch, EndView, InOrder, FirstBatch, LineStart>(
+        alloc,
+        MOST_BATCHES,
+        first,
+    )?;
+    let other = queue.another::<Ends>(&mut pass);
+    let (line, theirs) = two_owners(alloc, queue)?;
     Ok((
         SendEnd {
-            side: sender,
+            side: Side::new(line, pass),
             count: 0,
         },
         ReceiveEnd {
-            side: receiver,
+            side: Side::new(theirs, other),
             count: 0,
         },
     ))
@@ -207,7 +214,7 @@ impl SendEnd {
         ensures { MatchResult result (λ _. SendsOne self.old batch self.new) (λ back.
             (back ≡ batch) × FindsNoRoom self.old self.new) }
     {
-        self.side.push::<Sends, R>(rt, batch)?;
+        self.side.push::<Batch, Sends, R>(rt, batch)?;
         self.count += 1;
         Ok(())
     }
@@ -229,7 +236,7 @@ impl SendEnd {
         ensures queued { Queued self.new result }
     {
         let ReceiveEnd { side, count } = receiver;
-        let met = self.side.meet::<Together>(side);
+        let met = self.side.meet::<Together, Ends>(side);
         ReceiveEnd { side: met, count }
     }
 
@@ -246,7 +253,7 @@ impl SendEnd {
             side: theirs,
             count,
         } = receiver;
-        let told = self.side.meet::<EndsTold>(theirs);
+        let told = self.side.meet::<EndsTold, Ends>(theirs);
         ReceiveEnd { side: told, count }
     }
 }
@@ -258,7 +265,7 @@ impl ReceiveEnd {
         ensures { MatchOption result (FindsNone self.old self.new) (λ batch.
             ReceivesOne self.old batch self.new) }
     {
-        let batch = self.side.pop::<Receives, R>(rt)?;
+        let batch = self.side.pop::<Batch, Receives, R>(rt)?;
         self.count += 1;
         Some(batch)
     }

@@ -128,7 +128,7 @@ impl<'d, 'b, D: Disk, K> Settler<'d, 'b, D, K> {
 
     /// Makes a batch safe, then looks once more at each of its commands' terminals, finds just that
     /// command there, and answers it with the batch's reply. After a device fault it answers Unknown to
-    /// that batch and all later ones. The witness is notified of that fault here.
+    /// that batch and all later ones. The witness is notified of that fault here, once they are answered.
     ///
     /// `Journal(Disk)` where a call of the device failed, `Journal(Broken)` while it is broken.
     pub fn settle<V: Witness>(
@@ -151,7 +151,6 @@ impl<'d, 'b, D: Disk, K> Settler<'d, 'b, D, K> {
     {
         let was_broken = self.writer.is_broken();
         let committed = self.writer.commit(batch.entries());
-        tell_of(witness, was_broken, self.writer.is_broken());
         let answers = look_again(self.desk, &mut self.seat, batch.into_commands());
         match committed {
             Ok(()) => {
@@ -163,6 +162,7 @@ impl<'d, 'b, D: Disk, K> Settler<'d, 'b, D, K> {
             }
             Err(fault) => {
                 answer_all(self.desk, &mut self.seat, &answers, false);
+                tell_of(witness, was_broken, self.writer.is_broken());
                 Err(fault)
             }
         }

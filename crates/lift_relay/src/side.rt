@@ -1,94 +1,114 @@
-//! One side of a line: its queue, a pass of it, and how what it tried went.
-ghost use Rattle.std.specs.Prelude.{◌≡◌, true, false, List, MatchResult, MatchOption, IfOk};
-ghost use Rattle.crossbeam_queue.specs.Fifo.{Pushes, Pops, Merges, Learns, Held};
-ghost use Rattle.lift_parts.specs.Batch.{BatchState};
-ghost use Rattle.lift_parts.specs.Line.{tried};
-ghost use Rattle.lift_relay.specs.Rule.{IsLineKept, HoldsUnreceived, sending, receiving};
-ghost use Rattle.lift_relay.specs.Side.{AreSides};
+//! One side of a line: a queue, a pass of it, and how what it tried went.
+//!
+//! Nothing here knows what the queue is, nor what its pass knows, nor what a try tells. So a try that
+//! wasn't made can't be told of, and what one try told can't be told of a later one: each tells of the
+//! pass as it was before that very try, and after it.
 
-use crate::batch::Batch;
-use crate::line::{EndView, Ends, FirstBatch, InOrder, LineStart, QueueContents};
-use crossbeam_queue::protocol::{Join, Lesson, Outcome};
-use crossbeam_queue::{Pass, RuledArrayQueue};
-use lift_base::{MOST_BATCHES, Memory, passed_queue, two_owners};
-use std::alloc::Global;
+ghost use Rattle.std.specs.Prelude.{◌≡◌, true, false, MatchResult, MatchOption};
+ghost use Rattle.std.specs.Arc.{arc_value};
+ghost use Rattle.lift_parts.specs.Line.{tried, no_tries};
+
 use std::marker::Model;
 use std::sync::{Arc, Wait};
 
-type Line = RuledArrayQueue<Batch, EndView, InOrder>;
+/// What takes items in, by passes `S`. `M` says what a push comes to.
+pub trait PushedBy<S, T, M> {
+    // A push may be tried.
+    ghost may_push: { Self → S → T → Type 0 };
 
-/// One side of a line. It alone has the queue and the pass, and each of its pushes and pops counts as
+    // It went through: of the pass before it and after it.
+    ghost pushed: { Self → S → T → S → Type 0 };
+
+    // It was refused.
+    ghost was_full: { Self → S → S → Type 0 };
+
+    /// Tries once to push an item, which else comes back.
+    fn push_by<R: Wait>(&self, rt: &R, pass: &mut S, item: T) -> Result<(), T>
+        requires { may_push self.now pass.old item }
+        ensures { MatchResult result (λ _. pushed self.now pass.old item pass.new)
+            (λ back. (back ≡ item) × was_full self.now pass.old pass.new) };
+}
+
+/// What gives items out, by passes `S`. `M` says what a pop comes to.
+pub trait PoppedBy<S, T, M> {
+    // A pop may be tried.
+    ghost may_pop: { Self → S → Type 0 };
+
+    // It gave this item: of the pass before it and after it.
+    ghost popped: { Self → S → T → S → Type 0 };
+
+    // It gave none.
+    ghost was_empty: { Self → S → S → Type 0 };
+
+    /// Tries once to pop an item.
+    fn pop_by<R: Wait>(&self, rt: &R, pass: &mut S) -> Option<T>
+        requires { may_pop self.now pass.old }
+        ensures { MatchOption result (was_empty self.now pass.old pass.new)
+            (λ item. popped self.now pass.old item pass.new) };
+}
+
+/// Whose passes may meet, by `J`, and part again, by `K`.
+pub trait MetBy<S, J, K> {
+    // These two may meet.
+    ghost may_meet: { Self → S → S → Type 0 };
+
+    // They have met: of both before that, and of both after it.
+    ghost met: { Self → S → S → S → S → Type 0 };
+
+    /// A pass takes in another, by which each may learn where the other stands, and parts from it again.
+    fn meet_by(&self, pass: &mut S, other: S) -> S
+        requires { may_meet self.now pass.old other }
+        ensures { met self.now pass.old other pass.new result };
+}
+
+/// One side of a line. It alone has the line and the pass, and each of its pushes and pops counts as
 /// one try. So none counts that wasn't made, and no other call changes how many there were. (The
-/// queue's own rule can't count them: a push that is refused changes no view.)
+/// rule of a queue can't count them: a push that is refused changes no view.)
 #[derive(Drop)]
-pub struct Side {
-    line: Arc<Line>,
-    pass: Pass<Batch, EndView>,
+pub struct Side<Q, S> {
+    line: Arc<Q>,
+    pass: S,
     odd: bool,
     refused: bool,
 }
 
-impl Model for Side {
+impl<Q, S> Model for Side<Q, S> {
     ghost use Rattle.lift_relay.specs.Side.{SideState};
 
-    ghost Value = { SideState };
+    ghost Value = { SideState Q S };
 
-    ghost use Rattle.lift_relay.specs.SideInside.{seen, IsSide};
+    ghost use Rattle.lift_relay.specs.SideInside.{seen};
 
     ghost view = { seen };
-
-    ghost invariant = { IsSide };
 }
 
-impl Side {
-    /// Both sides of a new line of four batches, which begins with this batch: the one that sends and
-    /// the one that receives. The batch itself isn't sent.
-    pub fn both(alloc: Global, first: Batch) -> Result<(Side, Side), Memory>
-        ensures { IfOk result (λ sides. AreSides first sides.0 sides.1) }
+impl<Q, S> Side<Q, S> {
+    /// The side of a line by this pass, which has tried nothing.
+    pub fn new(line: Arc<Q>, pass: S) -> Self
+        ensures { result ≡ record { line = arc_value line; pass = pass; tries = no_tries } }
     {
-        let (queue, mut pass) = passed_queue::<Batch, EndView, InOrder, FirstBatch, LineStart>(
-            alloc,
-            MOST_BATCHES,
-            first,
-        )?;
-        let other = queue.another::<Ends>(&mut pass);
-        let (line, theirs) = two_owners(alloc, queue)?;
-        Ok((
-            Side {
-                line,
-                pass,
-                odd: false,
-                refused: false,
-            },
-            Side {
-                line: theirs,
-                pass: other,
-                odd: false,
-                refused: false,
-            },
-        ))
+        Side {
+            line,
+            pass,
+            odd: false,
+            refused: false,
+        }
     }
 
-    /// Tries once to push a batch. Whatever `M` learns, it learns by this try alone, and of a line
-    /// that was full at one moment of it.
-    pub fn push<M: Outcome<Batch, EndView> + Lesson<Batch, EndView>, R: Wait>(
-        &mut self,
-        rt: &R,
-        batch: Batch,
-    ) -> Result<(), Batch>
-        requires pushes { Pushes IsLineKept 4 self.old.pass self.old.knows batch
-            (M.then self.old.knows batch) }
-        requires learns { Learns IsLineKept self.old.pass self.old.knows (M.fact self.old.knows) }
-        ensures same { (self.new.line ≡ self.old.line) × (self.new.pass ≡ self.old.pass) }
+    /// Tries once to push an item.
+    pub fn push<T, M, R: Wait>(&mut self, rt: &R, item: T) -> Result<(), T>
+    where
+        Q: PushedBy<S, T, M>,
+        requires { Q.may_push self.old.line self.old.pass item }
+        ensures line { self.new.line ≡ self.old.line }
         ensures pushed { MatchResult result
-            (λ _. M.then self.old.knows batch self.new.knows
+            (λ _. Q.pushed self.old.line self.old.pass item self.new.pass
             × (self.new.tries ≡ tried self.old.tries false))
-            (λ back. (back ≡ batch)
-            × (self.new ≡ record self.old { tries = tried self.old.tries true })
-            × Held 4 (M.fact self.old.knows)) }
+            (λ back. (back ≡ item) × Q.was_full self.old.line self.old.pass self.new.pass
+            × (self.new.tries ≡ tried self.old.tries true)) }
     {
         self.odd = !self.odd;
-        match self.line.push_as::<M, R>(rt, &mut self.pass, batch) {
+        match self.line.push_by(rt, &mut self.pass, item) {
             Ok(()) => {
                 self.refused = false;
                 Ok(())
@@ -100,26 +120,23 @@ impl Side {
         }
     }
 
-    /// Tries once to pop a batch. Whatever `M` learns, it learns by this try alone, and of a line
-    /// that was empty at one moment of it.
-    pub fn pop<M: Outcome<Batch, EndView> + Lesson<Batch, EndView>, R: Wait>(
-        &mut self,
-        rt: &R,
-    ) -> Option<Batch>
-        requires pops { Pops IsLineKept self.old.pass self.old.knows (M.then self.old.knows) }
-        requires learns { Learns IsLineKept self.old.pass self.old.knows (M.fact self.old.knows) }
-        ensures same { (self.new.line ≡ self.old.line) × (self.new.pass ≡ self.old.pass) }
+    /// Tries once to pop an item.
+    pub fn pop<T, M, R: Wait>(&mut self, rt: &R) -> Option<T>
+    where
+        Q: PoppedBy<S, T, M>,
+        requires { Q.may_pop self.old.line self.old.pass }
+        ensures line { self.new.line ≡ self.old.line }
         ensures popped { MatchOption result
-            ((self.new ≡ record self.old { tries = tried self.old.tries true })
-            × Held 0 (M.fact self.old.knows))
-            (λ batch. M.then self.old.knows batch self.new.knows
+            (Q.was_empty self.old.line self.old.pass self.new.pass
+            × (self.new.tries ≡ tried self.old.tries true))
+            (λ item. Q.popped self.old.line self.old.pass item self.new.pass
             × (self.new.tries ≡ tried self.old.tries false)) }
     {
         self.odd = !self.odd;
-        match self.line.pop_as::<M, R>(rt, &mut self.pass) {
-            Some(batch) => {
+        match self.line.pop_by(rt, &mut self.pass) {
+            Some(item) => {
                 self.refused = false;
-                Some(batch)
+                Some(item)
             }
             None => {
                 self.refused = true;
@@ -128,36 +145,17 @@ impl Side {
         }
     }
 
-    /// Takes the other side's pass into its own, by which each may learn where the other stands, and
-    /// parts them again. That tries nothing.
-    pub fn meet<J: Join<EndView>>(&mut self, other: Side) -> Side
-        requires line { other.line ≡ self.old.line }
-        requires joins { Merges IsLineKept self.old.pass self.old.knows other.pass other.knows
-            (J.both self.old.knows other.knows) J.spent }
-        requires both { let both = J.both self.old.knows other.knows in
-            (both.begun ≡ true) × (both.sends ≡ true) × (both.receives ≡ true) }
-        ensures mine { self.new
-            ≡ record self.old { knows = sending (J.both self.old.knows other.knows) } }
-        ensures theirs { (result.line ≡ other.line)
-            × (result.knows ≡ receiving (J.both self.old.knows other.knows))
-            × (result.tries ≡ other.tries) }
-        ensures waits { (items : List BatchState)
-            × HoldsUnreceived (J.both self.old.knows other.knows) items }
+    /// Its pass meets the other side's, by which each may learn where the other stands. That tries
+    /// nothing.
+    pub fn meet<J, K>(&mut self, other: Side<Q, S>) -> Side<Q, S>
+    where
+        Q: MetBy<S, J, K>,
+        requires { Q.may_meet self.old.line self.old.pass other.pass }
+        ensures line { (self.new.line ≡ self.old.line) × (result.line ≡ other.line) }
+        ensures met { Q.met self.old.line self.old.pass other.pass self.new.pass result.pass }
+        ensures tries { (self.new.tries ≡ self.old.tries) × (result.tries ≡ other.tries) }
     {
-        let Side {
-            line,
-            pass,
-            odd,
-            refused,
-        } = other;
-        self.line.absorb::<J>(&mut self.pass, pass);
-        self.line.learn_as::<QueueContents>(&mut self.pass);
-        let pass = self.line.another::<Ends>(&mut self.pass);
-        Side {
-            line,
-            pass,
-            odd,
-            refused,
-        }
+        let pass = self.line.meet_by(&mut self.pass, other.pass);
+        Side { pass, ..other }
     }
 }

@@ -9,9 +9,11 @@ use Rattle.lift_parts.specs.declared.counts.FlushCounts.{FlushCounts}
 use Rattle.lift_parts.specs.declared.taken.NotedCommand.{NotedCommand}
 use Rattle.lift_parts.specs.Batch.{AreBelow, commands_in}
 use Rattle.lift_parts.specs.Flusher.{AllAnsweredBy}
+use Rattle.lift_relay.specs.Heard.{FailureHeard}
 use Rattle.lift_relay.specs.Settler.{AreDue, SettlerState, SettlesBatch}
 use Rattle.lift_relay.proofs.Flushed.{none_later, all_due, owes_them, answered_them, as_many, below_seats, settled}
 use Rattle.lift_relay.proofs.Turned.{leads_to}
+use Rattle.lift_relay.proofs.Unheard.{unheard}
 use Rattle.lift_relay.proofs.settling.Settler.settle.Goals as goal
 
 -- the seats and the desk, as the settler has them
@@ -133,3 +135,11 @@ returns-in-Err-clause-calls g c =
     let fault = c.in-Err.fault in
     subst (λ (v : SettlerState g.row.D.Denot). CommitCalls state v.writer count writer (Err fault)) c.self.view_is
     (calls_under_err state s.writer count writer fault (subst (λ (b : List Entry). CommitCalls state s.writer (length b) writer (Err fault)) c.entries.ensures.value c.in-Err.ensures.calls))
+
+pub returns-in-Ok-clause-heard : goal.returns-in-Ok-clause-heard
+returns-in-Ok-clause-heard g c =
+    let s = c.self.inside in
+    let writer = c.commit-committed.new.self in
+    let witness = c.args.witness.now in
+    subst (λ (v : SettlerState g.row.D.Denot). FailureHeard g.V.Witness.hears v.writer.is_broken writer.is_broken witness witness) c.self.view_is
+    (unheard g.V.Witness.hears s.writer.is_broken writer.is_broken witness c.in-Ok.ensures.commits.stays.0)

@@ -2,7 +2,7 @@ use Rattle.std.proofs.Common.{ap, refl}
 use Rattle.lift_relay.specs.declared.line.EndView.{EndView}
 use Rattle.lift_relay.specs.Rule.{opening_view}
 use Rattle.lift_relay.proofs.Moves.{begins, names, starts, ends}
-use Rattle.lift_relay.proofs.side.Side.both.Goals as goal
+use Rattle.lift_relay.proofs.line.new_line.Goals as goal
 
 pub passed_queue-requires-clause-rule : goal.passed_queue-requires-clause-rule
 passed_queue-requires-clause-rule c = begins
