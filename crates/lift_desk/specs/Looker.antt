@@ -1,5 +1,5 @@
 -- A seat at a table: what it knows, and how each right to look keeps its count of looks.
-use Rattle.std.specs.Prelude.{◌≡◌, ℕ, zero, suc, Bool, true, false, List, [], ◌∷◌, ◌⊎◌}
+use Rattle.std.specs.Prelude.{◌≡◌, ℕ, zero, suc, Bool, true, false, List, [], ◌∷◌, ◌++◌, ◌⊎◌}
 use Rattle.atomic_table.specs.Seated.{TableId}
 use Rattle.atomic_table.specs.Table.{Me}
 use Rattle.lift_desk.specs.declared.view.View.{View}
@@ -51,22 +51,46 @@ other_looks (suc word) v = ask_looks v
 abbrev pub rights_of : View → Bool × Bool × Bool
 rights_of v = (v.asks, v.answers, v.looks_ahead)
 
+-- Who may look at a word: the clerk's seat and one ahead of it at the asks, the terminal's at the
+-- answers.
+abbrev pub MayLook : ℕ → View → Type 0
+MayLook zero v = (v.answers ≡ true) ⊎ (v.looks_ahead ≡ true)
+MayLook (suc word) v = v.asks ≡ true
+
+-- a seat that may look at both words, as it has the rights of the terminal and of another seat
+pub record SeesBoth (v : View) : Type 0 where
+  pub asks : MayLook 0 v
+  pub answers : MayLook 1 v
+
+-- who may store a word: the terminal's seat asks, the clerk's answers
+abbrev pub MayStore : ℕ → View → Type 0
+MayStore zero v = v.asks ≡ true
+MayStore (suc word) v = v.answers ≡ true
+
+-- the words that a seat has stored there
+abbrev pub stored_at : ℕ → View → List ℕ
+stored_at zero v = v.terminal.asked
+stored_at (suc word) v = v.clerk.answered
+
 -- a seat holds none of the table's slots, and has the rights that it had
 pub record KeepsRights (before : View) (after : Me (Unit {0}) View) : Type 0 where
   pub slots : after.1 ≡ []
   pub rights : rights_of after.0 ≡ rights_of before
 
--- after a load of a word that found this: it counts one look at that word, which found just this, or
--- none
+-- After a load of a word that found this: it counts one look at that word, which found just this.
+-- Only a seat that sees both words may compare them uncounted.
 pub record Loads (word found : ℕ) (before : View) (after : Me (Unit {0}) View) : Type 0 where
+  pub may : MayLook word before
   pub rights : KeepsRights before after
-  pub looks : (looks_at word after.0 ≡ looks_at word before)
+  pub looks : (SeesBoth before × (looks_at word after.0 ≡ looks_at word before))
       ⊎ (looks_at word after.0 ≡ (suc (looks_at word before).0, found))
   pub others : other_looks word after.0 ≡ other_looks word before
 
--- after a store, which counts none
-pub record Stores (before : View) (after : Me (Unit {0}) View) : Type 0 where
+-- after a store of a word, which counts no look, and is one more word that was stored there
+pub record Stores (word value : ℕ) (before : View) (after : Me (Unit {0}) View) : Type 0 where
+  pub may : MayStore word before
   pub rights : KeepsRights before after
+  pub stored : stored_at word after.0 ≡ stored_at word before ++ value ∷ []
   pub asks : ask_looks after.0 ≡ ask_looks before
   pub answers : answer_looks after.0 ≡ answer_looks before
 

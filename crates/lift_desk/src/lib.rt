@@ -12,7 +12,7 @@ mod view;
 mod words;
 
 pub use desk::{ClerkSeat, Desk, DeskParts, TakeSeat};
-pub use laws::words_are_asks_and_replies;
+pub use laws::{seats_agree, words_are_asks_and_replies};
 pub use note::Note;
 pub use seat::{AskRefusal, Seat};
 pub use view::{ClerkView, DeskRule, TerminalView, View};

@@ -24,7 +24,8 @@ pub(crate) type DeskTable = Table<(), View, (), DeskRule, Global>;
 /// A seat at a table, or a stand-in for it. It alone has the table's own seat, and each right to look
 /// goes with its count of looks and the word that was found last, which only a load of that word
 /// changes. At most one seat of a table may ask, and one may answer: so none of these counts a look
-/// without a load in that call, or finds another word than that load.
+/// without a load in that call, or finds another word than that load. And each load counts, and each
+/// store is one word more that was stored, but where a seat has the rights of two and compares.
 #[derive(Drop)]
 pub struct Looker {
     badge: Badge<View>,
@@ -103,7 +104,7 @@ impl Looker {
             (self.old.view, []) value) }
         requires counts { (after : Me (Unit {0}) View)
             → M.then (step table.now.shared.table_id.slots word value 0 none) (self.old.view, [])
-            value after → Stores self.old.view after }
+            value after → Stores word value self.old.view after }
         ensures same { (self.new.seated ≡ true) × (self.new.table ≡ self.old.table) }
         ensures tells { M.then (step table.now.shared.table_id.slots word value 0 none)
             (self.old.view, []) value (self.new.view, []) }

@@ -1,4 +1,4 @@
-use Rattle.std.proofs.Common.{◌≡◌, ℕ, ◌≤◌, length, true, refl, sym, ap, ◌∙◌, arith}
+use Rattle.std.proofs.Common.{◌≡◌, ℕ, ◌≤◌, length, true, refl, sym, ap, ◌∙◌, inr, arith}
 use Rattle.lift_desk.specs.declared.view.View.{View}
 use Rattle.lift_desk.specs.declared.view.ClerkView.{ClerkView}
 use Rattle.lift_desk.specs.Words.{turn_of, last_of, ask_word}
@@ -14,7 +14,7 @@ load-word-requires-clause-keeps c id =
     looks_ahead_keep _ _ _ (c.self.invariant.ahead (ap (λ p. p.seated) c.self.view_is ∙ c.requires.seated)) c.self.invariant.silent
 
 pub load-word-requires-clause-counts : goal.load-word-requires-clause-counts
-load-word-requires-clause-counts c found after e = loads_ask _ _ _ e.1
+load-word-requires-clause-counts c found after e = loads_ask _ _ _ (inr (c.self.invariant.ahead (ap (λ p. p.seated) c.self.view_is ∙ c.requires.seated))) e.1
 
 -- the word is the last that was taken, where it is new
 last_taken : (v : ClerkView) (view : View) (m : View) (word : ℕ) → v ≡ m.clerk → view ≡ at_clerk m (with_taking m.clerk word) → is_new_word v word ≡ true → last_of view.clerk.taken ≡ word

@@ -21,7 +21,7 @@ store-requires-clause-keeps c id =
     answers_keep _ _ _ _ (i.answers seated) owed (λ k. (turn k, number k)) c.reply_word-word.ensures.word.spelled
 
 pub store-requires-clause-counts : goal.store-requires-clause-counts
-store-requires-clause-counts c after e = stores_answer _ _ _ e
+store-requires-clause-counts c after e = stores_answer _ _ _ (c.self.invariant.answers (ap (λ p. p.seated) c.self.view_is ∙ c.requires.seated)) e
 
 pub invariant_of-self : goal.invariant_of-self
 invariant_of-self c =

@@ -1,4 +1,4 @@
-use Rattle.std.proofs.Common.{◌≡◌, ℕ, suc, ◌+◌, [], ◌∷◌, ◌++◌, length, true, true≢false, sym, ap, ◌∙◌, arith}
+use Rattle.std.proofs.Common.{◌≡◌, ℕ, suc, ◌+◌, [], ◌∷◌, ◌++◌, length, true, true≢false, sym, ap, ◌∙◌, inl, arith}
 use Rattle.std.proofs.lemmas.List.{length_push}
 use Rattle.lift_desk.specs.declared.view.View.{View}
 use Rattle.lift_desk.specs.Words.{turn_of, number_of, last_of}
@@ -16,7 +16,8 @@ load-word-requires-clause-keeps c id =
     looks_keep _ _ _ (ap (λ l. l.view.answers) read ∙ i.answers (ap (λ p. p.seated) c.self.view_is ∙ c.requires.seated)) (ap (λ l. l.view.looks_ahead) read ∙ i.in_order)
 
 pub load-word-requires-clause-counts : goal.load-word-requires-clause-counts
-load-word-requires-clause-counts c found after e = loads_ask _ _ _ e.1
+load-word-requires-clause-counts c found after e =
+    loads_ask _ _ _ (inl (ap (λ l. l.view.answers) c.read_note.ensures.1 ∙ c.self.invariant.answers (ap (λ p. p.seated) c.self.view_is ∙ c.requires.seated))) e.1
 
 pub invariant_of-self-2 : goal.invariant_of-self-2
 invariant_of-self-2 c =

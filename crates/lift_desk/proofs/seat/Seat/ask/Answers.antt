@@ -15,7 +15,7 @@ store-requires-clause-keeps c id =
     asks_keep _ _ _ _ i.asks (i.rests c.if-self.false) (omega arith) c.ask_word-word.ensures.word.spelled
 
 pub store-requires-clause-counts : goal.store-requires-clause-counts
-store-requires-clause-counts c after e = stores_ask _ _ _ e
+store-requires-clause-counts c after e = stores_ask _ _ _ c.self.invariant.asks e
 
 pub invariant_of-self : goal.invariant_of-self
 invariant_of-self c =

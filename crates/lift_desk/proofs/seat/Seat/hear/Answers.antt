@@ -6,4 +6,4 @@ pub load-word-requires-clause-keeps : goal.load-word-requires-clause-keeps
 load-word-requires-clause-keeps c id = hears_keep _ _ _ c.self.invariant.asks
 
 pub load-word-requires-clause-counts : goal.load-word-requires-clause-counts
-load-word-requires-clause-counts c found after e = loads_answer _ _ _ _ e.1
+load-word-requires-clause-counts c found after e = loads_answer _ _ _ _ c.self.invariant.asks e.1

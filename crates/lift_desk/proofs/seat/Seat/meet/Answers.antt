@@ -15,7 +15,7 @@ load-word-requires-clause-keeps c id =
     meets_keep _ _ _ (ap (λ s. s.view.asks) j ∙ c.self.invariant.asks) (ap (λ s. s.view.answers) j ∙ c.requires.clerk.2)
 
 pub load-word-requires-clause-counts : goal.load-word-requires-clause-counts
-load-word-requires-clause-counts c found after e = loads_answer _ _ _ _ e.1
+load-word-requires-clause-counts c found after e = loads_answer _ _ _ _ (ap (λ s. s.view.asks) c.join.ensures ∙ c.self.invariant.asks) e.1
 
 pub split-requires-clause-keeps : goal.split-requires-clause-keeps
 split-requires-clause-keeps c id =

@@ -1,4 +1,4 @@
-use Rattle.std.proofs.Common.{ap, ◌∙◌}
+use Rattle.std.proofs.Common.{ap, ◌∙◌, inl}
 use Rattle.lift_desk.proofs.Keeps.{unites_join, compares_keep, seats_split}
 use Rattle.lift_desk.proofs.Looks.{united_carries, loads_unseen, terminal_part_carries, clerk_part_carries}
 use Rattle.lift_desk.proofs.seat.Seat.share.Goals as goal
@@ -15,7 +15,9 @@ load-requires-clause-keeps c id =
     compares_keep _ _ _ (ap (λ s. s.view.asks) j ∙ c.self.invariant.asks) (ap (λ s. s.view.answers) j ∙ c.requires.clerk.2)
 
 pub load-requires-clause-counts : goal.load-requires-clause-counts
-load-requires-clause-counts c found after e = loads_unseen _ _ _ e.0
+load-requires-clause-counts c found after e =
+    let j = c.join.ensures in
+    loads_unseen _ _ _ (record { asks = inl (ap (λ s. s.view.answers) j ∙ c.requires.clerk.2); answers = ap (λ s. s.view.asks) j ∙ c.self.invariant.asks }) e.0
 
 pub split-requires-clause-keeps : goal.split-requires-clause-keeps
 split-requires-clause-keeps c id =

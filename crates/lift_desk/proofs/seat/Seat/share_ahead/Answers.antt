@@ -1,4 +1,4 @@
-use Rattle.std.proofs.Common.{ap, ◌∙◌}
+use Rattle.std.proofs.Common.{ap, ◌∙◌, inr}
 use Rattle.lift_desk.proofs.Keeps.{ahead_unites_join, compares_ahead_keep, ahead_parts_split}
 use Rattle.lift_desk.proofs.Looks.{united_carries, loads_unseen, terminal_part_carries, ahead_part_carries}
 use Rattle.lift_desk.proofs.seat.Seat.share_ahead.Goals as goal
@@ -15,7 +15,9 @@ load-requires-clause-keeps c id =
     compares_ahead_keep _ _ _ (ap (λ s. s.view.asks) j ∙ c.self.invariant.asks) (ap (λ s. s.view.looks_ahead) j ∙ c.requires.rights.0)
 
 pub load-requires-clause-counts : goal.load-requires-clause-counts
-load-requires-clause-counts c found after e = loads_unseen _ _ _ e.0
+load-requires-clause-counts c found after e =
+    let j = c.join.ensures in
+    loads_unseen _ _ _ (record { asks = inr (ap (λ s. s.view.looks_ahead) j ∙ c.requires.rights.0); answers = ap (λ s. s.view.asks) j ∙ c.self.invariant.asks }) e.0
 
 pub split-requires-clause-keeps : goal.split-requires-clause-keeps
 split-requires-clause-keeps c id =

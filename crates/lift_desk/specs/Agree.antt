@@ -1,0 +1,23 @@
+-- What the rule of one table says of any two of its seats, whoever holds them.
+use Rattle.std.specs.Prelude.{◌≡◌, ℕ, true}
+use mathlib.Core.Option.{some}
+use lib.ListN.{get_elem?}
+use Rattle.atomic_table.specs.Table.{State}
+use Rattle.lift_desk.specs.declared.view.View.{View}
+use Rattle.lift_desk.specs.Rule.{IsInOrder, IsAhead, IsKept}
+use Rattle.lift_desk.specs.Steps.{lists_of}
+
+-- The seats i and j, of which one knows u and the other v.
+pub record Agree (i j : ℕ) (u v : View) : Type 0 where
+  -- what the terminal asked and heard, and what the clerk took and answered of it, is in order
+  pub in_order : u.asks ≡ true → v.answers ≡ true → IsInOrder (lists_of u.terminal v.clerk)
+  -- each word that was taken ahead of the clerk was asked, in rising turns
+  pub ahead : u.asks ≡ true → v.looks_ahead ≡ true → IsAhead u.terminal.asked v.clerk.taken
+  -- one seat stores the asks, and one the answers
+  pub one_asks : u.asks ≡ true → v.asks ≡ true → i ≡ j
+  pub one_answers : u.answers ≡ true → v.answers ≡ true → i ≡ j
+
+-- So it is of any two seats while the rule holds.
+abbrev pub SeatsAgree : State (Unit {0}) View → Type 0
+SeatsAgree s = (i j : ℕ) (u v : View) → get_elem? s.views i ≡ some u → get_elem? s.views j ≡ some v
+    → Agree i j u v
