@@ -11,7 +11,7 @@ use Rattle.lift_disk.specs.declared.sectors.SectorFile.{SectorFile}
 use Rattle.lift_disk.specs.Trace.{Access}
 use Rattle.lift_disk.specs.Disk.{DiskState, Image, ChangesWithin, Elapses, GoesOn, SectorIsWritten, Touches, TouchesNothing, StaysLoose, IsSteadyAt}
 use Rattle.lift_disk.specs.Runs.{HoldsRun, Rests, RunIsWritten, with_run}
-use Rattle.lift_disk.specs.Holding.{IsSameFile, OpensSector, WasAnnounced, on_file, sectors_in}
+use Rattle.lift_disk.specs.Holding.{HoldsTheSame, IsSameFile, IsUntouched, OpensSector, WasAnnounced, on_file, sectors_in}
 use Rattle.lift_disk.specs.lemmas.Moments.{changes_more, changes_both}
 
 pub err_items : {T E P : Type 0} (r : Result T E) {b : Bool} → b ≡ is_err r → b ≡ true → OnErr r P → P
@@ -108,6 +108,21 @@ sectors_whole sectors most = let same : sectors * 512 / 512 ≡ sectors = omega 
 pub measured_honest : (honest : Type 0) (old new : DiskState) (sectors bytes : ℕ) → IsSameFile old new → (old.is_honest → old.size ≡ sectors_in bytes) → sectors ≡ sectors_in bytes → (honest ↔ (new.is_honest × (new.size ≡ sectors))) → honest ↔ old.is_honest
 measured_honest honest old new sectors bytes same told whole is =
     (λ h. same.honest.0 (is.0 h).0, λ h. is.1 (same.honest.1 h, same.size ∙ told h ∙ sym whole))
+
+-- a device on a file that was only asked holds what the file held
+pub measured_held : {F : Type 0} {told : Told F} (holds : F → DiskState) (d : SectorFile F told) (file below : F) → file_below d ≡ below → IsUntouched (holds file) (holds below)
+    → (holds file).is_honest → (sector_file_state_of holds d).size ≡ (holds file).size → HoldsTheSame (holds file) (sector_file_state_of holds d)
+measured_held {F} holds d file below same untouched honest sized =
+    let held = subst (λ (f : F). HoldsTheSame (holds file) (holds f)) (sym same) (untouched.held honest) in record {
+      size = sized;
+      image = held.image;
+      synced = held.synced;
+      loose = held.loose;
+      steady = held.steady;
+      written = held.written;
+      moment = held.moment;
+      left_since = held.left_since;
+    }
 
 pub made_honest : (honest : Type 0) (old new : DiskState) (sectors : ℕ) → sectors ≤ 4294967295 → (new.is_honest ↔ old.is_honest) → (old.is_honest → new.size ≡ sectors_in (sectors * 512)) → (honest ↔ (new.is_honest × (new.size ≡ sectors))) → honest ↔ old.is_honest
 made_honest honest old new sectors most same told is =

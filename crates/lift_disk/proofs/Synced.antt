@@ -4,10 +4,11 @@ use Rattle.lift_disk.specs.Disk.{DiskState, CountsNow, KeepsWrites, TouchesNothi
 use Rattle.lift_disk.specs.FileCalls.{FailsIn, FileCall, LeadsBy}
 use Rattle.lift_disk.specs.Runs.{Rests}
 use Rattle.std.proofs.Math.Logic.{∥∥₁_map}
-use Rattle.lift_disk.specs.Holding.{IsKnownSteady, IsSameFile, SyncMakesSafe}
+use Rattle.lift_disk.specs.Holding.{IsKnownSteady, IsSameFile, IsUntouched, SyncMakesSafe}
 use Rattle.lift_disk.specs.Traced.{IsMaking, file_of, making_of, zero_write, zero_writes}
 use Rattle.lift_disk.specs.declared.traced.TracedFile.{TracedFile}
 use Rattle.lift_disk.specs.lemmas.Moments.{changes_more, changes_twice}
+use Rattle.lift_disk.specs.lemmas.Starts.{holds_then}
 use Rattle.lift_disk.proofs.OnFile.{elapses_then}
 
 touches_nothing_then : (old mid new : DiskState) → TouchesNothing old mid → TouchesNothing mid new → TouchesNothing old new
@@ -20,6 +21,12 @@ pub same_then : (old mid new : DiskState) → IsSameFile old mid → IsSameFile 
 same_then old mid new first second = record {
   size = second.size ∙ first.size;
   honest = (λ h. first.honest.0 (second.honest.0 h), λ h. second.honest.1 (first.honest.1 h));
+}
+
+pub untouched_then : (old mid new : DiskState) → IsUntouched old mid → IsUntouched mid new → IsUntouched old new
+untouched_then old mid new first second = record {
+  same = same_then old mid new first.same second.same;
+  held = λ honest. holds_then old mid new (first.held honest) (second.held (first.same.honest.1 honest));
 }
 
 pub rests_then : (old mid new : DiskState) → Rests old mid → Rests mid new → Rests old new

@@ -27,6 +27,8 @@ pub data FileCall : Type 0 where
   DropCached : FileCall
   -- the lock that one process has at a time
   Lock : FileCall
+  -- its owner alone may read and write it from now on
+  Restrict : FileCall
 
 -- how the logic stores a call
 abbrev pub to_parts : FileCall → ℕ × (ℕ × List (List ℕ))
@@ -39,6 +41,7 @@ to_parts (ReadSectors offset run) = (5, (offset, run))
 to_parts (GetLength bytes) = (6, (bytes, []))
 to_parts DropCached = (7, (0, []))
 to_parts Lock = (8, (0, []))
+to_parts Restrict = (9, (0, []))
 
 abbrev pub of_parts : ℕ × (ℕ × List (List ℕ)) → FileCall
 of_parts p = cond (p.0 == 0) (Read p.1.0 (get_or p.1.1 0 []))
@@ -47,7 +50,8 @@ of_parts p = cond (p.0 == 0) (Read p.1.0 (get_or p.1.1 0 []))
     (cond (p.0 == 3) (SetLength p.1.0)
     (cond (p.0 == 4) SyncAll
     (cond (p.0 == 5) (ReadSectors p.1.0 p.1.1)
-    (cond (p.0 == 6) (GetLength p.1.0) (cond (p.0 == 7) DropCached Lock)))))))
+    (cond (p.0 == 6) (GetLength p.1.0)
+    (cond (p.0 == 7) DropCached (cond (p.0 == 8) Lock Restrict))))))))
 
 pub there_and_back : (call : FileCall) → of_parts (to_parts call) ≡ call
 there_and_back (Read offset bytes) = refl
@@ -59,6 +63,7 @@ there_and_back (ReadSectors offset run) = refl
 there_and_back (GetLength bytes) = refl
 there_and_back DropCached = refl
 there_and_back Lock = refl
+there_and_back Restrict = refl
 
 abbrev pub file_calls_code : Coded (List FileCall)
 file_calls_code = coded_list
@@ -86,6 +91,7 @@ without_given (SyncAll ∷ calls) = SyncAll ∷ without_given calls
 without_given (GetLength bytes ∷ calls) = GetLength bytes ∷ without_given calls
 without_given (DropCached ∷ calls) = without_given calls
 without_given (Lock ∷ calls) = Lock ∷ without_given calls
+without_given (Restrict ∷ calls) = Restrict ∷ without_given calls
 
 -- Exactly one call of a file, this one: it succeeded, or it failed.
 pub record IsOneCall {F T E : Type 0} (gives fails : F → FileCall → F → Type 0)

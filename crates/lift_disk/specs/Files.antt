@@ -4,7 +4,7 @@ use Rattle.std.specs.Prelude.{◌++◌, slice_get, Option, Some, None, ◌⊎◌
 use Rattle.std.specs.Prelude.{false}
 use Rattle.lift_disk.specs.FileCalls.{FailsIn, FileCall, LeadsBy, sync_calls}
 use Rattle.lift_disk.specs.FileCalls.FileCall.{ReadSectors, GetLength}
-use Rattle.lift_disk.specs.Holding.{on_file, sectors_in}
+use Rattle.lift_disk.specs.Holding.{HoldsTheSame, IsUntouched, on_file, sectors_in}
 use Rattle.lift_disk.specs.Traced.{making_calls, making_of, traced_calls, failures_of, file_of}
 use Rattle.lift_disk.specs.Traced.{IsMadeOf}
 use Rattle.lift_disk.specs.Disk.{DiskState}
@@ -74,7 +74,8 @@ pub record SyncsByCalls {F T E : Type 0} {told : Told F} (result : Result T E)
 
 -- A device on a file that was there and was not made: it was opened, and after these calls asked for
 -- its length, before the calls of the device, and the sectors are the whole ones of that length.
--- The device is honest exactly where that file was when it was opened.
+-- The device is honest exactly where that file was when it was opened, and then it holds what that
+-- held.
 pub record IsMeasured {F : Type 0} {told : Told F} (opens : Option F → Type 0)
     (gives : F → FileCall → F → Type 0) (holds : F → DiskState) (first : List FileCall)
     (d : SectorFile F told) : Type 0 where
@@ -85,6 +86,7 @@ pub record IsMeasured {F : Type 0} {told : Told F} (opens : Option F → Type 0)
   pub asked : making_below d ≡ first ++ GetLength bytes ∷ []
   pub size : (sector_file_state_of holds d).size ≡ sectors_in bytes
   pub honest : (sector_file_state_of holds d).is_honest ↔ (holds file).is_honest
+  pub held : (holds file).is_honest → HoldsTheSame (holds file) (sector_file_state_of holds d)
   pub unknown : is_known_steady d ≡ false
 
 -- A device of this many sectors on a file that was made: the device is honest exactly where that
@@ -96,11 +98,12 @@ pub record IsMadeDevice {F : Type 0} {told : Told F} (opens : Option F → Type 
   pub honest : (sector_file_state_of holds d).is_honest ↔ (holds made.file).is_honest
 
 -- How an opening fails that makes these calls and then asks for the length: one of them failed,
--- whatever length it would have answered, and none was made after it.
+-- whatever length it would have answered, none was made after it, and the file holds what it held.
 abbrev pub fails_opening : {F : Type 0} → (gives fails : F → FileCall → F → Type 0)
-    → (first : List FileCall) → (opened left : F) → Type 0
-fails_opening gives fails first opened left =
-    (bytes : ℕ) → FailsIn gives fails (first ++ GetLength bytes ∷ []) opened left
+    → (holds : F → DiskState) → (first : List FileCall) → (opened left : F) → Type 0
+fails_opening gives fails holds first opened left =
+    ((bytes : ℕ) → FailsIn gives fails (first ++ GetLength bytes ∷ []) opened left)
+    × IsUntouched (holds opened) (holds left)
 
 -- How a making fails of a file of this many sectors of zeros: one of its calls failed, and none was
 -- made after it; or all were made, and the folder couldn't be made safe.

@@ -1,7 +1,7 @@
 -- What a file holds, by its sectors, and what its calls do to that where it is honest.
 use Rattle.std.specs.Prelude.{◌≡◌, ◌↔◌, ◌⊎◌, ◌≤◌, ◌<◌, ◌+◌, ◌*◌, ◌/◌, ℕ, List, [], length, false}
 use Rattle.std.specs.Prelude.{if◌then◌else◌, nat_lt, Result, OnOk, OnErr}
-use Rattle.lift_disk.specs.Disk.{DiskState, Elapses, IsSteadyAt, KeepsWrites, SavesAll}
+use Rattle.lift_disk.specs.Disk.{DiskState, Elapses, Image, IsSteadyAt, KeepsWrites, SavesAll}
 use Rattle.lift_disk.specs.Runs.{HoldsRun, IsInRun, Rests, RunIsWritten, with_run}
 use Rattle.lift_disk.specs.Trace.{Access}
 
@@ -82,6 +82,23 @@ pub record SyncMakesSafe (old new : DiskState) : Type 0 where
 pub record IsSameFile (old new : DiskState) : Type 0 where
   pub size : new.size ≡ old.size
   pub honest : new.is_honest ↔ old.is_honest
+
+-- It holds what the other one held: the same is read and was written, the same sectors are loose, and
+-- a crash may leave the same, now and at each moment since any other.
+pub record HoldsTheSame (old new : DiskState) : Type 0 where
+  pub size : new.size ≡ old.size
+  pub image : new.image ≡ old.image
+  pub synced : new.synced ≡ old.synced
+  pub loose : (i : ℕ) → new.is_loose i ↔ old.is_loose i
+  pub steady : new.is_steady ↔ old.is_steady
+  pub written : (i : ℕ) (bytes : List ℕ) → new.written i bytes ↔ old.written i bytes
+  pub moment : new.moment ≡ old.moment
+  pub left_since : (t : ℕ) (left : Image) → new.left_since t left ↔ old.left_since t left
+
+-- A call that changes nothing of a file, whether it fails or not.
+pub record IsUntouched (old new : DiskState) : Type 0 where
+  pub same : IsSameFile old new
+  pub held : old.is_honest → HoldsTheSame old new
 
 -- A call that gave these sectors of a file. One that has failed changes nothing but loose sectors,
 -- and leaves them loose.

@@ -11,6 +11,7 @@ pub mod Faults
 pub mod Files
 pub mod Runs
 pub mod Holding
+pub mod Starts
 pub mod Below
 pub mod Blank
 pub mod lemmas

@@ -11,7 +11,7 @@ use Rattle.lift_disk.specs.Trace.Access.{Read, Write, Sync}
 use Rattle.lift_disk.specs.FileCalls.{FileCall}
 use Rattle.lift_disk.specs.FileCalls.FileCall.{Read as ReadBytes, Write as WriteBytes, SyncData}
 use Rattle.lift_disk.specs.FileCalls.FileCall.{ReadSectors, SetLength, SyncAll, GetLength, DropCached}
-use Rattle.lift_disk.specs.FileCalls.FileCall.{Lock}
+use Rattle.lift_disk.specs.FileCalls.FileCall.{Lock, Restrict}
 use Rattle.lift_disk.specs.Disk.{Image}
 use Rattle.lift_disk.specs.Places.{all_now}
 use Rattle.lift_disk.specs.Calls.{Call, writes_of}
@@ -33,6 +33,7 @@ file_call_of called.SyncAll = SyncAll
 file_call_of (called.GetLength bytes) = GetLength bytes
 file_call_of called.DropCached = DropCached
 file_call_of called.Lock = Lock
+file_call_of called.Restrict = Restrict
 
 abbrev pub first_after : Change → Image → Image
 first_after (change.First sectors) first = all_now sectors.now

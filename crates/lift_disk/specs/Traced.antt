@@ -4,9 +4,9 @@ use Rattle.std.specs.Prelude.{Option, Some, true, min, replicate}
 use Rattle.std.specs.Fs.{new_options, with_create, with_read, with_write}
 use Rattle.std.specs.declared.fs.options.OpenOptions.{OpenOptions}
 use Rattle.lift_disk.specs.Disk.{DiskState}
-use Rattle.lift_disk.specs.Holding.{IsSameFile, sectors_in}
+use Rattle.lift_disk.specs.Holding.{IsUntouched, sectors_in}
 use Rattle.lift_disk.specs.FileCalls.{AreCalls, FileCall, IsOneCall, LeadsBy, MakesCalls}
-use Rattle.lift_disk.specs.FileCalls.FileCall.{Lock, SetLength, SyncAll, Write}
+use Rattle.lift_disk.specs.FileCalls.FileCall.{Lock, Restrict, SetLength, SyncAll, Write}
 use Rattle.lift_disk.specs.Runs.{joined}
 use Rattle.lift_disk.specs.declared.traced.TracedFile.{TracedFile}
 
@@ -38,10 +38,11 @@ zero_writes sectors zero = []
 zero_writes sectors (suc count) = zero_writes sectors count ++ zero_write sectors count ∷ []
 
 -- The calls by which a file of this many sectors of zeros is made: nothing is done before the lock
--- is taken, and all of it is written, so that it has its room, and made safe.
+-- is taken, nobody but its owner may have it before anything is written, and all of it is written, so
+-- that it has its room, and made safe.
 abbrev pub making_calls : (sectors : ℕ) → List FileCall
 making_calls sectors =
-    (Lock ∷ SetLength 0 ∷ SetLength (sectors * 512) ∷ [])
+    (Lock ∷ Restrict ∷ SetLength 0 ∷ SetLength (sectors * 512) ∷ [])
     ++ zero_writes sectors ((sectors + 127) / 128) ++ SyncAll ∷ []
 
 -- A file that was opened so, made by these calls, and then named by its folder for good. It is as
@@ -93,12 +94,12 @@ pub record IsMaking {F : Type 0} (gives : F → FileCall → F → Type 0) (call
   pub unfailed : failures_of new ≡ failures_of old
 
 -- A file that was opened and then called just so, in this order, before it is a device: it told
--- this many bytes, and is as honest as it was when it was opened.
+-- this many bytes, and it is as honest and holds the same as when it was opened.
 pub record IsOpenedBy {F : Type 0} (gives : F → FileCall → F → Type 0) (holds : F → DiskState)
     (calls : List FileCall) (file : F) (bytes : ℕ) (opened : TracedFile F) : Type 0 where
   pub led : LeadsBy gives calls file (file_of opened)
   pub listed : making_of opened ≡ calls
   pub uncalled : traced_calls opened ≡ []
   pub unfailed : failures_of opened ≡ 0
-  pub same : IsSameFile (holds file) (holds (file_of opened))
+  pub untouched : IsUntouched (holds file) (holds (file_of opened))
   pub size : (holds file).is_honest → (holds file).size ≡ sectors_in bytes

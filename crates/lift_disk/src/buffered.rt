@@ -2,6 +2,7 @@
 ghost use Rattle.std.specs.Prelude.{◌≡◌, ◌≤◌, ◌<◌, ◌+◌, [], ℕ, List, length, Some};
 ghost use Rattle.std.specs.Prelude.{slice_get, IsTrue, OnOk, OnErr, IfSome, IfNone, ◌↔◌};
 ghost use Rattle.lift_disk.specs.Disk.{CountsFault, KeepsWrites, MayLeave};
+ghost use Rattle.lift_disk.specs.Holding.{HoldsTheSame};
 ghost use Rattle.lift_disk.specs.Runs.{Announces, GivesRun, HoldsRun, IsInRun};
 ghost use Rattle.lift_disk.specs.Runs.{MakesCalls, Loosens, Rests};
 ghost use Rattle.lift_disk.specs.Runs.{left_with, left_without, run_calls, run_loose, run_whole};
@@ -57,6 +58,7 @@ impl<R: RunDisk + Drop> Buffered<R> {
         ensures writes { (⟦<Buffered<R> as Disk>⟧.state result).writes ≡ 0 }
         ensures trace { (⟦<Buffered<R> as Disk>⟧.state result).trace ≡ [] }
         ensures image { (⟦<Buffered<R> as Disk>⟧.state result).image ≡ (R.state device).image }
+        ensures held { HoldsTheSame (R.state device) (⟦<Buffered<R> as Disk>⟧.state result) }
         ensures honest { (R.state device).is_honest
             → (⟦<Buffered<R> as Disk>⟧.state result).is_honest }
     {

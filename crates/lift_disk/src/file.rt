@@ -64,7 +64,7 @@ impl<F: ToldFile + Drop> SectorFile<F> {
         ensures measured { IfOk result (λ disk. IsMeasured (O.opens opener to_be_used path.now)
             F.gives F.holds (Lock ∷ []) disk) }
         ensures refused { IfErr result (IsRefused opener (O.stands opener path.now)
-            (O.opens opener to_be_used path.now) (fails_opening F.gives F.fails (Lock ∷ []))) }
+            (O.opens opener to_be_used path.now) (fails_opening F.gives F.fails F.holds (Lock ∷ []))) }
         ensures uncalled { IfOk result (λ disk. calls_below disk ≡ []) }
         ensures failures { IfOk result (λ disk. (sector_file_state_of F.holds disk).failures ≡ 0) }
         ensures calls { IfOk result (λ disk. (sector_file_state_of F.holds disk).calls ≡ 0) }
@@ -94,7 +94,7 @@ impl<F: ToldFile + Drop> SectorFile<F> {
         ensures measured { IfOk result (λ disk. IsMeasured (O.opens opener to_be_read path.now)
             F.gives F.holds [] disk) }
         ensures refused { IfErr result (IsRefused opener (O.stands opener path.now)
-            (O.opens opener to_be_read path.now) (fails_opening F.gives F.fails [])) }
+            (O.opens opener to_be_read path.now) (fails_opening F.gives F.fails F.holds [])) }
         ensures uncalled { IfOk result (λ disk. calls_below disk ≡ []) }
         ensures failures { IfOk result (λ disk. (sector_file_state_of F.holds disk).failures ≡ 0) }
         ensures calls { IfOk result (λ disk. (sector_file_state_of F.holds disk).calls ≡ 0) }
@@ -117,8 +117,9 @@ impl<F: ToldFile + Drop> SectorFile<F> {
     }
 
     /// Makes a file of this many sectors of zeros, or makes one that is there into that, if its
-    /// lock is free. Its sectors are written and its folder is made safe, so that it has its
-    /// room and its name. A file that was opened and is refused comes back.
+    /// lock is free. Nobody but its owner may have it then. Its sectors are written and its folder
+    /// is made safe, so that it has its room and its name. A file that was opened and is refused
+    /// comes back.
     pub fn create<O: FileOpener<Told = F>>(
         opener: O,
         path: &str,

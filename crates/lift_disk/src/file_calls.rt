@@ -21,6 +21,7 @@ pub(crate) enum Called<'a> {
     GetLength(u64),
     DropCached,
     Lock,
+    Restrict,
 }
 
 #[derive(Drop)]

@@ -2,8 +2,10 @@
 ghost use Rattle.std.specs.Prelude.{◌≡◌, ℕ, List, Option, Some, None, Bool, IfOk, OnErr, OnOk, ⊤};
 ghost use Rattle.std.specs.declared.fs.options.OpenOptions.{OpenOptions as Options};
 
-use crate::told::{SystemFile, ToldFile};
+use crate::told::{OWNER_ALONE, SystemFile, ToldFile};
 use std::fs::{File, OpenOptions};
+use std::io::ErrorKind;
+use std::os::unix::fs::{MetadataExt, OpenOptionsExt};
 use std::rt::LibcRuntime;
 use std::{fs, io};
 
@@ -51,12 +53,44 @@ pub trait FileOpener: Drop {
         ensures refused { OnErr result (unnamed (opener_of folder) path.now made.now) };
 }
 
-/// The folder of a path. Where the path is a link it is the link's.
+/// The folder of a path. No path of a file that was made is a link.
 fn folder_of(path: &str) -> &str {
     match path.rsplit_once('/') {
         Some(("", _)) => "/",
         Some((folder, _)) => folder,
         None => ".",
+    }
+}
+
+fn refused() -> io::Error {
+    io::Error::from(ErrorKind::InvalidInput)
+}
+
+/// A file that is there and is to be made anew. It has to have just this name: through a link, or a
+/// second name, another file would be lost than the one that was named.
+fn made_anew(rt: &LibcRuntime, how: &OpenOptions, path: &str) -> io::Result<File> {
+    let mut as_it_is = OpenOptions::new();
+    as_it_is.read(how.asks_read()).write(how.asks_write());
+    let file = as_it_is.open(rt, path)?;
+    let (opened, named) = (file.metadata()?, fs::symlink_metadata(rt, path)?);
+    if opened.dev() == named.dev() && opened.ino() == named.ino() && opened.nlink() == 1 {
+        Ok(file)
+    } else {
+        Err(refused())
+    }
+}
+
+/// A file that is made. What isn't there is made as its owner's alone, and not where a link points.
+fn made(rt: &LibcRuntime, how: &OpenOptions, path: &str) -> io::Result<File> {
+    let mut new = OpenOptions::new();
+    new.read(how.asks_read()).write(how.asks_write());
+    new.create_new(true).mode(OWNER_ALONE);
+    match new.open(rt, path) {
+        Ok(file) => Ok(file),
+        Err(error) => match error.kind() {
+            ErrorKind::AlreadyExists => made_anew(rt, how, path),
+            _ => Err(error),
+        },
     }
 }
 
@@ -103,8 +137,17 @@ impl<'r> FileOpener for SystemOpener<'r> {
         how: &OpenOptions,
         path: &str,
     ) -> io::Result<(SystemFile<File>, SystemFolder<'r>)> {
-        let file = SystemFile::over(how.open(self.rt, path)?);
-        Ok((file, SystemFolder { opener: self }))
+        let file = if how.asks_create() {
+            made(self.rt, how, path)?
+        } else {
+            how.open(self.rt, path)?
+        };
+        // (what was asked about the path may be gone since)
+        if !file.metadata()?.is_file() {
+            return Err(refused());
+        }
+        let folder = SystemFolder { opener: self };
+        Ok((SystemFile::over(file), folder))
     }
 
     fn sync_folder_told(

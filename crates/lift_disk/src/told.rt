@@ -4,16 +4,19 @@ ghost use Rattle.lift_disk.specs.Disk.{CountsNow, DiskState, IsWhole, LeavesNoOt
 ghost use Rattle.lift_disk.specs.FileCalls.{FileCall, IsOneAnswer, IsOneCall};
 ghost use Rattle.lift_disk.specs.FileCalls.FileCall.{Read, ReadSectors, Write, SyncData};
 ghost use Rattle.lift_disk.specs.FileCalls.FileCall.{DropCached, GetLength, Lock, SetLength};
-ghost use Rattle.lift_disk.specs.FileCalls.FileCall.{SyncAll};
+ghost use Rattle.lift_disk.specs.FileCalls.FileCall.{Restrict, SyncAll};
 ghost use Rattle.lift_disk.specs.Holding.{sectors_in};
-ghost use Rattle.lift_disk.specs.Holding.{IsKnownSteady, IsSameFile, OpensSector, Reads, Syncs};
+ghost use Rattle.lift_disk.specs.Holding.{IsKnownSteady, IsUntouched, OpensSector, Reads, Syncs};
 ghost use Rattle.lift_disk.specs.Holding.{Writes, WritesBack};
 ghost use Rattle.lift_disk.specs.Holding.{nothing_known};
 ghost use Rattle.lift_disk.specs.Runs.{joined};
 
-use std::fs::{File, OpenFile};
+use std::fs::{File, OpenFile, Permissions};
 use std::io;
-use std::os::unix::fs::FileExt;
+use std::os::unix::fs::{FileExt, PermissionsExt};
+
+/// A file's rights, of which its owner may read and write it, and nobody else.
+pub(crate) const OWNER_ALONE: u32 = 0o600;
 
 /// A file whose calls are told: each step from one state to the next is a call of it.
 ///
@@ -36,7 +39,12 @@ pub trait ToldFile {
     /// is closed.
     fn lock_told(&mut self) -> io::Result<()>
         ensures one { IsOneCall gives fails result Lock self.old self.new }
-        ensures same { IsSameFile (holds self.old) (holds self.new) };
+        ensures untouched { IsUntouched (holds self.old) (holds self.new) };
+
+    /// Makes it its owner's alone to read and write, whoever might before.
+    fn restrict_told(&mut self) -> io::Result<()>
+        ensures one { IsOneCall gives fails result Restrict self.old self.new }
+        ensures untouched { IsUntouched (holds self.old) (holds self.new) };
 
     /// Says that a sector is to be written. It is no call: from now on a crash may leave any bytes
     /// at all in the sector, as if its write had begun.
@@ -100,7 +108,7 @@ pub trait ToldFile {
     /// How many bytes it has.
     fn length_told(&mut self) -> io::Result<u64>
         ensures one { IsOneAnswer gives fails result GetLength self.old self.new }
-        ensures same { IsSameFile (holds self.old) (holds self.new) }
+        ensures untouched { IsUntouched (holds self.old) (holds self.new) }
         ensures size { IfOk result (λ bytes. (holds self.old).is_honest
             → (holds self.old).size ≡ sectors_in bytes) };
 
@@ -168,6 +176,11 @@ impl<F: HostFile> ToldFile for SystemFile<F> {
 
     fn lock_told(&mut self) -> io::Result<()> {
         self.file.try_lock()
+    }
+
+    fn restrict_told(&mut self) -> io::Result<()> {
+        self.file
+            .set_permissions(Permissions::from_mode(OWNER_ALONE))
     }
 
     fn announce_told(&mut self, _sector: u32) {}

@@ -2,12 +2,12 @@
 ghost use Rattle.std.specs.Prelude.{◌≡◌, ◌↔◌, ◌+◌, ◌*◌, ◌/◌, ◌++◌, [], ◌∷◌, IfOk, IsOk, OnErr, OnOk};
 ghost use Rattle.std.specs.Prelude.{ℕ, IfErr, IsTrue, false, ⊤};
 ghost use Rattle.lift_disk.specs.Holding.{sectors_in};
-ghost use Rattle.lift_disk.specs.Holding.{IsKnownSteady, IsSameFile, OpensSector, Reads, Syncs};
-ghost use Rattle.lift_disk.specs.Holding.{Writes};
+ghost use Rattle.lift_disk.specs.Holding.{IsKnownSteady, IsSameFile, IsUntouched, OpensSector};
+ghost use Rattle.lift_disk.specs.Holding.{Reads, Syncs, Writes};
 ghost use Rattle.lift_disk.specs.Runs.{joined};
 ghost use Rattle.lift_disk.specs.FileCalls.{FailsIn, LeadsBy, MakesCalls, sync_calls};
 ghost use Rattle.lift_disk.specs.FileCalls.FileCall.{Read, ReadSectors, Write, SyncData};
-ghost use Rattle.lift_disk.specs.FileCalls.FileCall.{GetLength, Lock, SetLength, SyncAll};
+ghost use Rattle.lift_disk.specs.FileCalls.FileCall.{GetLength, Lock, Restrict, SetLength, SyncAll};
 
 use crate::DiskFault;
 use crate::file::FailedFile;
@@ -55,10 +55,21 @@ impl<F: ToldFile + Drop> TracedFile<F> {
     fn lock(&mut self) -> io::Result<()>
         ensures making { OnOk result (IsMaking F.gives (Lock ∷ []) self.old self.new) }
         ensures failed { OnErr result (F.fails (file_of self.old) Lock (file_of self.new)) }
-        ensures same { IsSameFile (F.holds (file_of self.old)) (F.holds (file_of self.new)) }
+        ensures untouched { IsUntouched (F.holds (file_of self.old)) (F.holds (file_of self.new)) }
     {
         self.file.lock_told()?;
         self.making = self.making.then(&Called::Lock);
+        Ok(())
+    }
+
+    /// Makes it its owner's alone.
+    fn restrict(&mut self) -> io::Result<()>
+        ensures making { OnOk result (IsMaking F.gives (Restrict ∷ []) self.old self.new) }
+        ensures failed { OnErr result (F.fails (file_of self.old) Restrict (file_of self.new)) }
+        ensures untouched { IsUntouched (F.holds (file_of self.old)) (F.holds (file_of self.new)) }
+    {
+        self.file.restrict_told()?;
+        self.making = self.making.then(&Called::Restrict);
         Ok(())
     }
 
@@ -129,6 +140,7 @@ impl<F: ToldFile + Drop> TracedFile<F> {
             → (F.holds (file_of self.new)).size ≡ sectors_in (sectors * 512)) }
     {
         self.lock()?;
+        self.restrict()?;
         self.set_length(0)?;
         self.set_length(u64::from(sectors) * 512)?;
         self.fill_with_zeros(sectors)?;
@@ -164,7 +176,7 @@ impl<F: ToldFile + Drop> TracedFile<F> {
             IsMaking F.gives (GetLength bytes ∷ []) self.old self.new) }
         ensures failed { OnErr result ((bytes : ℕ)
             → F.fails (file_of self.old) (GetLength bytes) (file_of self.new)) }
-        ensures same { IsSameFile (F.holds (file_of self.old)) (F.holds (file_of self.new)) }
+        ensures untouched { IsUntouched (F.holds (file_of self.old)) (F.holds (file_of self.new)) }
         ensures size { IfOk result (λ bytes. (F.holds (file_of self.old)).is_honest
             → (F.holds (file_of self.old)).size ≡ sectors_in bytes) }
     {
@@ -179,7 +191,7 @@ impl<F: ToldFile + Drop> TracedFile<F> {
             IsMaking F.gives (Lock ∷ GetLength bytes ∷ []) self.old self.new) }
         ensures failed { OnErr result ((bytes : ℕ) → FailsIn F.gives F.fails
             (Lock ∷ GetLength bytes ∷ []) (file_of self.old) (file_of self.new)) }
-        ensures same { IsSameFile (F.holds (file_of self.old)) (F.holds (file_of self.new)) }
+        ensures untouched { IsUntouched (F.holds (file_of self.old)) (F.holds (file_of self.new)) }
         ensures size { IfOk result (λ bytes. (F.holds (file_of self.old)).is_honest
             → (F.holds (file_of self.old)).size ≡ sectors_in bytes) }
     {
@@ -188,12 +200,14 @@ impl<F: ToldFile + Drop> TracedFile<F> {
     }
 
     /// A file that was opened to be read and written, once its lock was taken, and its length in
-    /// bytes. Where a call fails none is made after it, and the file comes back as it was left.
+    /// bytes. Where a call fails none is made after it, and the file comes back. It holds what it held.
     pub fn locked(file: F) -> Result<(TracedFile<F>, u64), FailedFile<F>>
         ensures told { IfOk result (λ opened. IsOpenedBy F.gives F.holds
             (Lock ∷ GetLength opened.1 ∷ []) file opened.1 opened.0) }
         ensures failed { IfErr result (λ failed. (bytes : ℕ)
             → FailsIn F.gives F.fails (Lock ∷ GetLength bytes ∷ []) file failed.file) }
+        ensures untouched { IfErr result (λ failed.
+            IsUntouched (F.holds file) (F.holds failed.file)) }
     {
         let mut traced = TracedFile::over(file);
         match traced.lock_and_measure() {
@@ -208,6 +222,8 @@ impl<F: ToldFile + Drop> TracedFile<F> {
             (GetLength opened.1 ∷ []) file opened.1 opened.0) }
         ensures failed { IfErr result (λ failed. (bytes : ℕ)
             → FailsIn F.gives F.fails (GetLength bytes ∷ []) file failed.file) }
+        ensures untouched { IfErr result (λ failed.
+            IsUntouched (F.holds file) (F.holds failed.file)) }
     {
         let mut traced = TracedFile::over(file);
         match traced.measure() {

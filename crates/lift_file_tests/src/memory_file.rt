@@ -102,6 +102,10 @@ impl ToldFile for MemoryFile {
         Ok(())
     }
 
+    fn restrict_told(&mut self) -> io::Result<()> {
+        Ok(())
+    }
+
     fn announce_told(&mut self, sector: u32) {
         if sector < self.disk.sectors() {
             self.disk.announce(sector);

@@ -62,14 +62,16 @@ impl TextOpener for SystemTextOpener<'_> {
     ghost reads_told = { λ _ _ _ _ _. tt };
 
     /// What isn't a file, as a pipe or a terminal, isn't opened, so that nothing waits for its other
-    /// end. A file that got the descriptor of a standard stream, which the program began without, is
-    /// refused: what is printed would be written into it, or into the next file that is opened.
+    /// end. What was opened is asked again, since another thing may stand at the path by then: so
+    /// nothing but a file is read. A file that got the descriptor of a standard stream, which the
+    /// program began without, is refused: what is printed would be written into it, or into the next
+    /// file that is opened.
     fn open_text(self, path: &str) -> io::Result<File> {
         if !fs::metadata(self.rt, path)?.is_file() {
             return Err(io::Error::from(ErrorKind::InvalidInput));
         }
         let file = File::open(self.rt, path)?;
-        if file.as_raw_fd() <= STANDARD_ERROR {
+        if !file.metadata()?.is_file() || file.as_raw_fd() <= STANDARD_ERROR {
             return Err(io::Error::from(ErrorKind::InvalidInput));
         }
         Ok(file)

@@ -199,7 +199,8 @@ fn each_call_is_one_of_the_file(rt: HostRuntime) {
 enum Opening {
     /// As it is, with no call.
     Over,
-    /// Its length is set, each of 300 sectors is written, and that is made safe.
+    /// It is made its owner's alone, its length is set, each of 300 sectors is written, and that is
+    /// made safe.
     Zeroed,
     /// Its lock has to be free, and it has to tell its length.
     Locked,
@@ -222,7 +223,7 @@ fn is_opened<F: ToldFile + Drop>(file: F, opening: Opening) -> bool {
 
 /// How many sectors the file has, how it is opened, and the call after how many fails; how many are
 /// left where it succeeds, and what the file has noted from a place on. One that is made is so by
-/// seven calls, each of which has to succeed.
+/// eight calls, each of which has to succeed.
 const OPENINGS: &[(usize, Opening, u32, Option<u32>, usize, &[u64])] = &[
     (300, Opening::Over, 0, Some(0), READS, &[0; 9]),
     (300, Opening::Zeroed, 0, None, READS, &[0; 9]),
@@ -232,10 +233,11 @@ const OPENINGS: &[(usize, Opening, u32, Option<u32>, usize, &[u64])] = &[
     (300, Opening::Zeroed, 4, None, READS, &[]),
     (300, Opening::Zeroed, 5, None, READS, &[]),
     (300, Opening::Zeroed, 6, None, READS, &[]),
+    (300, Opening::Zeroed, 7, None, READS, &[]),
     (
         300,
         Opening::Zeroed,
-        7,
+        8,
         Some(0),
         WRITTEN_AT,
         &[131_072, 153_600, 153_600, 153_600],

@@ -2,7 +2,7 @@
 //! calls.
 use lift_disk::{HostFile, SystemFile};
 use std::cell::Cell;
-use std::fs::{Metadata, OpenFile};
+use std::fs::{Metadata, OpenFile, Permissions};
 use std::io;
 use std::io::ErrorKind;
 use std::os::unix::fs::FileExt;
@@ -155,6 +155,10 @@ impl OpenFile for NotedFile<'_> {
 
     fn sync_data(&self) -> io::Result<()> {
         self.notes.add(SYNCS, 1);
+        self.notes.outcome()
+    }
+
+    fn set_permissions(&self, _perm: Permissions) -> io::Result<()> {
         self.notes.outcome()
     }
 }
