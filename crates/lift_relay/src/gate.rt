@@ -12,7 +12,7 @@ ghost use Rattle.lift_parts.specs.Turns.{IsSending};
 
 use crate::allocator::Allocator;
 use crate::flusher::Flusher;
-use crate::refused::NoThread;
+use crate::refused::{NoThread, RunBegun};
 use lift_disk::Disk;
 use lift_policy::Policy;
 use std::marker::Model;
@@ -33,6 +33,12 @@ pub trait Gate {
     fn go_on(&self) -> bool
         ensures goes { result ≡ true → opened self.now }
         ensures closes { result ≡ false → closed self.now };
+
+    /// Both parts have a thread. It is told once, before the flusher's first turn, and not at all where
+    /// the allocator's thread was refused.
+    fn both_run(&self, begun: RunBegun) {
+        let _both = begun.told();
+    }
 
     /// The allocator's turn sent nothing, and has nothing in hand. The next one looks at what was
     /// asked before this returns.

@@ -29,7 +29,7 @@ pub use gate::Gate;
 pub use held::{HeldClerk, HeldKeeper, rejoin_held, split_held};
 pub use lift_parts::{FlushCounts, NotedCommand};
 pub use pair::{RunFault, run};
-pub use refused::NoThread;
+pub use refused::{BothRun, NoThread, RunBegun};
 pub use relay::{Key, rejoin, split, tell};
 pub use settling::Settler;
 pub use tie::turn_flusher_once;

@@ -248,7 +248,8 @@ where
                 ensures closed { IfRan (G.closed gate.entry.now) result }
             { allocate_if(rt, flag, allocator, gate) };
             match spawn(scope, promise, work) {
-                Ok(child) => {
+                Ok((child, begun)) => {
+                    gate.both_run(begun);
                     let first = flush(rt, &mut flusher, gate, &mut witness);
                     match child.join(rt) {
                         Allocating::Idle(allocator) => {
@@ -267,6 +268,7 @@ where
                         Allocating::Idle(allocator) => {
                             (Turned::Refused(allocator, no_thread), flusher, witness)
                         }
+                        // (never: the flag is down, so it has not run; its gate was told nothing)
                         Allocating::Ran(allocator) => {
                             (Turned::Done(allocator, None), flusher, witness)
                         }

@@ -1,4 +1,4 @@
-//! A thread for one of the parts, or the evidence that none could be made.
+//! A thread for one of the parts, and the evidence that there is one, or that none could be made.
 
 ghost use Rattle.std.specs.Prelude.{◌≡◌, IfOk, IfErr};
 
@@ -20,24 +20,50 @@ impl Model for NoThread {
     ghost inverse = { λ _. record { made = tt } };
 }
 
+/// Evidence that both parts of a run have a thread. Only `spawn` below makes one, where it got the
+/// thread.
+#[derive(Clone, Copy)]
+pub struct BothRun {
+    made: (),
+}
+
+/// What the gate of a run is told by that both parts have a thread. It can't be let go: so the gate is
+/// told. Only `spawn` below makes one, where it got the thread.
+pub struct RunBegun {
+    both: BothRun,
+}
+
+impl RunBegun {
+    /// The gate was told.
+    pub fn told(self) -> BothRun {
+        let RunBegun { both } = self;
+        both
+    }
+}
+
 /// A thread of a scope, for this work, whose result keeps the promise. The work comes back where no
 /// thread could be made.
 pub(crate) fn spawn<'s, E, P, F, T>(
     scope: &Scope<'s, E>,
     promise: P,
     work: F,
-) -> Result<PromisedHandle<T, P>, (F, NoThread)>
+) -> Result<(PromisedHandle<T, P>, RunBegun), (F, NoThread)>
 where
     P: Promise<T> + Drop,
     F: FnOnce() -> T + Send + 's,
     T: Send + Drop + 's,
     requires runs { F.pre work }
     requires keeps { (made : T) → F.post work made → P.kept_by promise made }
-    ensures promised { IfOk result (λ child. child.promise ≡ promise) }
+    ensures promised { IfOk result (λ begun. begun.0.promise ≡ promise) }
     ensures back { IfErr result (λ refused. refused.0 ≡ work) }
 {
     match scope.spawn_with(promise, work) {
-        Ok(child) => Ok(child),
+        Ok(child) => Ok((
+            child,
+            RunBegun {
+                both: BothRun { made: () },
+            },
+        )),
         Err(SpawnError { value }) => Err((value, NoThread { made: () })),
     }
 }

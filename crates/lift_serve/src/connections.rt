@@ -21,6 +21,9 @@ use std::sync::atomic::{AtomicBool, Ordering};
 use std::thread::JoinHandle;
 use std::time::Clock;
 
+/// So many connections may be open whose first line is still to come.
+const MOST_WAITING: usize = 256;
+
 /// An open connection.
 #[derive(Drop)]
 struct Open {
@@ -140,6 +143,12 @@ impl Model for CountedEnd {
     ghost view = { λ l. l.number };
 }
 
+/// Evidence that all connections were shut down. Only `close` makes one.
+#[derive(Drop)]
+pub(crate) struct AllShut {
+    made: (),
+}
+
 /// Whether connections are still read. Only `Connections` ends that, after the last end that counts.
 #[derive(Drop)]
 pub(crate) struct Reading {
@@ -229,7 +238,8 @@ impl Connections {
         self.open.is_empty()
     }
 
-    /// Somebody who came is let in: a connection is open from now on, by the number of its ticket.
+    /// Somebody who came is let in: a connection is open from now on, by the number of its ticket. Where
+    /// too many wait with their first line still to come, the one that has waited longest is closed.
     /// Nobody is where all have ended that were to end, or all were given up; and where there is no memory for it,
     /// that is noted, and the connection has ended.
     pub(crate) fn enter(
@@ -256,7 +266,10 @@ impl Connections {
             return Err(over);
         }
         match self.admit(alloc, arrival) {
-            Ok(entered) => Ok(Some(entered)),
+            Ok(entered) => {
+                self.make_room();
+                Ok(Some(entered))
+            }
             Err(shortage) => {
                 self.shortages.note(shortage);
                 self.ended(bound);
@@ -374,8 +387,38 @@ impl Connections {
     }
 
     /// Closes all that are open, whatever they wait for: no more are accepted.
-    pub(crate) fn close(&self, _over: &Over) {
+    pub(crate) fn close(&self, _over: &Over) -> AllShut {
         self.shut(Shutdown::Both);
+        AllShut { made: () }
+    }
+
+    /// Closes whoever has waited longest of those whose first line is still to come. Whether there was
+    /// one.
+    pub(crate) fn send_one_away(&self) -> bool {
+        for open in self.open.iter() {
+            if open.closer.send_away() {
+                return true;
+            }
+        }
+        false
+    }
+
+    /// So many have their first line still to come.
+    fn waiting(&self) -> usize {
+        let mut count = 0usize;
+        for open in self.open.iter() {
+            if open.closer.is_awaited() {
+                count = count.saturating_add(1);
+            }
+        }
+        count
+    }
+
+    /// Where more wait with their first line still to come than may, one is closed.
+    fn make_room(&self) {
+        if self.waiting() > MOST_WAITING {
+            let _closed = self.send_one_away();
+        }
     }
 
     /// How the serving ended whose accepting was over so. Told is that all were given up, and else the

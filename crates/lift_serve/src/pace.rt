@@ -5,15 +5,16 @@ ghost use Rattle.lift_serve.specs.RingCount.{asks_at};
 
 mod pager;
 
+use crate::connections::AllShut;
 use crate::over::Over;
 use lift_base::ProofCount;
 use lift_kiosk::DeskPort;
-use lift_relay::Gate;
+use lift_relay::{BothRun, Gate, RunBegun};
 pub use pager::Pager;
 use std::marker::Model;
 use std::snapshot::Snapshot;
-use std::sync::Wait;
 use std::sync::atomic::{AtomicBool, AtomicU64, Ordering};
+use std::sync::{OnceLock, Wait};
 use std::thread::Parker;
 use std::time::Duration;
 
@@ -144,10 +145,19 @@ impl Closing {
     }
 }
 
-/// What wakes the threads of a serving: the allocator's waits for asks, or for the flusher to go
-/// on; the flusher's for batches; a session's, at its terminal's pager, for its answer.
+/// What the accepting waits for before it lets anybody in: that both parts have a thread.
+#[derive(Drop)]
+struct Doors {
+    both: OnceLock<BothRun>,
+    parker: Parker,
+}
+
+/// What wakes the threads of a serving: the accepting's waits for both parts; the allocator's for
+/// asks, or for the flusher to go on; the flusher's for batches; a session's, at its terminal's pager,
+/// for its answer.
 #[derive(Drop)]
 pub struct Bells<'s> {
+    doors: Doors,
     asks: AskBell,
     room: Parker,
     batches: Parker,
@@ -159,12 +169,37 @@ impl<'s> Bells<'s> {
     /// None is rung, and nothing was flushed.
     pub fn new(pagers: &'s [Pager]) -> Self {
         Bells {
+            doors: Doors {
+                both: OnceLock::new(),
+                parker: Parker::new(),
+            },
             asks: AskBell::new(),
             room: Parker::new(),
             batches: Parker::new(),
             pagers,
             flushed: AtomicU64::new(0),
         }
+    }
+
+    /// Both parts have a thread.
+    fn open_doors(&self, both: BothRun) {
+        let _first = self.doors.both.try_set(both);
+        self.doors.parker.unpark();
+    }
+
+    /// Whether both parts have a thread.
+    pub(crate) fn both_run(&self) -> Option<BothRun> {
+        self.doors.both.get().copied()
+    }
+
+    /// Waits until the doors open, or somebody rings there.
+    pub(crate) fn wait_at_doors<R: Wait>(&self, rt: &R) {
+        self.doors.parker.park(rt);
+    }
+
+    /// Wakes who waits for the doors to open.
+    pub(crate) fn ring_at_doors(&self) {
+        self.doors.parker.unpark();
     }
 
     /// To be rung after each ask.
@@ -187,6 +222,13 @@ impl<'s> Bells<'s> {
         let flushed = self.flushed.load(Ordering::SeqCst);
         for pager in self.pagers {
             pager.is_flushed(flushed);
+        }
+    }
+
+    /// All connections are closed: no session rests any more.
+    pub(crate) fn leave_all(&self, _shut: AllShut) {
+        for pager in self.pagers {
+            pager.leave();
         }
     }
 
@@ -276,6 +318,10 @@ impl<'s> Pace<'s> {
 impl<'s> Gate for Pace<'s> {
     fn go_on(&self) -> bool {
         !self.closing.is_set.load(Ordering::SeqCst)
+    }
+
+    fn both_run(&self, begun: RunBegun) {
+        self.bells.open_doors(begun.told());
     }
 
     fn allocator_idles<R: Wait>(&self, rt: &R) {

@@ -31,7 +31,7 @@ use lift_base::MOST_CARS;
 use lift_disk::Disk;
 use lift_parts::{parts_are_clerks, turns_keep_what_was_given};
 use lift_policy::Policy;
-use lift_relay::{Gate, HeardBy, HeldClerk, HeldKeeper, Witness};
+use lift_relay::{BothRun, Gate, HeardBy, HeldClerk, HeldKeeper, Witness};
 use std::alloc::Global;
 use std::sync::{Mutex, Wait};
 use std::thread;
@@ -65,6 +65,9 @@ pub struct ServingOutcome<'b, D: Disk + Drop, K: Drop, V: Witness + Drop> {
 /// How long the accepting of connections rests where it failed, ms.
 const ACCEPT_REST_MS: u64 = 10;
 
+/// How long where a connection was closed for it, ms.
+const CLOSED_REST_MS: u64 = 1;
+
 /// A connection's thread, after which the connection is counted as ended: it was attended to, or
 /// the shortage at that is noted.
 fn attend_connection<R: Wait + Clock>(
@@ -82,21 +85,33 @@ fn attend_connection<R: Wait + Clock>(
     }
 }
 
-/// Accepts connections until all have ended that were to end.
+/// Rests where an accept failed, as where descriptors have run out: whoever has waited longest with its
+/// first line still to come is closed, which frees one.
+fn rest_and_make_room<R: Wait + Clock>(rt: &R, shared: Shared<'_, '_>) {
+    let rest = if shared.send_one_away(rt) {
+        CLOSED_REST_MS
+    } else {
+        ACCEPT_REST_MS
+    };
+    thread::sleep(rt, Duration::from_millis(rest));
+}
+
+/// Accepts connections, since both parts have a thread, until all have ended that were to end.
 fn accept_all<'s, 'd: 's, E, R: Threads + Wait + Clock + Sync>(
     rt: &'s R,
     alloc: Global,
     scope: &Scope<'s, E>,
     shared: Shared<'s, 'd>,
+    both: BothRun,
 ) -> Over
     ensures { IsEndAt shared.entry.bound.now result }
 {
     for _ in rt.forever() {
-        let Ok(arrival) = Arrival::at(shared.bound) else {
+        let Ok(arrival) = Arrival::at(shared.bound, both) else {
             if let Some(over) = shared.is_over(rt) {
                 return over;
             }
-            thread::sleep(rt, Duration::from_millis(ACCEPT_REST_MS));
+            rest_and_make_room(rt, shared);
             continue;
         };
         let (connection, awaited) = match shared.enter(rt, alloc, arrival) {
@@ -113,8 +128,8 @@ fn accept_all<'s, 'd: 's, E, R: Threads + Wait + Clock + Sync>(
     unreachable!()
 }
 
-/// Accepts connections until all have ended that were to end, and once each thread of one has, has
-/// both parts end.
+/// Accepts connections, once both parts have a thread, until all have ended that were to end. Once each
+/// thread of one has ended, has both parts end.
 fn welcome<R: Threads + Wait + Clock + Sync>(rt: &R, alloc: Global, shared: Shared<'_, '_>) -> Over
     ensures { IsEndAt shared.entry.bound.now result }
 {
@@ -124,7 +139,10 @@ fn welcome<R: Threads + Wait + Clock + Sync>(rt: &R, alloc: Global, shared: Shar
         move |scope| -> Over
             requires { IsSync R.row }
         {
-            let over = accept_all(rt, alloc, scope, shared);
+            let over = match shared.wait_for_both(rt) {
+                Ok(both) => accept_all(rt, alloc, scope, shared, both),
+                Err(over) => over,
+            };
             shared.see_off(rt, &over);
             over
         },

@@ -12,6 +12,7 @@ use crate::prepared::ServingTerms;
 use crate::prepared::shortages::Shortage;
 use crate::socket::Arrival;
 use lift_building::Building;
+use lift_relay::BothRun;
 use std::alloc::Global;
 use std::sync::{Mutex, Wait};
 use std::thread;
@@ -71,6 +72,29 @@ impl<'a, 'd> Shared<'a, 'd> {
         requires { IsErr over.now }
     {
         self.connections.lock(rt).give_up(self.bound, over);
+        self.bells.ring_at_doors();
+    }
+
+    /// Waits until both parts have a thread; or all are given up, since one was refused.
+    pub(crate) fn wait_for_both<R: Wait>(self, rt: &R) -> Result<BothRun, Over>
+        ensures { IfErr result (IsEndAt self.entry.bound.now) }
+    {
+        for _ in rt.forever() {
+            if let Some(both) = self.bells.both_run() {
+                return Ok(both);
+            }
+            if let Some(over) = self.is_over(rt) {
+                return Err(over);
+            }
+            self.bells.wait_at_doors(rt);
+        }
+        unreachable!()
+    }
+
+    /// Of the connections whose first line is still to come the one that has waited longest is closed.
+    /// Whether there was one.
+    pub(crate) fn send_one_away<R: Wait>(self, rt: &R) -> bool {
+        self.connections.lock(rt).send_one_away()
     }
 
     /// The connection of this number has ended, which was attended to.
@@ -101,7 +125,7 @@ impl<'a, 'd> Shared<'a, 'd> {
     }
 
     /// Sessions that wait for an answer have a while to write it. What is still open then is
-    /// closed.
+    /// closed, and waits no more.
     pub(crate) fn see_off<R: Wait + Clock>(self, rt: &R, over: &Over) {
         for _ in 0..FAREWELL_MS {
             if self.is_empty(rt) {
@@ -109,6 +133,7 @@ impl<'a, 'd> Shared<'a, 'd> {
             }
             thread::sleep(rt, Duration::from_millis(1));
         }
-        self.connections.lock(rt).close(over);
+        let shut = self.connections.lock(rt).close(over);
+        self.bells.leave_all(shut);
     }
 }

@@ -2,6 +2,7 @@
 //! everything else has what keeps it, and what shuts it down.
 
 ghost use Rattle.std.specs.Prelude.{◌≡◌, IfErr};
+ghost use Rattle.std.specs.Io.{ReadsAtMost};
 ghost use Rattle.std.specs.declared.net.tcp.TcpListener.{TcpListener as Listener};
 
 use crate::attending::Attendance;
@@ -12,14 +13,29 @@ use crate::prepared::shortages::{Shortage, read_ahead, share};
 use crate::serving::ServeFault;
 use crate::shared::Shared;
 use crate::speaking::speak;
+use lift_relay::BothRun;
 use lift_system::watch;
 use std::alloc::Global;
 use std::io;
+use std::io::{ErrorKind, Read};
 use std::marker::Model;
 use std::net::{Shutdown, TcpListener, TcpStream};
 use std::os::fd::OwnedFd;
+use std::sync::atomic::{AtomicU64, Ordering};
 use std::sync::{Arc, Wait};
-use std::time::Clock;
+use std::time::{Clock, Duration, Instant};
+
+/// How long a connection may take to send its first line, s.
+const FIRST_LINE_S: u64 = 10;
+
+/// The first line is still to come.
+const AWAITED: u64 = 0;
+
+/// The first line has come.
+const HAS_COME: u64 = 1;
+
+/// The connection was closed before its first line came.
+const SENT_AWAY: u64 = 2;
 
 /// A socket that listens. Who has one can accept nothing at it: it can only be served. Contracts see
 /// the socket.
@@ -73,8 +89,8 @@ pub(crate) struct Arrival {
 }
 
 impl Arrival {
-    /// The next one at the socket of a serving that is bound so.
-    pub(crate) fn at(bound: &ServingTerms) -> io::Result<Arrival> {
+    /// The next one at the socket of a serving that is bound so, both of whose parts have a thread.
+    pub(crate) fn at(bound: &ServingTerms, _both: BothRun) -> io::Result<Arrival> {
         let (stream, _address) = bound.listening().listener.accept()?;
         Ok(Arrival { stream })
     }
@@ -84,8 +100,8 @@ impl Arrival {
         ensures lack { IfErr result (λ shortage. shortage ≡ ServeFault.Memory) }
     {
         let Arrival { stream } = self;
-        let (stream, theirs) = share(alloc, stream)?;
-        Ok((Socket { stream }, Closer { stream: theirs }))
+        let (peer, theirs) = share(alloc, Peer::new(stream))?;
+        Ok((Socket { peer }, Closer { peer: theirs }))
     }
 
     /// It is closed, for no more are let in.
@@ -94,23 +110,136 @@ impl Arrival {
     }
 }
 
+/// A connection's stream, and whether its first line has come.
+#[derive(Drop)]
+pub(crate) struct Peer {
+    stream: TcpStream,
+    stage: AtomicU64,
+}
+
+impl Peer {
+    /// Its first line is still to come.
+    fn new(stream: TcpStream) -> Self {
+        Peer {
+            stream,
+            stage: AtomicU64::new(AWAITED),
+        }
+    }
+
+    fn is_awaited(&self) -> bool {
+        self.stage.load(Ordering::SeqCst) == AWAITED
+    }
+
+    /// Whether it was still to be settled whether the first line comes, and is now.
+    fn is_settled_as(&self, stage: u64) -> bool {
+        self.stage
+            .compare_exchange(AWAITED, stage, Ordering::SeqCst, Ordering::SeqCst)
+            .is_ok()
+    }
+
+    /// The first line has come: from here on a read waits for as long as it takes. Refused where the
+    /// connection was closed before.
+    fn comes(&self) -> io::Result<()> {
+        if !self.is_settled_as(HAS_COME) {
+            return Err(too_late());
+        }
+        self.stream.set_read_timeout(None)
+    }
+}
+
+/// No first line has come in time.
+fn too_late() -> io::Error {
+    io::Error::from(ErrorKind::TimedOut)
+}
+
+/// Reads a connection. Until the first line has come it reads for ten seconds altogether, and fails
+/// then.
+#[derive(Drop)]
+struct PeerReader<'s, R: Clock> {
+    rt: &'s R,
+    peer: &'s Peer,
+    begun: Option<Instant>,
+}
+
+impl<'s, R: Clock> PeerReader<'s, R> {
+    fn new(rt: &'s R, peer: &'s Peer) -> Self {
+        PeerReader {
+            rt,
+            peer,
+            begun: Instant::now(rt).ok(),
+        }
+    }
+
+    /// What is left of the ten seconds; all of them where the clock can't be read.
+    fn left(&self) -> Option<Duration> {
+        let whole = Duration::from_secs(FIRST_LINE_S);
+        let Some(begun) = self.begun else {
+            return Some(whole);
+        };
+        match begun.elapsed(self.rt) {
+            Ok(elapsed) => whole.checked_sub(elapsed),
+            Err(_) => Some(whole),
+        }
+    }
+
+    /// Reads, as the first line is still to come.
+    fn read_first(&self, buf: &mut [u8]) -> io::Result<usize>
+        ensures { ReadsAtMost result buf.new }
+    {
+        let Some(left) = self.left() else {
+            return Err(too_late());
+        };
+        self.peer.stream.set_read_timeout(Some(left))?;
+        let count = (&self.peer.stream).read(buf)?;
+        if buf[..count].contains(&b'\n') {
+            self.peer.comes()?;
+        }
+        Ok(count)
+    }
+}
+
+impl<'s, R: Clock> Read for PeerReader<'s, R> {
+    fn read(&mut self, buf: &mut [u8]) -> io::Result<usize> {
+        match self.peer.stage.load(Ordering::SeqCst) {
+            AWAITED => self.read_first(buf),
+            HAS_COME => (&self.peer.stream).read(buf),
+            _ => Err(too_late()),
+        }
+    }
+}
+
 /// What shuts a connection's socket down, whatever waits for it.
 #[derive(Drop)]
 pub(crate) struct Closer {
-    stream: Arc<TcpStream>,
+    peer: Arc<Peer>,
 }
 
 impl Closer {
     /// Shuts it down, that way.
     pub(crate) fn shut(&self, how: Shutdown) {
-        let _closed = self.stream.shutdown(how);
+        let _closed = self.peer.stream.shutdown(how);
+    }
+
+    /// Whether the first line is still to come.
+    pub(crate) fn is_awaited(&self) -> bool {
+        self.peer.is_awaited()
+    }
+
+    /// Shuts it down where the first line is still to come, which is read no more then. Whether that
+    /// is so.
+    pub(crate) fn send_away(&self) -> bool {
+        let is_sent = self.peer.is_settled_as(SENT_AWAY);
+        if is_sent {
+            self.shut(Shutdown::Both);
+        }
+        is_sent
     }
 }
 
 /// A connection's socket, by which somebody is attended to once.
 #[derive(Drop)]
 pub(crate) struct Socket {
-    stream: Arc<TcpStream>,
+    peer: Arc<Peer>,
 }
 
 impl Socket {
@@ -124,10 +253,11 @@ impl Socket {
     ) -> Result<Attendance<'d>, Shortage>
         ensures lack { IfErr result (λ shortage. shortage ≡ ServeFault.Memory) }
     {
-        let Socket { stream } = self;
+        let Socket { peer } = self;
+        let stream = &peer.stream;
         let _quick = stream.set_nodelay(true);
-        watch(&stream);
-        let attended = speak_over(rt, alloc, shared, ticket, &stream);
+        watch(stream);
+        let attended = speak_over(rt, alloc, shared, ticket, &peer);
         let _closed = stream.shutdown(Shutdown::Both);
         attended
     }
@@ -139,10 +269,10 @@ fn speak_over<'d, R: Wait + Clock>(
     alloc: Global,
     shared: Shared<'_, 'd>,
     ticket: Ticket,
-    stream: &TcpStream,
+    peer: &Peer,
 ) -> Result<Attendance<'d>, Shortage>
     ensures lack { IfErr result (λ shortage. shortage ≡ ServeFault.Memory) }
 {
-    let reader = read_ahead(alloc, stream)?;
-    Ok(speak(rt, shared, ticket, reader, stream).0)
+    let reader = read_ahead(alloc, PeerReader::new(rt, peer))?;
+    Ok(speak(rt, shared, ticket, reader, &peer.stream).0)
 }

@@ -9,7 +9,7 @@ use lift_kiosk::DeskPort;
 use std::marker::Model;
 use std::snapshot::Snapshot;
 use std::sync::Wait;
-use std::sync::atomic::{AtomicU64, Ordering};
+use std::sync::atomic::{AtomicBool, AtomicU64, Ordering};
 use std::thread;
 use std::thread::Parker;
 use std::time::{Clock, Duration, Instant};
@@ -37,6 +37,8 @@ const IN_BATCH: u64 = 2;
 pub struct Pager {
     terminal: Terminal,
     stage: AtomicU64,
+    /// All connections are closed: no answer can be written any more.
+    is_left: AtomicBool,
     parker: Parker,
 }
 
@@ -56,6 +58,7 @@ impl Pager {
         Pager {
             terminal,
             stage: AtomicU64::new(IDLE),
+            is_left: AtomicBool::new(false),
             parker: Parker::new(),
         }
     }
@@ -92,8 +95,15 @@ impl Pager {
         is_answered
     }
 
-    /// Rests for a millisecond. Nothing ends that earlier but the terminal's own answer, once: the
-    /// next look finds it.
+    /// Nobody is there any more to be answered. From here on no rest takes time: a session that waits
+    /// makes the looks that it has left, and ends.
+    pub(crate) fn leave(&self) {
+        self.is_left.store(true, Ordering::SeqCst);
+        self.parker.unpark();
+    }
+
+    /// Rests for a millisecond. Nothing ends that earlier but the terminal's own answer, once, which
+    /// the next look finds; and that all connections are closed.
     pub fn rest<R: Wait + Clock>(&self, rt: &R) {
         let whole = Duration::from_millis(REST_MS);
         let Ok(start) = Instant::now(rt) else {
@@ -101,7 +111,7 @@ impl Pager {
             return;
         };
         for _ in rt.forever() {
-            if self.goes_on(ANSWERED, IDLE) {
+            if self.is_left.load(Ordering::SeqCst) || self.goes_on(ANSWERED, IDLE) {
                 return;
             }
             match left_of(rt, start, whole) {

@@ -18,7 +18,7 @@ use crate::connections::{CountedEnd, DueEnd};
 use crate::over::Over;
 use crate::pace::Pager;
 use crate::serving::ServeFault;
-use crate::socket::{Listening, ListeningCloser};
+use crate::socket::{Listening, ListeningCloser, Peer};
 use crate::unused::UnusedClerkSeat;
 use lift_base::{MOST_TERMINALS, two_owners};
 use lift_desk::{Desk, DeskParts, Seat};
@@ -28,7 +28,6 @@ use lift_relay::{Allocator, Flusher, HeldClerk, split_held};
 use std::alloc::Global;
 use std::io::{BufReader, Read};
 use std::marker::Model;
-use std::net::TcpStream;
 use std::sync::Arc;
 use std::thread::Scope;
 
@@ -165,14 +164,11 @@ impl Shortages {
     }
 }
 
-/// Two that have a connection's stream.
-pub(crate) fn share(
-    alloc: Global,
-    stream: TcpStream,
-) -> Result<(Arc<TcpStream>, Arc<TcpStream>), Shortage>
+/// Two that have a connection's other side.
+pub(crate) fn share(alloc: Global, peer: Peer) -> Result<(Arc<Peer>, Arc<Peer>), Shortage>
     ensures lack { IfErr result (λ shortage. shortage ≡ ServeFault.Memory) }
 {
-    match two_owners(alloc, stream) {
+    match two_owners(alloc, peer) {
         Ok(both) => Ok(both),
         Err(_) => Err(no_memory()),
     }
