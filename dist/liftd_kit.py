@@ -10,6 +10,7 @@ if not (HERE / "plain_group.py").exists():
     sys.path.insert(0, str(HERE.parent / "tools/judge"))
 import plain_group as plain
 
+VERSION = "0.1.0"  # of liftd and its kit: that of the manual page
 MOST_BYTES = 1_048_576  # of a building's file
 
 
@@ -29,8 +30,9 @@ class Told(Exception):
 class Words(argparse.ArgumentParser):
     """The words of a command, whose faults are one line."""
 
-    def __init__(self, about, status=2):
-        super().__init__(description=about, formatter_class=argparse.RawDescriptionHelpFormatter)
+    def __init__(self, about, status=2, **more):
+        super().__init__(description=about, formatter_class=argparse.RawDescriptionHelpFormatter, **more)
+        self.add_argument("--version", action="version", version=f"%(prog)s of liftd {VERSION}")
         self.status = status
 
     def error(self, message):
@@ -79,4 +81,4 @@ def building_text(path):
 
 
 def count(number, name):
-    return f"{number} {name}" if number == 1 else f"{number} {name}s"
+    return f"{number} {name}" if number == 1 else f"{number} {name}{'es' if name.endswith('ch') else 's'}"

@@ -2,7 +2,7 @@
 """Gives each terminal of a group a port of its own, and says itself for which terminal a connection speaks.
 
 Usage: proxy.py SERVER ADDRESS PORT=TERMINAL[@FROM] ..
-for example: proxy.py 4000 10.0.0.1 4100=K0@10.0.0.20 4101=K1@10.0.0.21 4200=A@10.0.0.30
+for example: proxy.py 405 10.0.0.1 4100=K0@10.0.0.20 4101=K1@10.0.0.21 4200=A@10.0.0.30
 
 SERVER is liftd's port on 127.0.0.1, ADDRESS where the proxy listens. Who connects to 10.0.0.1:4100 is kiosk 0, and nobody else:
 the proxy writes the first line. Where FROM is told, only that address is let in there. Nothing is encrypted.
