@@ -4,6 +4,7 @@ pub mod Reading
 pub mod Images
 pub mod Cuts
 pub mod Writer
+pub mod Checkpoints
 pub mod Reopening
 pub mod Keeper
 pub mod Calls

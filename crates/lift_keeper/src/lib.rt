@@ -2,6 +2,7 @@
 //! register from it.
 #![tactic(auto)]
 
+mod checkpoints;
 mod copies;
 mod fault;
 mod keeper;
@@ -11,6 +12,7 @@ mod recovery;
 mod store;
 mod writer;
 
+pub use checkpoints::checkpoints_keep;
 pub use fault::KeeperFault;
 pub use keeper::Keeper;
 pub use writer::Writer;
