@@ -1,8 +1,9 @@
 """A journal that is read beside the group that writes it: what it has at one moment, and what comes to it.
 
 A group appends behind the gate that ends the chain of the picked half, and a checkpoint goes into the other half before that is
-picked. So what stands in a chain stays until its half is written anew, two checkpoints later: a chain that is read twice the
-same, under the same pick each time, is the journal of one moment between. Nothing is locked, and nothing is written.
+picked. So what stands in a chain stays until its half is written anew, two checkpoints later, and then its base has other bytes,
+as numbers and counts only grow: a chain that is read twice the same, with the same pick before, between and after, is the journal
+of one moment meanwhile. Nothing is locked, and nothing is written.
 """
 import os
 import time
@@ -18,6 +19,13 @@ Moment = namedtuple("Moment", "shape pick is_second chain sectors")
 Found = namedtuple("Found", "entry boarded left")
 Picked = namedtuple("Picked", "is_second")
 Missed = namedtuple("Missed", "count")
+
+
+class Anew(kit.Told):
+    """Another journal stands there by now."""
+
+    def __init__(self, path, why):
+        super().__init__(f"{path}: {why}", 1)
 
 
 class Image:
@@ -75,12 +83,17 @@ class Half:
             self.seen[at] = self.image[self.first + at]
         return self.seen[at]
 
-    def is_as_seen(self):
-        return all(self.image[self.first + at] == told for at, told in self.seen.items())
+    def is_as_seen(self, below):
+        """Whether the sectors that were looked at are as they were; below a sector of the half alone."""
+        return all(self.image[self.first + at] == told for at, told in self.seen.items() if at < below)
 
 
 def is_second(pick):
     return pick[0] == plain.OPEN
+
+
+def is_picked(image, pick):
+    return is_second(image[0]) == is_second(pick)
 
 
 def moment(image):
@@ -89,7 +102,9 @@ def moment(image):
         shape, pick = image.shape(), image[0]
         half = Half(image, shape, is_second(pick))
         chain = plain.read_chain(half)
-        if half.is_as_seen() and is_second(image[0]) == is_second(pick) and image.shape() == shape:
+        # (the gate that ends the chain may be opened meanwhile: it was closed when it was read)
+        below = chain.end if chain.broken is None else len(half)
+        if is_picked(image, pick) and half.is_as_seen(below) and is_picked(image, pick) and image.shape() == shape:
             if chain.broken is not None:
                 end = half.first + chain.end
                 raise kit.Told(f"{image.path}: broken at sector {end}: {chain.broken}   (liftd: journal 3 {end})", 1)
@@ -109,11 +124,13 @@ def copied(now):
 
 
 class Call:
-    """An open call, and since when it has been seen: at a base, where it stood there already, no time is known."""
+    """An open call, and when it was first seen, by a clock that nobody sets. `is_new` says whether it was seen to come, so that this
+    is its time; else it is older."""
 
-    def __init__(self, record, aboard, asked):
+    def __init__(self, record, seen, is_new):
         self.kiosk, self.number, self.car, self.party = record.kiosk, record.number, record.car, record.party
-        self.start, self.to, self.aboard, self.asked = record.start, record.to, aboard, asked
+        self.start, self.to, self.seen, self.is_new = record.start, record.to, seen, is_new
+        self.aboard = isinstance(record, plain.Row) and record.aboard
 
 
 class Calls:
@@ -122,7 +139,7 @@ class Calls:
     def __init__(self):
         self.open, self.last, self.done = {}, {}, 0
 
-    def take(self, record, now=None):
+    def take(self, record, is_new=False):
         """The calls that boarded by it, and those that left."""
         if isinstance(record, plain.Done):
             self.done = record.count
@@ -132,9 +149,8 @@ class Calls:
             self.last[record.car] = (record.number, plain.Stopped(record.floor, record.dir))
             return self.stop(record)
         else:
-            is_row = isinstance(record, plain.Row)
-            self.open[record.kiosk, record.number] = Call(record, is_row and record.aboard, None if is_row else now)
-            if not is_row:
+            self.open[record.kiosk, record.number] = Call(record, time.monotonic(), is_new)
+            if isinstance(record, plain.Allot):
                 self.last[record.kiosk] = (record.number, plain.Letter(record.start, record.to, record.car, record.party))
         return [], []
 
@@ -154,6 +170,10 @@ class Calls:
 
     def is_as(self, other):
         return (self.rows(), self.last, self.done) == (other.rows(), other.last, other.done)
+
+    def is_before(self, other):
+        """Whether some terminal's number, or the count of done calls, is below that of the other."""
+        return self.done < other.done or any(self.last.get(terminal, (0,))[0] < number for terminal, (number, _) in other.last.items())
 
     def commands(self, terminals):
         """How many commands of these terminals were accepted."""
@@ -179,43 +199,44 @@ class Follower:
 
     def begin(self, now):
         """Goes on behind this moment."""
+        batches = now.chain.batches
         self.shape, self.is_second, self.at = now.shape, now.is_second, now.chain.end
-        self.number = len(now.chain.batches) + 1
-        self.version = now.chain.batches[-1].version if now.chain.batches else 1
-        # (a checkpoint that comes into this half again has other bytes in its base: numbers and counts only grow)
-        within = next((batch.at for batch in now.chain.batches[1:] if all(map(is_entry, batch.records))), now.chain.end)
-        self.base = {at: told for at, told in now.sectors.items() if at < within}
-
-    def first(self):
-        return 2 + self.shape.half * self.is_second
+        self.number = len(batches) + 1
+        self.version = batches[-1].version if batches else 1
+        behind = next((batch.at for batch in batches[1:] if all(map(is_entry, batch.records))), now.chain.end)
+        last = batches[-1].at if batches else 0
+        # What a checkpoint into this half changes, and what a copy that is brought back does.
+        self.base = {at: told for at, told in now.sectors.items() if at < behind}
+        self.last = {at: told for at, told in now.sectors.items() if last <= at < now.chain.end}
 
     def is_written_anew(self):
-        return any(self.image[self.first() + at] != told for at, told in self.base.items())
+        half = Half(self.image, self.shape, self.is_second)
+        return any(half[at] != told for sectors in (self.base, self.last) for at, told in sectors.items())
 
     def next_batch(self):
-        """The batch at the end of the chain, if there is one by now; what was read stands in the half that is given too."""
+        """The batch at the end of the chain with its sectors, if there is one by now."""
         half = Half(self.image, self.shape, self.is_second)
         if half[self.at][0] != plain.OPEN:
             return None
         try:
             batch = plain.read_batch(half, self.at, self.number, self.version)
         except plain.Broken:
+            moment(self.image)  # (which tells it, if that is so)
             return None
-        return batch if half.is_as_seen() else None
+        return (batch, half.seen) if half.is_as_seen(len(half)) else None
 
     def poll(self):
         """What came since the last time, each in its order."""
         if self.image.shape() != self.shape:
-            raise kit.Told(f"{self.image.path}: was made anew for another building", 1)
+            raise Anew(self.image.path, "was made anew for another building")
         while True:
-            batch = self.next_batch()
+            batch, sectors = self.next_batch() or (None, None)
             if self.is_written_anew() or batch is not None and not all(map(is_entry, batch.records)):
                 yield from self.come_to_other(moment(self.image))
             elif batch is not None:
-                now = time.time()
                 self.at, self.number, self.version = self.at + 1 + plain.bodies(len(batch.records)), self.number + 1, batch.version
-                for record in batch.records:
-                    yield Found(record, *self.calls.take(record, now))
+                self.base, self.last = self.base or sectors, sectors
+                yield from self.taken(batch.records)
             elif is_second(self.image[0]) != self.is_second:
                 # (a batch that came before the other half was picked is read first)
                 if self.next_batch() is None and not self.is_written_anew():
@@ -230,18 +251,22 @@ class Follower:
         behind = next((at for at, record in enumerate(records) if is_entry(record)), len(records))
         for record in records[:behind]:
             base.take(record)
+        if base.is_before(self.calls):
+            raise Anew(self.image.path, "holds an older journal, or one that was made anew")
         missed = base.commands(range(63)) - self.calls.commands(range(63))
         is_whole = self.calls.is_as(base)
-        for key, call in base.open.items():
-            call.asked = self.calls.open[key].asked if key in self.calls.open else None
+        for key in base.open.keys() & self.calls.open.keys():
+            base.open[key].seen, base.open[key].is_new = self.calls.open[key].seen, self.calls.open[key].is_new
         self.begin(now)
         self.calls = base
         yield Picked(now.is_second)
         if not is_whole:
             yield Missed(missed)
-        seen = time.time()
-        for record in records[behind:]:
-            yield Found(record, *self.calls.take(record, seen))
+        yield from self.taken(records[behind:])
+
+    def taken(self, entries):
+        for entry in entries:
+            yield Found(entry, *self.calls.take(entry, True))
 
 
 def records_of(chain):
