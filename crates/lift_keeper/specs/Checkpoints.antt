@@ -1,5 +1,5 @@
 -- What a checkpoint leaves of a register.
-use Rattle.std.specs.Prelude.{◌≡◌, not, Result, Unit}
+use Rattle.std.specs.Prelude.{not, Result}
 use Rattle.lift_building.specs.Plan.{Plan}
 use Rattle.lift_disk.specs.Disk.{DiskState, LeavesOnly, RunsOn}
 use Rattle.lift_register.specs.Prelude.{RegisterState}
