@@ -12,7 +12,6 @@ use Rattle.lift_desk.specs.Steps.{lists_of}
 use Rattle.lift_desk.specs.Agree.{SeatsAgree, KnowAtOnce}
 use Rattle.lift_desk.specs.Seats.{ClerkPlace, view_at}
 use Rattle.lift_desk.specs.lemmas.WordLists.{prefix_nil}
-use Rattle.lift_clerk.specs.Steps.{GroupState}
 use Rattle.lift_clerk.specs.Group.{RuleOrders}
 
 in_order : ((s : State (Unit {0}) View) → IsKept s → SeatsAgree s) → (t : TerminalView) (c : ClerkView) → KnowAtOnce (λ v. v.answers) t c → IsInOrder (lists_of t c)

@@ -14,9 +14,7 @@ mod scan;
 pub use answering::{DueAnswer, answer_all};
 pub use clerk::Clerk;
 pub use counts::Counts;
-pub use group::{
-    ask_once, calls_are_steps, hear_once, pasts_go_on, rule_orders, turn_goes_on,
-};
+pub use group::{ask_once, calls_are_steps, hear_once, pasts_go_on, rule_orders, turn_goes_on};
 pub use history::{
     begin_over, crash_shows_letters, histories_are_runs, reopening_shows_letters,
     turn_is_of_the_history, turn_shows_letters,

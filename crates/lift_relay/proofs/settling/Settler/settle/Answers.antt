@@ -37,9 +37,14 @@ answer_all-requires g c =
     let batch = c.args.batch in
     let taken = c.into_commands.ensures in
     let looked = c.look_again-answers.ensures in
-    let desk : batch.desk ≡ s.desk.now = c.requires.at_desk ∙ ap (λ (v : SettlerState g.row.D.Denot). v.desk) (sym c.self.view_is) in
-    (omega arith, (looked.seated, owes_them s.desk.now s.seat c.look_again-answers.new.seat batch.commands c.into_commands.result.items c.look_again-answers.result.items taken.value looked.found looked.looked looked.answers
-    c.self.invariant (subst (λ (d : List TableId). AreBelow (length d) (commands_in batch.commands)) desk c.entries.ensures.at_desk) c.entries.ensures.apart))
+    let desk : batch.desk ≡ s.desk.now = c.requires.at_desk ∙ ap (λ (v : SettlerState g.row.D.Denot). v.desk) (sym c.self.view_is) in (
+      omega arith,
+      (
+        looked.seated,
+        owes_them s.desk.now s.seat c.look_again-answers.new.seat batch.commands c.into_commands.result.items c.look_again-answers.result.items taken.value looked.found looked.looked looked.answers
+            c.self.invariant (subst (λ (d : List TableId). AreBelow (length d) (commands_in batch.commands)) desk c.entries.ensures.at_desk) c.entries.ensures.apart,
+      ),
+    )
 
 pub answer_all-requires-in-Err : goal.answer_all-requires-in-Err
 answer_all-requires-in-Err g c =
@@ -47,9 +52,14 @@ answer_all-requires-in-Err g c =
     let batch = c.args.batch in
     let taken = c.into_commands.ensures in
     let looked = c.look_again-answers.ensures in
-    let desk : batch.desk ≡ s.desk.now = c.requires.at_desk ∙ ap (λ (v : SettlerState g.row.D.Denot). v.desk) (sym c.self.view_is) in
-    (omega arith, (looked.seated, owes_them s.desk.now s.seat c.look_again-answers.new.seat batch.commands c.into_commands.result.items c.look_again-answers.result.items taken.value looked.found looked.looked looked.answers
-    c.self.invariant (subst (λ (d : List TableId). AreBelow (length d) (commands_in batch.commands)) desk c.entries.ensures.at_desk) c.entries.ensures.apart))
+    let desk : batch.desk ≡ s.desk.now = c.requires.at_desk ∙ ap (λ (v : SettlerState g.row.D.Denot). v.desk) (sym c.self.view_is) in (
+      omega arith,
+      (
+        looked.seated,
+        owes_them s.desk.now s.seat c.look_again-answers.new.seat batch.commands c.into_commands.result.items c.look_again-answers.result.items taken.value looked.found looked.looked looked.answers
+            c.self.invariant (subst (λ (d : List TableId). AreBelow (length d) (commands_in batch.commands)) desk c.entries.ensures.at_desk) c.entries.ensures.apart,
+      ),
+    )
 
 pub returns-in-Ok-clause-settles : goal.returns-in-Ok-clause-settles
 returns-in-Ok-clause-settles g c =
