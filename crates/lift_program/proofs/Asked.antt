@@ -13,7 +13,7 @@ use Rattle.lift_serve.specs.lemmas.Opened.{keeps_over}
 use Rattle.lift_program.proofs.Writing.{said_front}
 use Rattle.std.specs.Io.KnownBytes.{Appends}
 use Rattle.lift_program.specs.Ends.{EndOver, IsEndFor, IsEndOf, IsInputLeft, IsReadyFor, SaysPrefix, WritesFor, serving_text}
-use Rattle.lift_program.specs.Serving.{IsServedOver, IsServing, file_found}
+use Rattle.lift_program.specs.Serving.{IsServedOver, IsServing}
 use Rattle.lift_program.specs.declared.fault.Fault.{Fault}
 use Rattle.lift_program.specs.declared.words.Request.TheVariants.{Replay, Format, Show, Serve}
 use Rattle.lift_program.specs.Images.{CommandFiles}
@@ -88,8 +88,7 @@ served_end files gives input words before after (Serve image building asked coun
       ready = ready;
       served = served;
       keeps = λ honest base accepted given found.
-          let stays = files.image.stays image.now ready.has.opened ready.has.fresh honest in
-          keeps_over IsShipped files.image.served_state files.image.held ready.plan ready.has.opened keeper ready.has.recovers ready.has.starts ready.has.whole ready.has.no_doubt ready.has.own (file_found ready) honest stays.0 stays.1 base accepted given found
+          keeps_over IsShipped files.image.served_state ready.plan ready.has.opened keeper ready.has.recovers ready.has.starts ready.has.whole ready.has.no_doubt ready.has.own honest base accepted given found
           policy served.last ending.fault served.comes;
     } in
     inr (

@@ -20,10 +20,6 @@ use Rattle.lift_keeper.specs.declared.fault.KeeperFault.TheVariants.{Journal as 
 use Rattle.std.specs.declared.fs.options.OpenOptions.{OpenOptions}
 use Rattle.lift_disk.specs.FileCalls.{FileCall}
 use Rattle.lift_disk.specs.Files.{IsMeasured, sector_file_state_of}
-use Rattle.lift_disk.specs.Holding.{HoldsTheSame}
-use Rattle.lift_program.specs.Unwritten.{unwritten_file_of, unwritten_state_of}
-use Rattle.lift_program.specs.declared.unwritten.UnwrittenFile.{UnwrittenFile}
-use Rattle.lift_disk.specs.lemmas.Starts.{holds_then}
 use Rattle.lift_disk.specs.declared.file.FileFault.{FileFault}
 use Rattle.lift_disk.specs.declared.told.ToldFile.{Ghosts as Told}
 use Rattle.lift_disk.specs.declared.sectors.SectorFile.{SectorFile}
@@ -296,30 +292,16 @@ pub output_report : (fault : Fault) (before after : Option (List ℕ)) → IsFil
 output_report fault before after (inl is) = subst (λ (f : Fault). IsReportOfFault f before after) (sym is) tt
 output_report fault before after (inr is) = subst (λ (f : Fault). IsReportOfFault f before after) (sym is) tt
 
--- a file whose writes are refused holds what it would else
-pub unwritten_holds : {F : Type 0} {told : Told F} (holds : F → DiskState) (d : UnwrittenFile F told) → HoldsTheSame (sector_file_state_of holds (unwritten_file_of d)) (unwritten_state_of holds d)
-unwritten_holds holds d = record {
-  size = refl;
-  image = refl;
-  synced = refl;
-  loose = λ i. (λ is. is, λ was. was);
-  steady = (λ is. is, λ was. was);
-  written = λ i bytes. (λ is. is, λ was. was);
-  moment = refl;
-  left_since = λ t left. (λ is. is, λ was. was);
-}
-
 -- an image that was opened, by the file below it
 pub is_opened : {F : Type 0} {told : Told F} (opens : OpenOptions → List ℕ → Option F → Type 0) (gives : F → FileCall → F → Type 0) (holds : F → DiskState) (how : OpenOptions) (first : List FileCall) (image : DiskState) (file below : SectorFile F told) (path : List ℕ) → below ≡ file → image.calls ≡ 0 → image.failures ≡ 0
-    → (sector_file_state_of holds file).calls ≡ 0 → IsMeasured (opens how path) gives holds first file → ((sector_file_state_of holds file).is_honest → image.is_honest) → HoldsTheSame (sector_file_state_of holds file) image → IsOpened opens gives holds how first path image below
-is_opened {F} {told} opens gives holds how first image file below path same uncalled unhurt untouched measured honest held =
+    → (sector_file_state_of holds file).calls ≡ 0 → IsMeasured (opens how path) gives holds first file → ((sector_file_state_of holds file).is_honest → image.is_honest) → IsOpened opens gives holds how first path image below
+is_opened {F} {told} opens gives holds how first image file below path same uncalled unhurt untouched measured honest =
     subst (λ (f : SectorFile F told). IsOpened opens gives holds how first path image f) (sym same) (record {
       uncalled = uncalled;
       unhurt = unhurt;
       untouched = untouched;
       measured = measured;
       honest = λ is. honest (measured.honest.1 is);
-      held = λ is. holds_then (holds measured.file) (sector_file_state_of holds file) image (measured.held is) held;
     })
 
 -- the fault that is there

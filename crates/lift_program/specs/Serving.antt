@@ -29,13 +29,6 @@ pub record IsReadyOver (files : CommandFiles) (gives : Option Listener → Type 
   pub empty_batch : keeper.state.batch ≡ []
   pub here : gives (Some listener)
 
--- the file that it found
-abbrev pub file_found : {files : CommandFiles} {gives : Option Listener → Type 0}
-    {image building : List ℕ} {keeper : KeeperView files.image.Served} {listener : Listener}
-    → IsReadyOver files gives image building keeper listener → files.image.File
-file_found {files} {gives} {image} ready =
-    files.image.found image ready.has.opened ready.has.fresh
-
 -- The keeper's building was served at this socket with this policy, and the serving ended so. What is
 -- reported is that the device failed, exactly where it did, and else what the serving was refused.
 -- Connections have ended only where so many have at this socket, and where nothing was refused they
@@ -58,13 +51,13 @@ pub record IsServing (files : CommandFiles) (gives : Option Listener → Type 0)
   pub listener : Listener
   pub ready : IsReadyOver files gives image building keeper listener
   pub served : IsServedOver files.image.served_state policy listener sessions keeper fault left ending
-  -- Every letter is kept over power cuts, if the file is honest: where each image that a crash may
-  -- have left of it when it was opened keeps a prefix of what was accepted, over whatever register the
-  -- journal began with, and these answers, a crash at any moment until the end leaves what keeps such
-  -- a prefix, and them and all that was answered until then.
-  pub keeps : (files.image.held (file_found ready)).is_honest → (base : RegisterState)
+  -- Every letter is kept over power cuts, if the file is an honest device: where each image that the
+  -- recovery may have found keeps a prefix of what was accepted, over whatever register the journal
+  -- began with, and these answers, a crash at any moment until the end leaves what keeps such a
+  -- prefix, and them and all that was answered until then.
+  pub keeps : (files.image.served_state ready.has.opened).is_honest → (base : RegisterState)
       (accepted : List Entry) (given : List Taken)
-      → LeavesNow (files.image.held (file_found ready))
+      → LeavesNow (files.image.served_state ready.has.opened)
       (KeepsPrefix files.image.Served ready.plan base accepted given)
-      → KeepsOver IsShipped files.image.served_state files.image.held ready.plan (file_found ready)
-      policy keeper served.last ending.fault served.comes base accepted given
+      → KeepsOver IsShipped files.image.served_state ready.plan ready.has.opened policy keeper
+      served.last ending.fault served.comes base accepted given

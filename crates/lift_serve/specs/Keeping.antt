@@ -5,7 +5,6 @@ use mathlib.Core.Logic.{inl, inr}
 use Rattle.lift_base.specs.declared.history.Entry.{Entry}
 use Rattle.lift_building.specs.Plan.{Plan, IsBuilding, shape_of}
 use Rattle.lift_disk.specs.Disk.{DiskState, Image, IsSynced, LeavesNow, LeavesOnly}
-use Rattle.lift_disk.specs.Starts.{StartsAfter, StartsFrom}
 use Rattle.lift_register.specs.Register.{RegisterState, register_of, empty}
 use Rattle.lift_policy.specs.Eligible.{Choice}
 use Rattle.lift_journal.specs.Journal.{ReadsAs}
@@ -39,15 +38,15 @@ abbrev pub KeepsAll : Type 0 → Plan → RegisterState → List Taken → Image
 KeepsAll D plan base given left = (entries : List Entry) × (now : List Taken) × IsPrefix given now
     × ImageKeeps D plan base entries now left
 
--- A file was found so, and the building served over it. Had its journal begun with this register, had
--- these entries been accepted since and these commands been answered, and does each image that may
--- have been found keep a prefix of the entries and all the answers, then
-pub record KeepsOver {D F P : Type 0} (chooses : P → Choice) (state : D → DiskState) (held : F
-    → DiskState) (plan : Plan) (found : F) (policy : P) (keeper last : KeeperView D)
+-- A device was opened, and the building served over it. Had its journal begun with this register, had
+-- these entries been accepted since and these commands been answered, and does each image that the
+-- recovery may have found keep a prefix of the entries and all the answers, then
+pub record KeepsOver {D P : Type 0} (chooses : P → Choice) (state : D
+    → DiskState) (plan : Plan) (opened : D) (policy : P) (keeper last : KeeperView D)
     (fault : Option ServeFault) (comes : IsServingOutcome chooses state policy keeper last fault)
     (base : RegisterState) (accepted : List Entry) (given : List Taken) : Type 0 where
-  -- so does each that a crash at any moment until the end of the recovery may leave;
-  pub recovery : LeavesOnly (held found) (state keeper.writer.device)
+  -- so does each that a crash at any moment of the recovery may leave;
+  pub recovery : LeavesOnly (state opened) (state keeper.writer.device)
       (KeepsPrefix D plan base accepted given)
   -- the keeper that has opened has the register of such a prefix;
   pub safe : List Entry
@@ -62,15 +61,8 @@ pub record KeepsOver {D F P : Type 0} (chooses : P → Choice) (state : D → Di
   -- what is in doubt;
   pub now : LeavesNow (state last.writer.device)
       (KeepsPrefix D plan base (now_safe ++ last.writer.doubt) now_given)
-  -- and at no moment until the end is an answer lost that was given before.
-  pub always : LeavesOnly (held found) (state last.writer.device) (KeepsAll D plan base given)
-  -- So what the next start finds keeps what this premise asks of it, with all that was answered, where
-  -- this serving had ended;
-  pub next : (after : F) → StartsAfter (state last.writer.device) (held after)
-      → LeavesNow (held after) (KeepsPrefix D plan base (now_safe ++ last.writer.doubt) now_given)
-  -- and all the answers that were given before it, at whatever moment it was cut off.
-  pub cut : (after : F) → StartsFrom (state last.writer.device) (held found).moment (held after)
-      → LeavesNow (held after) (KeepsAll D plan base given)
+  -- and at no moment from the opening to the end is an answer lost that was given before.
+  pub always : LeavesOnly (state opened) (state last.writer.device) (KeepsAll D plan base given)
 
 -- It begins with nothing: an image that reads as a register of the building, whichever it is, keeps
 -- the answers of nobody over that register.

@@ -7,10 +7,7 @@ use mathlib.Core.List.{IsPrefix}
 use Rattle.lift_base.specs.declared.history.Entry.{Entry}
 use Rattle.lift_building.specs.Plan.{Plan}
 use Rattle.lift_disk.specs.Disk.{DiskState, Image, LeavesNow, LeavesOnly, MayLeave}
-use Rattle.lift_disk.specs.Starts.{StartsAfter, StartsFrom}
-use Rattle.lift_disk.specs.Holding.{HoldsTheSame}
 use Rattle.lift_disk.specs.lemmas.Moments.{changes_nothing, leaves_then, leaves_weaker}
-use Rattle.lift_disk.specs.lemmas.Starts.{leaves_from, same_leaves, starts_keep, starts_keep_now}
 use Rattle.lift_register.specs.Register.{RegisterState}
 use Rattle.lift_register.specs.Register.{register_of}
 use Rattle.lift_decider.specs.Decider.{starting}
@@ -74,24 +71,17 @@ always_on {D} state plan base first f h safe end given later own before
           keeps_first plan g.writer.plan base mid s.batch given now left k.own k.front kept) s.stands);
     }
 
--- Keeper::open has opened this device, which holds what was found, and that keeps a prefix of what was
--- accepted, and all that was given.
-module _ {D F P : Type 0} (chooses : P → Choice) (state : D → DiskState) (held : F → DiskState) (plan : Plan) (opened : D) (keeper : KeeperView D)
+-- Keeper::open has opened this device, and what it found keeps a prefix of what was accepted, and
+-- all that was given.
+module _ {D P : Type 0} (chooses : P → Choice) (state : D → DiskState) (plan : Plan) (opened : D) (keeper : KeeperView D)
     (reopens : Reopens plan (state opened)
     (state keeper.writer.device) keeper.writer.register keeper.writer.half
     keeper.writer.is_in_second_half keeper.writer.used)
     (starts : keeper.state ≡ starting keeper.writer.register) (whole : keeper.writer.is_broken ≡ false)
-    (no_doubt : keeper.writer.doubt ≡ []) (own : keeper.writer.plan ≡ plan) (file : F) (was_honest : (held file).is_honest) (honest : (state opened).is_honest)
-    (same_held : HoldsTheSame (held file) (state opened)) (base : RegisterState) (accepted : List Entry) (given : List Taken) (all_keep : LeavesNow (held file) (KeepsPrefix D plan base accepted given)) where
-  abbrev first : DiskState
-  first = held file
-
+    (no_doubt : keeper.writer.doubt ≡ []) (own : keeper.writer.plan ≡ plan) (honest : (state opened).is_honest)
+    (base : RegisterState) (accepted : List Entry) (given : List Taken) (keeps : LeavesNow (state opened) (KeepsPrefix D plan base accepted given)) where
   abbrev new : DiskState
   new = state keeper.writer.device
-
-  keeps : LeavesNow (state opened) (KeepsPrefix D plan base accepted given)
-  keeps = same_leaves first (state opened) (KeepsPrefix D plan base accepted given) was_honest
-      same_held all_keep
 
   recovery : LeavesOnly (state opened) new (KeepsPrefix D plan base accepted given)
   recovery = leaves_weaker (state opened) new (MayLeave (state opened))
@@ -200,68 +190,32 @@ module _ {D F P : Type 0} (chooses : P → Choice) (state : D → DiskState) (he
     ends : Ends last
     ends = subst Ends r.ends behind
 
-  abbrev Keeps : Image → Type 0
-  Keeps = KeepsPrefix D plan base accepted given
-
-  abbrev All : Image → Type 0
-  All = KeepsAll D plan base given
-
-  recovery_from : LeavesOnly first new Keeps
-  recovery_from = leaves_from first (state opened) new Keeps was_honest honest same_held recovery
-
-  always_from : (last : DiskState) → LeavesOnly (state opened) last All → LeavesOnly first last All
-  always_from last = leaves_from first (state opened) last All was_honest honest same_held
-
-  -- what the next start finds
-  next_from : (last : DiskState) (P : Image → Type 0) → LeavesOnly first last All → LeavesNow last P
-      → (after : F) → StartsAfter last (held after) → LeavesNow (held after) P
-  next_from last P always leaves after =
-      starts_keep_now last (held after) P (always.honest.1 was_honest) leaves
-
-  cut_from : (last : DiskState) → LeavesOnly first last All → (after : F)
-      → StartsFrom last first.moment (held after) → LeavesNow (held after) All
-  cut_from last always after = starts_keep first last (held after) All was_honest always
-
   pub keeps_over : (policy : P) (last : KeeperView D) (fault : Option ServeFault)
       (comes : IsServingOutcome chooses state policy keeper last fault)
-      → KeepsOver chooses state held plan file policy keeper last fault comes base accepted given
+      → KeepsOver chooses state plan opened policy keeper last fault comes base accepted given
   keeps_over policy last fault (inl served) =
       let k = kept policy last served.relayed in
-      let ended = state last.writer.device in
-      let every = always_from ended (always policy last served.relayed) in
-      let at_end = ends policy last served.relayed in
       record {
-        recovery = recovery_from;
+        recovery = recovery;
         safe = safe;
         is_front = found.1;
         register = register;
         now_safe = k.turns.now_safe ++ k.more;
         now_given = k.turns.now_given ++ k.told;
         serving = Served served k;
-        now = at_end;
-        always = every;
-        next = next_from ended (KeepsPrefix D plan base
-            ((k.turns.now_safe ++ k.more) ++ last.writer.doubt) (k.turns.now_given ++ k.told)) every
-            at_end;
-        cut = cut_from ended every;
+        now = ends policy last served.relayed;
+        always = always policy last served.relayed;
       }
-  keeps_over policy last fault (inr unserved) =
-      let ended = state last.writer.device in
-      let every = always_from ended (subst (λ (v : KeeperView D). LeavesOnly (state opened)
-      (state v.writer.device) All) (sym unserved.keeper_is) recovery_keeps) in
-      let at_end = subst (λ (v : KeeperView D). LeavesNow (state v.writer.device)
-      (KeepsPrefix D plan base (safe ++ v.writer.doubt) given)) (sym unserved.keeper_is) now in
-      record {
-        recovery = recovery_from;
-        safe = safe;
-        is_front = found.1;
-        register = register;
-        now_safe = safe;
-        now_given = given;
-        serving = Unserved unserved;
-        now = at_end;
-        always = every;
-        next = next_from ended (KeepsPrefix D plan base (safe ++ last.writer.doubt) given) every
-            at_end;
-        cut = cut_from ended every;
-      }
+  keeps_over policy last fault (inr unserved) = record {
+    recovery = recovery;
+    safe = safe;
+    is_front = found.1;
+    register = register;
+    now_safe = safe;
+    now_given = given;
+    serving = Unserved unserved;
+    now = subst (λ (v : KeeperView D). LeavesNow (state v.writer.device)
+        (KeepsPrefix D plan base (safe ++ v.writer.doubt) given)) (sym unserved.keeper_is) now;
+    always = subst (λ (v : KeeperView D). LeavesOnly (state opened) (state v.writer.device)
+        (KeepsAll D plan base given)) (sym unserved.keeper_is) recovery_keeps;
+  }
