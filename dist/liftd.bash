@@ -5,10 +5,10 @@ _liftd() {
     lines=$(awk -v command="$command" '/^  liftd/ { inside = index($2, command) } /^$/ { inside = 0 } inside' <<<"$help")
     if [ "$COMP_CWORD" -eq 1 ]; then
         words="$(sed -n 's/^  liftd \[*\([a-z]*\).*/\1/p' <<<"$help") --help"
-    elif [[ $before == --* ]]; then
+    elif [[ $before == --* && $lines == *"$before "* ]]; then
         words=$(sed -n "s/.*$before \([a-z|]*\)\].*/\1/p" <<<"$lines" | tr '|' ' ')
     elif [[ $word == -* ]]; then
-        words=$(grep -o -- '--[a-z]*' <<<"$lines")
+        words=$(grep -o -- '--[a-z-]*' <<<"$lines")
     elif [ "$command" != replay ]; then
         compopt -o filenames
         mapfile -t COMPREPLY < <(compgen -f -- "$word")

@@ -86,14 +86,15 @@ def passengers(building, pattern, rate, seed, name):
 
 class Served:
     """A group that `liftd` serves on a new journal, each terminal over a connection of its own. No line is asked before the answer to
-    the last one has come. Where a car asks `PLACE` again as it stands, and has been given no call since it was told IDLE, the
-    answer is known and not asked for."""
+    the last one has come. What is known isn't asked for: what a car is told that says the same place again, and was given no call
+    since; and that a call is refused, while none of the cars that could take it has stopped since none of them had a place."""
 
     name = "liftd"
 
     def __init__(self, liftd, building, policy):
-        self.building, self.lines, self.idle = building, {}, set()
-        self.last = {}
+        self.building, self.lines, self.last = building, {}, {}
+        self.serves = [set(driving.serves_of(building, car)) for car in range(len(building["cars"]))]
+        self.at, self.next, self.full = {}, {}, set()  # where each car said last that it is, its next stop where that is known; who had no place
         self.room = tempfile.TemporaryDirectory(prefix="liftd-traffic-", dir=SHM if os.access(SHM, os.W_OK) else None)
         folder = pathlib.Path(self.room.name)
         (folder / "group.toml").write_text(text_of(building))
@@ -149,39 +150,38 @@ class Served:
         return told.decode().split()
 
     def place(self, car, floor, dir):
-        if (car, floor, dir) in self.idle:
-            return None
-        self.forget(car)
-        words = self.say(f"CAR {letter(car)}", f"PLACE {floor} {dir}")
-        return self.stop_in(car, floor, dir, words)
-
-    def forget(self, car):
-        self.idle = {it for it in self.idle if it[0] != car}
-
-    def stop_in(self, car, floor, dir, words):
-        if words[0] == "IDLE":
-            self.idle.add((car, floor, dir))
-        elif words[0] != "NEXT":
-            raise Failed(f"car {letter(car)} is answered {' '.join(words)!r}")
-        return driving.stop_of(words)
+        if car in self.next and self.at[car] == (floor, dir):
+            return self.next[car]
+        return self.told(car, floor, dir, f"PLACE {floor} {dir}")
 
     def stop(self, car, floor, dir):
-        self.forget(car)
+        self.full.discard(car)
         number = self.last[car] = self.last.get(car, 0) + 1
-        return self.stop_in(car, floor, dir, self.say(f"CAR {letter(car)}", f"STOP {number} {floor} {dir}"))
+        return self.told(car, floor, dir, f"STOP {number} {floor} {dir}")
+
+    def told(self, car, floor, dir, line):
+        words = self.say(f"CAR {letter(car)}", line)
+        if words[0] not in ("NEXT", "IDLE"):
+            raise Failed(f"car {letter(car)} is answered {' '.join(words)!r}")
+        self.at[car], self.next[car] = (floor, dir), driving.stop_of(words)
+        return self.next[car]
 
     def call(self, kiosk, floor):
         """The car that a call is given; None where none can take it now."""
+        able = {car for car, floors in enumerate(self.serves) if {self.building["kiosks"][kiosk], floor} <= floors}
+        if able <= self.full:
+            return None
         terminal = f"KIOSK {kiosk}"
         number = self.last.get(terminal, 0) + 1
         words = self.say(terminal, f"CALL {number} {floor}")
         if words == ["NO", "3"]:
+            self.full |= able & self.at.keys()
             return None
         if words[0] != "CAR":
             raise Failed(f"kiosk {kiosk} is answered {' '.join(words)!r}")
         self.last[terminal] = number
         car = ord(words[1]) - 65
-        self.forget(car)
+        self.next.pop(car, None)
         return car
 
     def end(self):
@@ -513,9 +513,9 @@ class Figures:
 
 
 def overtaken(came):
-    """By how many seconds at most somebody was given his letter after one who came later."""
+    """By how many seconds at most somebody was given his letter after one who came later; they are in the order in which they came."""
     most, first = 0.0, float("inf")
-    for it in sorted((it for it in came if it.first_given is not None), key=lambda it: it.come, reverse=True):
+    for it in reversed([it for it in came if it.first_given is not None]):
         most, first = max(most, it.first_given - first), min(first, it.first_given)
     return most / 1000
 

@@ -7,6 +7,7 @@ Makes a journal (a new one each time, unless --image names a file to keep), star
 kiosk and each car of the building, and serves the page at 127.0.0.1. Ends at Ctrl-C.
 """
 import argparse
+import contextlib
 import http.server
 import json
 import pathlib
@@ -21,14 +22,16 @@ import time
 import tomllib
 
 sys.dont_write_bytecode = True
+from disk import Disk
 from morning import PATTERNS, Morning
 from terminals import Car, Clock, Kiosk
 
 HERE = pathlib.Path(__file__).resolve().parent
 TOP = HERE.parent.parent
 BUILT = TOP / "crates/liftd/out/liftd"
-PAUSE = 2  # seconds between the end of a server and its next start
-PAGE = {"/": ("index.html", "text/html"), "/lobby.js": ("lobby.js", "text/javascript"), "/lobby.css": ("lobby.css", "text/css")}
+PAUSE, UNKNOWN = 2, 4  # seconds between the end of a server and its next start; and between a disk's failure and that end
+PAGE = {"/": (HERE / "index.html", "text/html"), "/lobby.js": (HERE / "lobby.js", "text/javascript"), "/lobby.css": (HERE / "lobby.css", "text/css")}
+PAGE |= {f"/{page}": (TOP / page, "text/plain") for page in ("README.md", "docs/integrating.md", "docs/formats.md", "docs/operating.md")}
 
 
 def free_port():
@@ -40,10 +43,10 @@ def free_port():
 class Group(threading.Thread):
     """The server of one image, started again whenever it has ended, with its terminals."""
 
-    def __init__(self, liftd, image, text, speed):
+    def __init__(self, liftd, image, text, speed, disk):
         super().__init__(daemon=True)
-        self.liftd, self.image, self.text, self.port = liftd, image, text, free_port()
-        self.process, self.is_alive, self.is_over, self.starts, self.fault = None, False, False, 0, ""
+        self.liftd, self.image, self.text, self.disk, self.port = liftd, image, text, disk, free_port()
+        self.process, self.is_alive, self.is_over, self.has_failed, self.starts, self.ends, self.fault = None, False, False, False, 0, 0, ""
         self.rows, self.done, self.changed = [], 0, threading.Event()
         building = tomllib.loads(text.read_text())
         self.floors, self.clock = building["floors"], Clock(speed)
@@ -65,15 +68,24 @@ class Group(threading.Thread):
     def run(self):
         while not self.is_over:
             words = [self.liftd, "serve", self.image, self.text, "--port", str(self.port), "--sessions", "1000000"]
-            self.process = subprocess.Popen(words, stdout=subprocess.PIPE, stderr=subprocess.PIPE, text=True)
+            self.process = self.started(words)
             if self.process.stdout.readline():
                 self.starts, self.is_alive = self.starts + 1, True
                 for kiosk in self.kiosks:
                     kiosk.wishes.put(None)
             self.fault = self.process.communicate()[1].strip()
-            self.is_alive = False
+            self.is_alive = self.has_failed = False
+            for kiosk in self.kiosks:
+                kiosk.reading = None
+            self.ends += 1
             self.changed.set()
             time.sleep(PAUSE)
+
+    def started(self, words):
+        surroundings, stream = self.disk.below()
+        with stream or contextlib.nullcontext():
+            return subprocess.Popen(words, stdout=subprocess.PIPE, stderr=subprocess.PIPE, text=True, env=surroundings,
+                                    pass_fds=[stream.fileno()] if stream else [])
 
     def watch(self):
         """Asks `liftd show` who waits and who rides, at first and whenever that has changed."""
@@ -92,13 +104,19 @@ class Group(threading.Thread):
         print(f"lobby: {why}; the server is started again", file=sys.stderr, flush=True)
         self.process.kill()
 
+    def disk_failed(self):
+        """All is answered UNKNOWN until a new start, which comes a little later, so that it is seen."""
+        if not self.has_failed:
+            self.has_failed = True
+            threading.Timer(UNKNOWN, self.process.kill).start()
+
     def stopped(self, letter, stop, opened):
         self.morning.stopped(letter, stop, opened)
 
     def state(self):
         rows = self.rows
         return {"floors": self.floors, "alive": self.is_alive, "starts": self.starts, "process": self.process and self.process.pid,
-                "fault": self.fault, "speed": self.clock.speed, "done": self.done, "rows": rows,
+                "failed": self.has_failed, "fault": self.fault, "disk": self.disk.state(), "speed": self.clock.speed, "done": self.done, "rows": rows,
                 "kiosks": [kiosk.state() for kiosk in self.kiosks],
                 "morning": self.morning.state(),
                 "cars": [car.state(rows) | {"places": places} | self.morning.of_car(car.letter) for car, places in zip(self.cars, self.places)]}
@@ -120,7 +138,7 @@ def page_of(group):
                 self.answer(200, "application/json", json.dumps(group.state()).encode())
             elif self.path in PAGE:
                 name, kind = PAGE[self.path]
-                self.answer(200, kind + "; charset=utf-8", (HERE / name).read_bytes())
+                self.answer(200, kind + "; charset=utf-8", name.read_bytes())
             else:
                 self.answer(404, "text/plain", b"no such page\n")
 
@@ -162,6 +180,10 @@ def carry_out(group, path, said):
         group.clock.run_at(min(100.0, max(0.1, float(said["speed"]))))
     elif path == "/kill":
         group.process.kill()
+    elif path == "/strike":
+        group.disk.choose(said["how"], int(said["call"]))
+    elif path == "/slow":
+        group.disk.is_slow = bool(said["slow"])
     elif path == "/morning":
         pattern, rate = said["pattern"], float(said["rate"])
         if pattern not in (None, *PATTERNS) or not 0 < rate <= 120:
@@ -199,7 +221,7 @@ def main():
         if not image.exists():
             checked(liftd, "format", image, said.building)
         checked(liftd, "show", image, said.building)
-        group = Group(liftd, image, said.building, said.speed)
+        group = Group(liftd, image, said.building, said.speed, Disk(image, room))
         server = http.server.ThreadingHTTPServer(("127.0.0.1", said.port), page_of(group))
         try:
             group.begin()

@@ -10,7 +10,7 @@ import time
 sys.path.insert(0, str(pathlib.Path(__file__).resolve().parent.parent / "clients"))
 import driving
 
-TICK = 0.05  # seconds between two looks at what goes on
+TICK, PATIENCE = 0.05, 10  # seconds between two looks at what goes on; and until all cars have said where they are after a start
 REFUSALS = {
     "1": "This building has no such floor",
     "2": "You are at this floor",
@@ -34,14 +34,16 @@ class Clock:
 class Terminal(threading.Thread):
     """A seat at the group's port. `last` is the number of its last command that is in."""
 
-    def __init__(self, group, first_line):
+    def __init__(self, group, seat, first_line):
         super().__init__(daemon=True)
-        self.group, self.first_line = group, first_line
-        self.lines, self.last, self.known_letter, self.exchange = None, 0, None, ""
+        self.group, self.seat, self.first_line = group, seat, first_line
+        self.lines, self.last, self.known_letter, self.exchange, self.is_unknown = None, 0, None, "", False
 
     def connect(self):
         """Connects until it is greeted: the server may be dead, or the seat still in use."""
         while True:
+            while self.group.has_failed:  # it is started again
+                time.sleep(TICK)
             try:
                 if self.lines:
                     self.lines.close()
@@ -53,6 +55,7 @@ class Terminal(threading.Thread):
             if greeting[:1] == ["READY"]:
                 self.last = int(greeting[1])
                 self.known_letter = greeting[2] if len(greeting) > 2 else None
+                self.group.disk.greeted(self.seat, self.last)
                 return
             time.sleep(0.2)
 
@@ -72,18 +75,24 @@ class Terminal(threading.Thread):
             return answer
         if answer[:1] == ["SPENT"]:
             self.group.start_again(f"{self.first_line} is SPENT: it has asked as often as it may since the start")
+        if answer[:1] == ["UNKNOWN"]:
+            self.exchange, self.is_unknown = f"{line} → UNKNOWN", True
+            self.group.disk_failed()
         time.sleep(0.2)
         self.connect()
+        self.is_unknown = False
         return []
 
 
 class Kiosk(Terminal):
-    """Shows the letter of its last call. After each start of the group it asks that call again, by its number."""
+    """Shows the letter of its last call. Whenever it had to connect anew it asks that call again, by its number."""
 
     def __init__(self, group, number, floor):
-        super().__init__(group, f"KIOSK {number}")
+        super().__init__(group, 16 + number, f"KIOSK {number}")
         self.floor, self.wishes = floor, queue.Queue()
         self.call, self.letter, self.message, self.verdict = None, None, "", ""
+        # after which end of a server its letter was shown, or read again; whether it was the same then, since the last end
+        self.shown, self.reading = 0, None
 
     def run(self):
         self.connect()
@@ -92,14 +101,10 @@ class Kiosk(Terminal):
             wish = self.wishes.get()
             if wish:
                 self.ask(*wish)
-            elif self.call:
+            elif self.call and self.shown < self.group.ends:
+                self.verdict = "asking again"
                 self.ask_again()
-
-    def answer_to(self, number, floor, party):
-        """Asks until it is answered; its number stays the same, so the call is carried out once."""
-        while not (answer := self.tell(f"CALL {number} {floor} {party}")):
-            pass
-        return answer
+                self.verdict = "same" if self.reading else "different"
 
     def ask(self, floor, party, passenger=None):
         """`passenger` is one of a morning, who is told the letter, or that there is none."""
@@ -107,33 +112,50 @@ class Kiosk(Terminal):
         number = self.last + 1
         word, argument = self.answer_to(number, floor, party)
         if word == "CAR":
-            self.last, self.call, self.letter, self.message = number, (number, floor, party, argument), argument, ""
+            self.last, self.call, self.shown = number, (number, floor, party, argument), self.group.ends
+            self.letter, self.message = argument, ""
             self.group.changed.set()
         else:
             self.message = REFUSALS.get(argument, f"Refused, reason {argument}")
         if passenger:
             self.group.morning.answered(passenger, argument if word == "CAR" else None)
 
+    def answer_to(self, number, floor, party):
+        """Asks until it is answered; its number stays the same, so the call is carried out once. After a start a refusal may be for want of
+        cars that have said where they are: then it is asked a while longer."""
+        was_heard, until = self.group.is_alive, 0
+        while True:
+            answer = self.tell(f"CALL {number} {floor} {party}")
+            if not answer:
+                self.ask_again()
+                self.verdict, until = "in" if self.last == number else "not in" if was_heard else "", time.monotonic() + PATIENCE
+            elif answer != ["NO", "3"] or time.monotonic() > until:
+                return answer
+            else:
+                time.sleep(0.2)
+
     def ask_again(self):
-        number, floor, party, letter = self.call
-        self.verdict = "asking again"
-        answer = self.answer_to(number, floor, party)
-        self.letter, self.message = answer[1] if answer[0] == "CAR" else None, ""
-        self.verdict = "same" if answer == ["CAR", letter] else "different"
+        """The call whose letter was shown before the last end of a server, unless a later one is in."""
+        while self.call and self.shown < self.group.ends and self.last <= self.call[0]:
+            number, floor, party, letter = self.call
+            ends, answer = self.group.ends, ["lost"] if self.last < number else self.tell(f"CALL {number} {floor} {party}")
+            if answer:
+                self.shown, self.reading = ends, answer == ["CAR", letter]
 
     def state(self):
         number, to, party, _ = self.call or (self.last, None, None, None)
-        return {"floor": self.floor, "number": number, "to": to, "party": party, "letter": self.letter,
-                "message": self.message, "verdict": self.verdict, "exchange": self.exchange}
+        message = "UNKNOWN: the disk failed. The call is in, or it isn't" if self.is_unknown else self.message
+        return {"floor": self.floor, "number": number, "to": to, "party": party, "letter": self.letter, "message": message,
+                "verdict": self.verdict, "reading": self.reading, "exchange": self.exchange}
 
 
 class Car(Terminal):
     """Drives as the reference client does, by the lobby's clock."""
 
     def __init__(self, group, letter, building, clock):
-        super().__init__(group, f"CAR {letter}")
-        self.letter, self.clock = letter, clock
         car = ord(letter) - 65
+        super().__init__(group, car, f"CAR {letter}")
+        self.letter, self.clock = letter, clock
         self.serves = driving.serves_of(building, car)
         home = driving.home_of(building, self.serves)
         self.driver = driving.Driving(building, car, min(self.serves), home=home)

@@ -11,11 +11,21 @@
  *     ignore  as lose, and a sync does nothing either: a program that trusts it has to lose what it said was safe
  *
  * DROP_SEED, a number, begins the chances. Writes of other than whole sectors of 512 bytes go through.
+ *
+ * With DROP_ASK, the number of a stream's descriptor, each sync and each sector that is written is told there before it comes:
+ * the line `sync`, or `write SECTOR` and the sector's bytes. Then one byte is awaited. `g`: it goes on. `c`: the power is cut in
+ * its midst: of each sector that is not synced, this one with them, by chance all, nothing, its first bytes or others reach
+ * the file, and the process is killed. `f`: it fails (EIO), a sector is not written, and in a sync as much reaches the file as in
+ * a cut. Behind it `done` is told, or `failed`.
  */
 #define _GNU_SOURCE
 #define FILE_NAMED_BY "DROP_FILE"
 #include "one_file.h"
+#include <errno.h>
+#include <signal.h>
+#include <stdio.h>
 #include <string.h>
+#include <sys/socket.h>
 
 enum { SECTOR = 512 };
 
@@ -54,17 +64,62 @@ static void leak(int fd, size_t sector) {
     real_pwrite(fd, bytes, front, (off_t)sector * SECTOR);
 }
 
+/* Who is asked before each call; -1 for nobody. */
+static int asked(void) {
+    const char *named = getenv("DROP_ASK");
+    return named ? atoi(named) : -1;
+}
+
+static void tell(const void *bytes, size_t count) {
+    for (ssize_t told = 0; count && told >= 0; count -= (size_t)told, bytes = (const char *)bytes + told)
+        told = send(asked(), bytes, count, MSG_NOSIGNAL);
+}
+
+/* What a sync, or the write of this sector, is to do. It goes on where nobody answers. */
+static char answer(const char *line, const unsigned char *sector) {
+    char said = 'g';
+    if (asked() < 0) return said;
+    tell(line, strlen(line));
+    if (sector) tell(sector, SECTOR);
+    return recv(asked(), &said, 1, MSG_WAITALL) == 1 ? said : 'g';
+}
+
+static int ended(int is_done) {
+    const char *line = is_done ? "done\n" : "failed\n";
+    if (asked() >= 0) tell(line, strlen(line));
+    if (!is_done) errno = EIO;
+    return is_done;
+}
+
+static void leak_all(int fd) {
+    for (size_t sector = 0; sector < sectors; sector++)
+        if (held[sector]) leak(fd, sector);
+}
+
+static void cut_power(int fd) {
+    leak_all(fd);
+    raise(SIGKILL);
+}
+
+static int wrote(int fd, size_t sector, const unsigned char *bytes) {
+    char line[32];
+    snprintf(line, sizeof line, "write %zu\n", sector);
+    char said = answer(line, bytes);
+    int is_held = said != 'f' && hold(sector, bytes);
+    if (said == 'c') cut_power(fd);
+    if (is_held && mode == PART) leak(fd, sector);
+    return ended(is_held);
+}
+
 ssize_t pwrite(int fd, const void *bytes, size_t count, off_t offset) {
     pthread_mutex_lock(&lock);
     begin();
-    ssize_t told = -1;
+    ssize_t told = (ssize_t)count;
     if (!is_ours(fd) || count % SECTOR || offset % SECTOR) {
         told = real_pwrite(fd, bytes, count, offset);
     } else {
-        size_t first = (size_t)offset / SECTOR, at = 0;
-        while (at < count / SECTOR && hold(first + at, (const unsigned char *)bytes + at * SECTOR)) at++;
-        for (size_t done = 0; mode == PART && done < at; done++) leak(fd, first + done);
-        if (at == count / SECTOR) told = (ssize_t)count;
+        for (size_t at = 0; at < count && told >= 0; at += SECTOR)
+            if (!wrote(fd, ((size_t)offset + at) / SECTOR, (const unsigned char *)bytes + at)) told = -1;
     }
     pthread_mutex_unlock(&lock);
     return told;
@@ -84,9 +139,7 @@ ssize_t pread(int fd, void *bytes, size_t count, off_t offset) {
 }
 
 /* Writes what is held, in any order, and forgets it. */
-static int synced(int fd, int (*real)(int)) {
-    if (!is_ours(fd)) return real(fd);
-    if (mode == IGNORE) return 0;
+static void release(int fd) {
     size_t from = sectors ? chance((unsigned)sectors) : 0;
     for (size_t step = 0; step < sectors; step++) {
         size_t sector = (from + step) % sectors;
@@ -95,5 +148,13 @@ static int synced(int fd, int (*real)(int)) {
         free(held[sector]);
         held[sector] = NULL;
     }
-    return real(fd);
+}
+
+static int synced(int fd, int (*real)(int)) {
+    if (!is_ours(fd)) return real(fd);
+    char said = answer("sync\n", NULL);
+    if (said == 'c') cut_power(fd);
+    if (said == 'f') leak_all(fd);
+    if (said != 'f' && mode != IGNORE) release(fd);
+    return ended(said != 'f' && (mode == IGNORE || !real(fd))) ? 0 : -1;
 }

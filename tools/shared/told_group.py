@@ -10,7 +10,7 @@ import subprocess
 import time
 from collections import namedtuple
 
-from tried import LIMIT, TOP, Wrong, make_image, serving
+from tried import LIMIT, TOP, Wrong, first_line, make_image, serving
 
 DEMO = TOP / "examples/demo.toml"
 FLOORS, KIOSKS, CARS = 10, (0, 5), "AB"
@@ -231,12 +231,14 @@ class Group:
         self.server, port, said = serving(self.liftd, "group.image", DEMO, cwd=self.folder, env=dict(os.environ, **around))
         return said or port
 
-    def kill(self):
-        """What it has said on standard error: a kill leaves it no last word. A group that was never started has said nothing."""
+    def kill(self, has_failed=False):
+        """What it has said on standard error: a kill leaves it no last word. Where its device has failed it says so behind the answer, so
+        that is awaited. A group that was never started has said nothing."""
         if not self.server:
             return ""
+        said = first_line(self.server, LIMIT, self.server.stderr) if has_failed else b""
         self.server.kill()
-        return self.server.communicate(timeout=LIMIT)[1].decode()
+        return (said + self.server.communicate(timeout=LIMIT)[1]).decode()
 
     def connect(self, port):
         """All terminals connect, and each kiosk asks again what it was told last."""

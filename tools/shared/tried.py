@@ -77,12 +77,16 @@ def preloaded(name, folder):
     return path
 
 
-def free_port():
-    """A port that is free, and not one of those that the system gives to connections, so that none of them takes it meanwhile."""
+def free_port(given=set()):
+    """A port that is free, another one each time, and not one of those that the system gives to connections, so that none of them takes it
+    meanwhile."""
     while True:
+        port = random.randrange(10000, 32768)
         with socket.socket() as free, contextlib.suppress(OSError):
-            free.bind(("127.0.0.1", random.randrange(10000, 32768)))
-            return free.getsockname()[1]
+            free.bind(("127.0.0.1", port))
+            if port not in given:
+                given.add(port)
+                return port
 
 
 def limit_files(most):
@@ -102,11 +106,12 @@ def make_image(liftd, folder, image, building, *words):
         raise Wrong(f"format of {image} ends with status {ran.returncode} and tells {ran.stderr!r}")
 
 
-def first_line(process, limit=SERVER_LIMIT):
-    """What a program has written when its first line ends, or its output, or the limit is over, in seconds."""
-    until, told = time.monotonic() + limit, b""
-    while not told.endswith(b"\n") and select.select([process.stdout], [], [], max(0, until - time.monotonic()))[0]:
-        piece = os.read(process.stdout.fileno(), 4096)
+def first_line(process, limit=SERVER_LIMIT, stream=None):
+    """What a program has written, to its standard output or another stream, when its first line ends, or the stream, or the limit is over,
+    in seconds."""
+    until, told, stream = time.monotonic() + limit, b"", stream or process.stdout
+    while not told.endswith(b"\n") and select.select([stream], [], [], max(0, until - time.monotonic()))[0]:
+        piece = os.read(stream.fileno(), 4096)
         if not piece:
             break
         told += piece

@@ -30,7 +30,7 @@ serve() {
     : >serving
     "$liftd" serve "$1" "$top/examples/demo.toml" --port "$port" --sessions 1000 >serving 2>errors &
     server=$!
-    for _ in $(seq 100); do
+    for _ in $(seq 600); do
         if grep -q "^serving $port$" serving; then return; fi
         sleep 0.1
     done

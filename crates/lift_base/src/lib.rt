@@ -7,7 +7,7 @@ mod count;
 mod history;
 mod limits;
 mod lists;
-mod memory;
+mod proof_bytes;
 pub mod text;
 mod travel;
 
@@ -20,8 +20,4 @@ pub use limits::{
     MOST_TERMINALS,
 };
 pub use lists::push_some;
-pub use memory::{
-    Memory, passed_queue, push, push_all, reserve, reserve_one, table_of_words, two_owners,
-    with_room,
-};
 pub use travel::{Dir, Halt, Pass, Position, Stop};

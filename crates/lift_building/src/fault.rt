@@ -44,7 +44,7 @@ impl Field {
 }
 
 /// The first fault of a building's text, or the want of memory.
-#[derive(Clone, Copy, PartialEq)]
+#[derive(Drop, PartialEq)]
 pub enum BuildingFault {
     /// The text is no TOML document.
     NotToml,
@@ -66,8 +66,8 @@ impl BuildingFault {
     ghost use Rattle.lift_building.specs.Text.{fault_number};
 
     /// The number that reports show, 1 to 7.
-    pub fn number(self) -> u8
-        ensures { result ≡ fault_number self }
+    pub fn number(&self) -> u8
+        ensures { result ≡ fault_number self.now }
     {
         match self {
             BuildingFault::NotToml => 1,

@@ -13,8 +13,9 @@ use toml::Value;
 use toml::de::Error;
 
 /// Evidence that no memory was left. Only `of` below makes one, which `document_of` alone calls: of
-/// the error of its parse, which was refused a growth.
-#[derive(Clone, Copy, PartialEq)]
+/// the error of its parse, which was refused a growth. Nobody can copy it: so each answer uses up a
+/// refusal.
+#[derive(Drop, PartialEq)]
 pub struct NoMemory {
     made: (),
 }

@@ -61,11 +61,19 @@ abbrev pub has_stop : Option StopAt → Bool
 has_stop None = false
 has_stop (Some stop) = true
 
--- It goes to this stop, once, and is there; or it stays.
+-- It halts beside its port, which is seen so.
+abbrev pub HaltsBeside : {C P : Type 0} → (view : P → PortView) → (halts : C → P → C → Type 0)
+    → (before : C) → PortView → (after : C) → Type 0
+HaltsBeside view halts before seen after =
+    (port : _) × (view port ≡ seen) × halts before port after
+
+-- It goes to this stop, once, and halts there while its port is so; or it stays.
 abbrev pub GoesToStop : {C : Type 0} → (told : C → Position) → (goes : C → StopAt → C → Type 0)
-    → (before : C) → Option StopAt → (after : C) → Type 0
-GoesToStop told goes before None after = after ≡ before
-GoesToStop told goes before (Some stop) after = goes before stop after
+    → (halts : C → PortView → C → Type 0)
+    → (before : C) → Option StopAt → PortView → (after : C) → Type 0
+GoesToStop told goes halts before None port after = after ≡ before
+GoesToStop told goes halts before (Some stop) port after =
+    (there : _) × goes before stop there × halts there port after
     × (told after ≡ position_at stop)
 
 -- Where no stop was heard the port rests once.
@@ -89,8 +97,9 @@ EndsWith (Placed next) end = ⊥
 EndsWith (Refused reason) end = end ≡ EndRefused reason
 EndsWith Unknown end = end ≡ EndUnknown
 
--- It asks, hears this answer, and goes to the answer's stop, or rests.
+-- It asks, hears this answer, and goes to the answer's stop before anything else is asked, or rests.
 pub record Errand {C : Type 0} (told : C → Position) (goes : C → StopAt → C
+    → Type 0) (halts : C → PortView → C
     → Type 0) (looks : ℕ) (reply : Reply) (before after : Standing C) : Type 0 where
   pub room : before.arrived ≡ true → before.last < 16777215
   pub answered : PortView
@@ -99,16 +108,17 @@ pub record Errand {C : Type 0} (told : C → Position) (goes : C → StopAt → 
   pub rests : RestsWithoutStop (stop_in reply) answered after.port
   pub last : after.last ≡ last_after before.last
       (ask_at before.arrived before.last (told before.car)).number reply
-  pub moves : GoesToStop told goes before.car (stop_in reply) after.car
+  pub moves : GoesToStop told goes halts before.car (stop_in reply) answered after.car
   pub arrived : after.arrived ≡ has_stop (stop_in reply)
 
 -- one errand after another
 abbrev pub DoesErrands : {C : Type 0} → (told : C → Position) → (goes : C → StopAt → C → Type 0)
+    → (halts : C → PortView → C → Type 0)
     → (looks : ℕ) → List Reply → Standing C → Standing C → Type 0
-DoesErrands told goes looks [] before after = after ≡ before
-DoesErrands told goes looks (reply ∷ replies) before after =
-    (mid : Standing _) × Errand told goes looks reply before mid × GoesOn reply
-    × DoesErrands told goes looks replies mid after
+DoesErrands told goes halts looks [] before after = after ≡ before
+DoesErrands told goes halts looks (reply ∷ replies) before after =
+    (mid : Standing _) × Errand told goes halts looks reply before mid × GoesOn reply
+    × DoesErrands told goes halts looks replies mid after
 
 -- Why it asks no more, or what came of its last ask; the car stays.
 abbrev pub LastAsk : {C : Type 0} → (told : C → Position) → (looks : ℕ) → Ending
@@ -153,7 +163,7 @@ TellsStop told before (Some stop) after = told after ≡ position_at stop
 -- A drive that brought an earlier answer in, if one was pending: it heard these answers to its own
 -- asks, and ended since it may ask no more, or by its last ask.
 pub record Drives {C : Type 0} (told : C → Position) (goes : C → StopAt → C
-    → Type 0) (limits : Limits) (end : Ending) (before after : Standing C) : Type 0 where
+    → Type 0) (halts : C → PortView → C → Type 0) (limits : Limits) (end : Ending) (before after : Standing C) : Type 0 where
   pub opening : Opening
   pub begun : Standing C
   pub replies : List Reply
@@ -163,7 +173,7 @@ pub record Drives {C : Type 0} (told : C → Position) (goes : C → StopAt → 
   pub first : begun.last ≡ last_opened before.last opening
   pub placing : begun.arrived ≡ false
   pub parked : begun.car ≡ before.car
-  pub runs : DoesErrands told goes limits.looks replies begun stood
+  pub runs : DoesErrands told goes halts limits.looks replies begun stood
   pub ends : ((length replies ≡ limits.lines) × (end ≡ Limit) × (after ≡ stood))
       ⊎ ((length replies < limits.lines) × LastAsk told limits.looks end stood after)
   pub number : after.last ≡ stood.last
@@ -179,6 +189,6 @@ pub record WaitsStill {C : Type 0} (limits : Limits) (end : Ending)
   pub stays : after.car ≡ before.car
 
 abbrev pub IsDrive : {C : Type 0} → (told : C → Position) → (goes : C → StopAt → C → Type 0)
-    → Limits → Ending → (before after : Standing C) → Type 0
-IsDrive told goes limits end before after = WaitsStill limits end before after
-    ⊎ Drives told goes limits end before after
+    → (halts : C → PortView → C → Type 0) → Limits → Ending → (before after : Standing C) → Type 0
+IsDrive told goes halts limits end before after = WaitsStill limits end before after
+    ⊎ Drives told goes halts limits end before after

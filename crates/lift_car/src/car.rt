@@ -25,6 +25,18 @@ pub trait Car {
         ensures goes { goes self.old stop self.new };
 }
 
+/// A car that halts where it was sent, with its port beside it.
+pub trait Halts<P>: Car {
+    // halting beside a port that is so takes it from one state to another
+    ghost halts: { Self → P → Self → Type 0 };
+
+    /// Halts where it was sent, while its port is as it is: what the port is asked behind this, it
+    /// is asked once the car has been there. The car then tells what it told before.
+    fn halt(&mut self, port: &P)
+        ensures halts { halts self.old port.now self.new }
+        ensures told { Self.told self.new ≡ Self.told self.old };
+}
+
 /// A car that is at once where it is sent.
 #[derive(Clone, Copy)]
 pub struct ModelCar {
@@ -48,4 +60,10 @@ impl Car for ModelCar {
             dir: stop.dir,
         };
     }
+}
+
+impl<P> Halts<P> for ModelCar {
+    ghost halts = { λ before port after. after ≡ before };
+
+    fn halt(&mut self, _port: &P) {}
 }

@@ -2,12 +2,13 @@
 
 ghost use Rattle.std.specs.Prelude.{◌≡◌, ◌≢◌, ◌+◌, ◌<◌, ◌≤◌, OnOk, IfOk, IfErr, IfSome, IfNone};
 ghost use Rattle.std.specs.Prelude.{Err, Bool, None, false, true};
-ghost use Rattle.lift_car.specs.Drive.{ask_at, stop_in, last_after, last_opened, GoesToStop};
+ghost use Rattle.lift_car.specs.Drive.{ask_at, stop_in, last_after, last_opened};
+ghost use Rattle.lift_car.specs.Drive.{HaltsBeside, GoesToStop};
 ghost use Rattle.lift_car.specs.Drive.{RestsWithoutStop, GoesOn, EndsWith, Errand, LastAsk};
 ghost use Rattle.lift_car.specs.Drive.{IsDrive, standing};
 ghost use Rattle.lift_base.specs.declared.command.Reply.{Reply as ReplyValue};
 
-use crate::car::Car;
+use crate::car::Halts;
 use crate::terms::{DriveEnd, Ending};
 use lift_base::{Body, Number, Position, Reply, Stop};
 use lift_desk::Ask;
@@ -75,21 +76,24 @@ fn stop_of(reply: &Reply) -> Result<Option<Stop>, Ending>
     }
 }
 
-/// Goes to a stop that was heard; rests where none was.
-fn move_on<C: Car, P: Port>(car: &mut C, port: &mut P, stop: &Option<Stop>)
-    ensures moves { GoesToStop C.told C.goes car.old stop.now car.new }
+/// Goes to a stop that was heard, and halts there; rests where none was.
+fn move_on<C: Halts<P>, P: Port>(car: &mut C, port: &mut P, stop: &Option<Stop>)
+    ensures moves { GoesToStop C.told C.goes (HaltsBeside P.view C.halts) car.old stop.now (P.view port.old) car.new }
     ensures rests { RestsWithoutStop stop.now (P.view port.old) (P.view port.new) }
     ensures pending { (P.view port.new).pending ≡ (P.view port.old).pending }
     ensures stays { P.place port.new ≡ P.place port.old }
 {
     match stop {
-        Some(stop) => car.go(*stop),
+        Some(stop) => {
+            car.go(*stop);
+            car.halt(port);
+        }
         None => port.rest(),
     }
 }
 
 /// One ask and its answer. An `Err` ends the drive.
-fn errand<C: Car, P: Port>(
+fn errand<C: Halts<P>, P: Port>(
     car: &mut C,
     port: &mut P,
     last: &mut Number,
@@ -97,7 +101,7 @@ fn errand<C: Car, P: Port>(
     looks: u32,
 ) -> Result<(), Ending>
     requires free { (P.view port.old).pending ≡ None }
-    ensures ok { OnOk result ((reply : ReplyValue) × GoesOn reply × Errand C.told C.goes looks reply
+    ensures ok { OnOk result ((reply : ReplyValue) × GoesOn reply × Errand C.told C.goes (HaltsBeside P.view C.halts) looks reply
         (standing last.old arrived.old (P.view port.old) car.old)
         (standing last.new arrived.new (P.view port.new) car.new)) }
     ensures end { IfErr result (λ end. LastAsk C.told looks end
@@ -127,11 +131,16 @@ fn errand<C: Car, P: Port>(
 }
 
 /// Drives a car: brings in the answer to an ask of an earlier drive, then asks Place of what the
-/// car tells. It goes to each stop that it hears, and reports it with the next number; where it
-/// hears none it rests and asks Place again. The limits bound the asks (`lines`) and the looks for
+/// car tells. It goes to each stop that it hears, halts there, and reports it with the next
+/// number; where it hears none it rests and asks Place again. The limits bound the asks (`lines`) and the looks for
 /// each answer.
-pub fn drive<C: Car, P: Port>(car: &mut C, port: &mut P, last: Number, limits: Limits) -> DriveEnd
-    ensures drive { (arrived : Bool) × IsDrive C.told C.goes limits result.end
+pub fn drive<C: Halts<P>, P: Port>(
+    car: &mut C,
+    port: &mut P,
+    last: Number,
+    limits: Limits,
+) -> DriveEnd
+    ensures drive { (arrived : Bool) × IsDrive C.told C.goes (HaltsBeside P.view C.halts) limits result.end
         (standing last false (P.view port.old) car.old)
         (standing result.last arrived (P.view port.new) car.new) }
     ensures stays { P.place port.new ≡ P.place port.old }

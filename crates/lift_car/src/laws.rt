@@ -2,7 +2,7 @@
 
 ghost use Rattle.lift_kiosk.specs.Determined.{LineDetermines, LinesDetermine, OutcomesAreWritten};
 ghost use Rattle.lift_kiosk.specs.Whole.{SessionsDetermine, SessionsAreWritten};
-ghost use Rattle.lift_kiosk.specs.Streams.{StreamsDetermine};
+ghost use Rattle.lift_kiosk.specs.Streams.{StreamsAreOfSessions, StreamsDetermine};
 ghost use Rattle.lift_car.specs.Lines.{WantsMove, keeps_stop};
 
 use crate::lines::CarLines;
@@ -21,6 +21,7 @@ pub fn sessions_are_determined()
     ensures whole { SessionsDetermine WantsMove keeps_stop }
     ensures streams { StreamsDetermine WantsMove keeps_stop }
     ensures text { SessionsAreWritten WantsMove keeps_stop }
+    ensures own { StreamsAreOfSessions WantsMove keeps_stop }
 {
     dialects_determine::<CarLines>();
 }

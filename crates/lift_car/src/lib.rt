@@ -8,7 +8,7 @@ mod laws;
 mod lines;
 mod terms;
 
-pub use car::{Car, ModelCar};
+pub use car::{Car, Halts, ModelCar};
 pub use driving::drive;
 pub use laws::sessions_are_determined;
 pub use lines::{CarLines, lines_ask_for_one_thing, session};

@@ -156,22 +156,22 @@ broken_turn desk choice old new seat between answers seated all stored in_range 
     }
 
 -- what the scan accepted was committed
-module _ {D : Type 0} (state : D → DiskState) (old : WriterView D) (between after : KeeperView D) (register : RegisterState) (writer : between.writer ≡ old)
+module _ {D T : Type 0} (state : D → DiskState) (old : WriterView D) (between after : KeeperView D) (register : RegisterState) (writer : between.writer ≡ old)
     (shown : register ≡ between.state.register) (ahead : between.writer.is_broken ≡ false → register ≡ register_of between.writer.register between.state.batch) where
-  pub committed : (counts : Counts) → counts.accepted ≡ length between.state.batch → after.state ≡ record between.state { batch = [] }
-      → Commits {D = D} {T = Unit {0}} state between.writer between.state.batch after.writer (Ok tt)
+  pub committed : {a : T} (counts : Counts) → counts.accepted ≡ length between.state.batch → after.state ≡ record between.state { batch = [] }
+      → Commits {D = D} {T = T} state between.writer between.state.batch after.writer (Ok a)
       → CommitsTo {D = D} {T = Counts} state old counts.accepted after.state.register after.writer (Ok counts)
-  committed counts accepted begins c =
+  committed {a} counts accepted begins c =
       subst (λ (w : WriterView D). CommitsTo {D = D} {T = Counts} state w counts.accepted after.state.register after.writer (Ok counts)) writer
       (record {
         batch = between.state.batch;
         counted = accepted;
         leads = λ whole. ap (λ (s : State). s.register) begins ∙ sym shown ∙ ahead whole;
-        is = under_ok state between.writer between.state.batch after.writer tt counts c;
+        is = under_ok state between.writer between.state.batch after.writer a counts c;
       })
 
   pub not_committed : (fault : KeeperFault) → after.state ≡ between.state
-      → Commits {D = D} {T = Unit {0}} state between.writer between.state.batch after.writer (Err fault)
+      → Commits {D = D} {T = T} state between.writer between.state.batch after.writer (Err fault)
       → CommitsTo {D = D} {T = Counts} state old (length after.state.batch) after.state.register after.writer (Err fault)
   not_committed fault same c =
       subst (λ (w : WriterView D). CommitsTo {D = D} {T = Counts} state w (length after.state.batch) after.state.register after.writer (Err fault)) writer
@@ -182,16 +182,16 @@ module _ {D : Type 0} (state : D → DiskState) (old : WriterView D) (between af
         is = under_err state between.writer between.state.batch after.writer fault c;
       })
 
-  pub calls_on_ok : (counts : Counts) → counts.accepted ≡ length between.state.batch
-      → CommitCalls {D = D} {T = Unit {0}} state between.writer (length between.state.batch) after.writer (Ok tt)
+  pub calls_on_ok : {a : T} (counts : Counts) → counts.accepted ≡ length between.state.batch
+      → CommitCalls {D = D} {T = T} state between.writer (length between.state.batch) after.writer (Ok a)
       → CommitCalls {D = D} {T = Counts} state old counts.accepted after.writer (Ok counts)
-  calls_on_ok counts accepted c =
+  calls_on_ok {a} counts accepted c =
       subst (λ (w : WriterView D). CommitCalls {D = D} {T = Counts} state w counts.accepted after.writer (Ok counts)) writer
       (subst (λ n. CommitCalls {D = D} {T = Counts} state between.writer n after.writer (Ok counts)) (sym accepted)
-      (calls_under_ok state between.writer (length between.state.batch) after.writer tt counts c))
+      (calls_under_ok state between.writer (length between.state.batch) after.writer a counts c))
 
   pub calls_on_err : (fault : KeeperFault) → after.state ≡ between.state
-      → CommitCalls {D = D} {T = Unit {0}} state between.writer (length between.state.batch) after.writer (Err fault)
+      → CommitCalls {D = D} {T = T} state between.writer (length between.state.batch) after.writer (Err fault)
       → CommitCalls {D = D} {T = Counts} state old (length after.state.batch) after.writer (Err fault)
   calls_on_err fault same c =
       subst (λ (w : WriterView D). CommitCalls {D = D} {T = Counts} state w (length after.state.batch) after.writer (Err fault)) writer

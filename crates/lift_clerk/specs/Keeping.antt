@@ -31,6 +31,11 @@ abbrev pub KeepsPrefix : Type 0 → Plan → RegisterState → (accepted : List 
 KeepsPrefix D plan base accepted given left = (entries : List Entry) × IsPrefix entries accepted
     × ImageKeeps D plan base entries given left
 
+-- It keeps all these answers, with some entries, and maybe later answers too.
+abbrev pub KeepsAll : Type 0 → Plan → RegisterState → List Taken → Image → Type 0
+KeepsAll D plan base given left = (entries : List Entry) × (now : List Taken) × IsPrefix given now
+    × ImageKeeps D plan base entries now left
+
 -- Each image that a crash now may leave reads as the register that is safe, or as that with the
 -- batch in doubt. Every writer promises that of itself.
 abbrev pub LeavesSafe : {D : Type 0} → WriterView D → DiskState → Type 0

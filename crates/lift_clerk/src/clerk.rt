@@ -9,7 +9,7 @@ ghost use Rattle.lift_keeper.specs.Prelude.{CommitsTo, CommitCalls, Recovers, Re
 ghost use Rattle.lift_clerk.specs.Clerk.{IsClerk, IsToldAt};
 ghost use Rattle.lift_clerk.specs.Turn.{IsTurn, IsFailedTurn, IsBrokenTurn, batch_size};
 
-use crate::answering::{DueAnswer, answer_all};
+use crate::answering::{AnsweringSeat, DueAnswer};
 use crate::counts::Counts;
 use crate::scan::{ClerkParts, scan_desk};
 use arrayvec::ArrayVec;
@@ -61,7 +61,7 @@ impl<'d, 'b, D: Disk, P: Policy + Drop> Clerk<'d, 'b, D, P> {
         } }
     {
         let parts = ClerkParts {
-            seat,
+            seat: AnsweringSeat::new(seat),
             keeper,
             policy,
         };
@@ -100,7 +100,7 @@ impl<'d, 'b, D: Disk, P: Policy + Drop> Clerk<'d, 'b, D, P> {
             (lists_of seat.old.view (view_at self.old.seat seat.old.terminal)) }
         ensures seat_stays { IsSeatOf self.new.desk seat.new }
     {
-        self.desk.tell(seat, &mut self.parts.seat)
+        self.parts.seat.tell(self.desk, seat)
     }
 
     /// One turn: looks once at each terminal, takes at most one command of each, decides these in
@@ -136,12 +136,14 @@ impl<'d, 'b, D: Disk, P: Policy + Drop> Clerk<'d, 'b, D, P> {
         };
         let _shown = self.parts.keeper.register();
         match self.parts.keeper.commit() {
-            Ok(()) => {
-                answer_all(self.desk, &mut self.parts.seat, &self.answers, true);
+            Ok(safe) => {
+                self.parts
+                    .seat
+                    .answer_all(self.desk, &self.answers, Some(safe));
                 Ok(counts)
             }
             Err(fault) => {
-                answer_all(self.desk, &mut self.parts.seat, &self.answers, false);
+                self.parts.seat.answer_all(self.desk, &self.answers, None);
                 Err(fault)
             }
         }
@@ -174,7 +176,11 @@ impl<'d, 'b, D: Disk, P: Policy + Drop> Clerk<'d, 'b, D, P> {
         ensures answered { OwesNothing result.0 }
         ensures empty_batch { (result.1.state.batch ≡ []) ⊎ (result.1.writer.is_broken ≡ true) }
     {
-        (self.parts.seat, self.parts.keeper, self.parts.policy)
+        (
+            self.parts.seat.into_seat(),
+            self.parts.keeper,
+            self.parts.policy,
+        )
     }
 }
 

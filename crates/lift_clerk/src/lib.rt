@@ -11,7 +11,7 @@ mod history;
 mod machine;
 mod scan;
 
-pub use answering::{DueAnswer, answer_all};
+pub use answering::{AnsweringSeat, DueAnswer};
 pub use clerk::Clerk;
 pub use counts::Counts;
 pub use group::{ask_once, calls_are_steps, hear_once, pasts_go_on, rule_orders, turn_goes_on};

@@ -7,10 +7,10 @@ ghost use Rattle.atomic_table.specs.Seated.{TableId};
 ghost use Rattle.lift_clerk.specs.Visits.{command_at};
 ghost use Rattle.lift_clerk.specs.Scanning.{ClerkScans, Decides};
 
-use crate::answering::DueAnswer;
+use crate::answering::{AnsweringSeat, DueAnswer};
 use arrayvec::ArrayVec;
 use lift_base::{MOST_ENTRIES, MOST_TERMINALS, Reply, Terminal};
-use lift_desk::{Ask, ClerkSeat, Desk};
+use lift_desk::{Ask, Desk};
 use lift_disk::Disk;
 use lift_keeper::Keeper;
 use lift_policy::{Policy, decisions_keep};
@@ -52,7 +52,7 @@ pub fn scan_desk<T: Default + Drop, S: DeskScan<T>>(
 /// What a clerk scans with: its seats, its keeper, and the policy that names cars.
 #[derive(Drop)]
 pub struct ClerkParts<'b, D: Disk, P: Policy + Drop> {
-    pub seat: ClerkSeat,
+    pub seat: AnsweringSeat,
     pub keeper: Keeper<'b, D>,
     pub policy: P,
 }
@@ -66,7 +66,7 @@ impl<'b, D: Disk, P: Policy + Drop> DeskScan<DueAnswer> for ClerkParts<'b, D, P>
     #[inline(always)]
     fn visit(&mut self, desk: &Desk, terminal: Terminal) -> Option<DueAnswer> {
         decisions_keep(&self.policy);
-        let ask = desk.look(&mut self.seat, terminal)?;
+        let ask = self.seat.look(desk, terminal)?;
         let reply = decide(&mut self.keeper, &self.policy, terminal, ask);
         Some(DueAnswer { terminal, reply })
     }

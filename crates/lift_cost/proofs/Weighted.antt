@@ -1,14 +1,10 @@
 -- The times of a car's passengers, halt by halt.
-use Rattle.std.proofs.Common.{◌≡◌, ℕ, ◌+◌, ◌*◌, ◌<◌, true, List, [], ◌∷◌, ◌++◌, refl, ap, ◌∙◌, arith}
+use Rattle.std.proofs.Common.{◌≡◌, ℕ, ◌+◌, ◌*◌, ◌<◌, List, [], ◌∷◌, ◌++◌, refl, ap, ◌∙◌, arith}
 use Rattle.std.proofs.Math.Nat.{mul-add, mul_comm}
 use Rattle.std.specs.List.{AllByRecursion}
 use Rattle.lift_base.specs.declared.travel.Halt.{Halt}
 use Rattle.lift_building.specs.Plan.{Plan, flight_ms}
-use Rattle.lift_stops.specs.StopList.{same_halt}
-use Rattle.lift_stops.specs.Parts.{has_halt}
-use Rattle.lift_stops.specs.lemmas.Listed.{same_itself}
 use Rattle.lift_cost.specs.Ways.{weighted, floor_after, leaves_after, persons_along}
-use Rattle.lift_cost.proofs.Earlier.{or_right}
 
 -- ---- halts and more halts
 
@@ -87,14 +83,6 @@ weighted-agree plan persons others floor leaves (h ∷ hs) each =
     let first = ap (λ n. n * there) each.0 in
     let rest = weighted-agree plan persons others h.floor (there + plan.door_ms) hs each.1 in
     omega (arith, first, rest)
-
--- the same, where it is so of every halt that is among them
-pub agree_among : (persons others : Halt → ℕ) (halts : List Halt) → ((h : Halt) → has_halt h halts ≡ true → persons h ≡ others h) → Agree persons others halts
-agree_among persons others [] each = tt
-agree_among persons others (h ∷ hs) each = (
-  each h (rw (same_itself h)),
-  agree_among persons others hs (λ k has. each k (or_right (same_halt h k) (has_halt k hs) has)),
-)
 
 -- the same, of halts on floors that a building may have
 pub agree_below : (persons others : Halt → ℕ) (halts : List Halt) → AllByRecursion (λ (h : Halt). h.floor < 64) halts → ((h : Halt) → h.floor < 64 → persons h ≡ others h) → Agree persons others halts

@@ -17,7 +17,7 @@ use Rattle.lift_register.specs.WellFormed.{IsWellFormed}
 use Rattle.lift_register.specs.Belongs.{BelongsTo}
 use Rattle.lift_register.specs.Balanced.{IsBalanced}
 use Rattle.lift_stops.specs.Schedule.{ScheduleState}
-use Rattle.lift_policy.specs.View.{positions_of, position_of, AreSchedulesOf}
+use Rattle.lift_policy.specs.View.{positions_of, position_of}
 use Rattle.lift_policy.specs.Step.{State, accepting, with_car_at}
 use Rattle.lift_policy.specs.Laws.{IsStateIn}
 use Rattle.lift_decider.specs.Decider.{IsBatch, starting, state_of}
@@ -54,14 +54,6 @@ starting_inside plan register lawful belongs balanced = record {
   balanced = balanced;
   cars = refl;
 }
-
-no_schedules_at : (n k : ℕ) (s : ScheduleState) → get_or (replicate n None) k None ≡ Some s → ⊥
-no_schedules_at zero k s h = cc
-no_schedules_at (suc n) zero s h = cc
-no_schedules_at (suc n) (suc k) s h = no_schedules_at n k s h
-
-pub no_schedules_own : (register : RegisterState) → AreSchedulesOf register (replicate 16 None)
-no_schedules_own register car s h = absurd (no_schedules_at 16 car s h)
 
 pub same_state : (r s : RegisterState) (p q : List (Option Position)) (b d : List Entry) → r ≡ s → p ≡ q → b ≡ d
     → ◌≡◌ {A = State} (record { register = r; positions = p; batch = b }) (record { register = s; positions = q; batch = d })

@@ -646,9 +646,9 @@ notes_join id v other u s r at apart there =
     spends id v other u (noted_by v u) s r (record { asks = f.asks; answers = f.answers; looks_ahead = f.looks_ahead; told_answers = f.told_answers; told_asks = f.told_asks; noted = g.noted })
 
 -- the clerk has back what it lent
-pub ahead_join : (id : ℕ) (v : View) (other : ℕ) (u : View) → v.answers ≡ true → u.looks_ahead ≡ true → Joins IsKept id v other u (having_back v) blank
+pub ahead_join : (id : ℕ) (v : View) (other : ℕ) (u : View) → v.answers ≡ true → u.looks_ahead ≡ true → Joins IsKept id v other u (having_back v u) blank
 ahead_join id v other u answers looks s r at apart there =
-    let w = having_back v in
+    let w = having_back v u in
     let f = r.views id v at in
     let b = f.answers answers in
     let g = (r.views other u (was_there s.views id other w u apart there)).looks_ahead looks in

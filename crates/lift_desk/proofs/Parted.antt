@@ -3,8 +3,8 @@ use Rattle.std.proofs.Common.{◌≡◌, ℕ, zero, suc, ◌<◌, true, List, []
 use Rattle.std.specs.Prelude.{MatchOption, IsSome}
 use Rattle.std.proofs.lemmas.List.{length-map}
 use Rattle.atomic_table.specs.Seated.{TableId}
-use Rattle.lift_desk.specs.Seats.{ClerkPlace, AllSeated, no_place, no_table, ahead_from, placed_at}
-use Rattle.lift_desk.specs.Rule.{taken_only}
+use Rattle.lift_desk.specs.Seats.{ClerkPlace, AllSeated, no_place, no_table, ahead_from, placed_at, with_looks_of}
+use Rattle.lift_desk.specs.Rule.{taken_only, with_more_looks}
 use Rattle.lift_desk.specs.lemmas.Places.{table_at}
 
 seam : {A : Type 0} (front : List A) (x : A) (rest : List A) (d : A) → get_or (front ++ x ∷ rest) (length front) d ≡ x
@@ -43,6 +43,13 @@ pub one_more_ahead : (front : List ClerkPlace) (left rest : List ClerkPlace) (al
     → (front ++ y ∷ []) ++ ahead_from rest ≡ all
 one_more_ahead front left rest all x y e steps is =
     append_assoc front (y ∷ []) (ahead_from rest) ∙ ap (λ (z : ClerkPlace). front ++ z ∷ ahead_from rest) is ∙ ap (λ l. front ++ ahead_from l) (sym steps) ∙ e
+
+-- what the places of a clerk are with the looks of the seats ahead of them, one by one
+pub one_more_joined : (front seats more left rest all : List ClerkPlace) (seat place joined : ClerkPlace) → front ++ with_looks_of seats left ≡ all → seats ≡ seat ∷ more → left ≡ place ∷ rest
+    → joined ≡ record place { view = with_more_looks place.view seat.view.looks } → (front ++ joined ∷ []) ++ with_looks_of more rest ≡ all
+one_more_joined front seats more left rest all seat place joined e ahead steps is =
+    append_assoc front (joined ∷ []) (with_looks_of more rest) ∙ ap (λ (z : ClerkPlace). front ++ z ∷ with_looks_of more rest) is
+    ∙ ap (λ (p : List ClerkPlace × List ClerkPlace). front ++ with_looks_of p.0 p.1) (λ k. (sym ahead k, sym steps k)) ∙ e
 
 pub none_left : {A : Type 0} (front left all : List A) → front ++ left ≡ all → left ≡ [] → front ≡ all
 none_left front left all e none = sym (nothing front) ∙ ap (λ l. front ++ l) (sym none) ∙ e

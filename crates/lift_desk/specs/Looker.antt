@@ -1,5 +1,5 @@
 -- A seat at a table: what it knows, and how each right to look keeps its count of looks.
-use Rattle.std.specs.Prelude.{◌≡◌, ℕ, zero, suc, Bool, true, false, List, [], ◌∷◌, ◌++◌, ◌⊎◌}
+use Rattle.std.specs.Prelude.{◌≡◌, ℕ, zero, suc, ◌+◌, Bool, true, false, List, [], ◌∷◌, ◌++◌, ◌⊎◌}
 use Rattle.atomic_table.specs.Seated.{TableId}
 use Rattle.atomic_table.specs.Table.{Me}
 use Rattle.lift_desk.specs.declared.view.View.{View}
@@ -94,18 +94,36 @@ pub record Stores (word value : ℕ) (before : View) (after : Me (Unit {0}) View
   pub asks : ask_looks after.0 ≡ ask_looks before
   pub answers : answer_looks after.0 ≡ answer_looks before
 
--- a right that a seat had stays or goes to another seat, and its count with it
-abbrev pub HandsOn : (View → Bool) → (View → ℕ × ℕ) → View → View → Type 0
+-- a right that a seat had is another's then, and what counts its looks with it
+abbrev pub HandsOn : {A : Type 0} → (View → Bool) → (View → A) → View → View → Type 0
 HandsOn right looks before after = (right before ≡ true) × (looks after ≡ looks before)
 
--- What a seat may do it or another seat could do, and the count of looks is that one's. Only a seat
+-- as many looks at each word as two seats have counted
+pub record CountsBoth (one other both : View) : Type 0 where
+  pub asks : both.clerk.looks ≡ one.clerk.looks + other.clerk.looks
+  pub answers : both.terminal.looks ≡ one.terminal.looks + other.terminal.looks
+
+-- What a part of a seat may do that seat could do, and the count of looks is that one's. Only a seat
 -- that begins to look ahead of the clerk has counted none
-pub record Carries (one other after : View) : Type 0 where
-  pub asks : after.asks ≡ true
-      → HandsOn (λ v. v.asks) answer_looks one after ⊎ HandsOn (λ v. v.asks) answer_looks other after
-  pub answers : after.answers ≡ true
-      → HandsOn (λ v. v.answers) ask_looks one after ⊎ HandsOn (λ v. v.answers) ask_looks other after
-  pub ahead : after.looks_ahead ≡ true
-      → HandsOn (λ v. v.looks_ahead) ask_looks one after
-      ⊎ (HandsOn (λ v. v.looks_ahead) ask_looks other after
-      ⊎ ((one.answers ≡ true) × (ask_looks after ≡ (0, 0))))
+pub record Carries (before after : View) : Type 0 where
+  pub asks : after.asks ≡ true → HandsOn (λ v. v.asks) answer_looks before after
+  pub answers : after.answers ≡ true → HandsOn (λ v. v.answers) ask_looks before after
+  pub ahead : after.looks_ahead ≡ true → HandsOn (λ v. v.looks_ahead) ask_looks before after
+      ⊎ ((before.answers ≡ true) × (ask_looks after ≡ (0, 0)))
+
+-- A seat is parted: each part has what it carries, and of the looks none is lost and none is new
+pub record IsParted (before left right : View) : Type 0 where
+  pub first : Carries before left
+  pub second : Carries before right
+  pub looks : CountsBoth left right before
+
+-- Two seats are joined: what the one may do that is left one of them could do, and what that found last
+-- is what it found; and it has counted the looks of both
+pub record Joined (one other both : View) : Type 0 where
+  pub asks : both.asks ≡ true → HandsOn (λ v. v.asks) (λ v. v.terminal.last) one both
+      ⊎ HandsOn (λ v. v.asks) (λ v. v.terminal.last) other both
+  pub answers : both.answers ≡ true → HandsOn (λ v. v.answers) (λ v. v.clerk.last) one both
+      ⊎ HandsOn (λ v. v.answers) (λ v. v.clerk.last) other both
+  pub ahead : both.looks_ahead ≡ true → HandsOn (λ v. v.looks_ahead) (λ v. v.clerk.last) one both
+      ⊎ HandsOn (λ v. v.looks_ahead) (λ v. v.clerk.last) other both
+  pub looks : CountsBoth one other both

@@ -7,6 +7,7 @@ use Rattle.lift_desk.specs.Words.{number_of, last_of, turn_of}
 pub record IsPlaced {L : Type 0} (has_lent : Bool) (s : Inside L) : Type 0 where
   pub answers : s.looker.seated ≡ true → s.looker.view.answers ≡ true
   pub in_order : s.looker.view.looks_ahead ≡ false
+  pub no_answers_read : s.looker.view.terminal.looks ≡ 0
   pub lends : s.looker.seated ≡ true → s.looker.view.lends ≡ has_lent
   pub turn : s.turn ≡ length s.looker.view.clerk.taken
   pub last_taken : turn_of (last_of s.looker.view.clerk.taken) ≡ length s.looker.view.clerk.taken

@@ -1,7 +1,7 @@
 -- The rule of one terminal's table: its two words, what the terminal knows, and what the clerk
 -- knows.
-use Rattle.std.specs.Prelude.{◌≡◌, ◌≢◌, ℕ, suc, ◌≤◌, Bool, true, false, List, [], ◌∷◌, map, length}
-use Rattle.std.specs.Prelude.{All, Contains}
+use Rattle.std.specs.Prelude.{◌≡◌, ◌≢◌, ℕ, suc, ◌+◌, ◌≤◌, Bool, true, false, List, [], ◌∷◌, map}
+use Rattle.std.specs.Prelude.{length, All, Contains}
 use Rattle.std.specs.List.Sorted.{IsStrictlyIncreasing}
 use mathlib.Core.List.{IsPrefix}
 use mathlib.Core.Option.{some}
@@ -41,12 +41,18 @@ clerk_view = record blank { answers = true }
 abbrev pub opening_view : View
 opening_view = record blank { asks = true; answers = true }
 
--- the clerk's seat while another one looks ahead of it, and when that one was joined in again
+-- the clerk has counted so many looks more
+abbrev pub with_more_looks : ClerkView → ℕ → ClerkView
+with_more_looks v more = record v { looks = v.looks + more }
+
+-- the clerk's seat while another one looks ahead of it, and when that one was joined in again, whose
+-- looks it then counts too
 abbrev pub lending : View → View
 lending v = record v { lends = true }
 
-abbrev pub having_back : View → View
-having_back v = record v { lends = false }
+abbrev pub having_back : View → View → View
+having_back v ahead =
+    record v { lends = false; clerk = with_more_looks v.clerk ahead.clerk.looks }
 
 -- what a seat that looks ahead of the clerk begins with: what the clerk took and was told of
 abbrev pub taken_only : ClerkView → ClerkView

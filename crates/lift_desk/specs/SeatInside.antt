@@ -11,6 +11,7 @@ seen s =
 pub record IsSeated (s : Inside) : Type 0 where
   pub seated : s.looker.seated ≡ true
   pub asks : s.looker.view.asks ≡ true
+  pub no_asks_read : s.looker.view.clerk.looks ≡ 0
   pub turn : s.turn ≡ length s.looker.view.terminal.asked
   pub in_range : s.turn ≤ 1048575
   pub number : s.number ≡ number_of (last_of s.looker.view.terminal.asked)

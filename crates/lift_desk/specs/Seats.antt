@@ -11,7 +11,7 @@ use Rattle.lift_desk.specs.declared.view.ClerkView.{ClerkView}
 use Rattle.lift_desk.specs.declared.words.Ask.{Ask}
 use Rattle.lift_desk.specs.Words.{turn_of, number_of, last_of, ask_word, reply_word, IsReply}
 use Rattle.lift_desk.specs.Looker.{LookerState}
-use Rattle.lift_desk.specs.Rule.{no_asks, no_answers, taken_only}
+use Rattle.lift_desk.specs.Rule.{no_asks, no_answers, taken_only, with_more_looks}
 use Rattle.lift_desk.specs.Spelled.{IsAsk}
 use Rattle.lift_desk.specs.Steps.{is_awaited, is_new_word, with_ask, with_taking}
 
@@ -165,6 +165,14 @@ place_of l = record { seated = l.seated; table = l.table; view = l.view.clerk }
 -- a seat ahead of each of the clerk's
 abbrev pub ahead_from : List ClerkPlace → List ClerkPlace
 ahead_from clerk = map (λ (p : ClerkPlace). placed_at p.table (taken_only p.view)) clerk
+
+-- the clerk's seats, each with the looks of the seat ahead of it, and nothing else of that one
+abbrev pub with_looks_of : List ClerkPlace → List ClerkPlace → List ClerkPlace
+with_looks_of ahead [] = []
+with_looks_of [] (place ∷ places) = place ∷ places
+with_looks_of (seat ∷ ahead) (place ∷ places) =
+    record place { view = with_more_looks place.view seat.view.looks }
+    ∷ with_looks_of ahead places
 
 -- a note of an ask that was taken ahead: its table, and its word; where it is not seated, it stands
 -- in for one

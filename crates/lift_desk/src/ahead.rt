@@ -51,6 +51,7 @@ impl AheadPlace {
         requires seated { looker.seated ≡ true }
         requires ahead { (looker.view.looks_ahead ≡ true) × (looker.view.answers ≡ false) }
         requires turn { turn ≡ turn_of (last_of looker.view.clerk.taken) }
+        requires no_answers_read { looker.view.terminal.looks ≡ 0 }
         ensures { result ≡ place_of looker }
     {
         AheadPlace { looker, turn }
@@ -116,6 +117,7 @@ impl AheadPlace {
     pub(crate) fn into_looker(self) -> Looker
         ensures same { place_of result ≡ self }
         ensures ahead { self.seated ≡ true → result.view.looks_ahead ≡ true }
+        ensures no_answers_read { result.view.terminal.looks ≡ 0 }
     {
         let AheadPlace { looker, turn: _ } = self;
         looker

@@ -15,7 +15,7 @@ ghost use Rattle.lift_desk.specs.Seats.{IsSeatOf, IsClerkOf, seat_with, clerk_wi
 ghost use Rattle.lift_desk.specs.Seats.{Owes, OwesNothing, HearsOf, TakesOf, IsToldAnswer};
 ghost use Rattle.lift_desk.specs.Seats.{IsToldAhead, IsNoteOf, Says, seats_from};
 ghost use Rattle.lift_desk.specs.Seats.{clerk_of, ahead_from, TakesAheadOf, AreSeatsOf, StoresAsk};
-ghost use Rattle.lift_desk.specs.Seats.{LooksOnce, LookTells};
+ghost use Rattle.lift_desk.specs.Seats.{LooksOnce, LookTells, with_looks_of};
 
 use crate::ahead::AheadPlace;
 use crate::lending::{Lender, Lending, Whole};
@@ -26,7 +26,8 @@ use crate::seat::{AskRefusal, Seat};
 use crate::view::Seats;
 use crate::words::Ask;
 use arrayvec::ArrayVec;
-use lift_base::{Body, MOST_TERMINALS, Memory, Number, Reply, Terminal, with_room};
+use lift_base::{Body, MOST_TERMINALS, Number, Reply, Terminal};
+use lift_memory::{Memory, with_room};
 use std::alloc::Global;
 use std::marker::Model;
 
@@ -380,11 +381,12 @@ impl Desk {
     }
 
     /// Gives the seats ahead back to the clerk, of each terminal the one that looks ahead there: only
-    /// with it the clerk has back what it lent.
+    /// with it the clerk has back what it lent. It counts their looks from then on, and is else as it was.
     pub fn join(&self, ahead: TakeSeat, clerk: ClerkSeat<Lender>) -> ClerkSeat
         requires ahead { IsClerkOf self.now ahead }
         requires clerk { IsClerkOf self.now clerk }
-        ensures { result ≡ clerk }
+        ensures joined { result ≡ with_looks_of ahead clerk }
+        ensures stays { IsClerkOf self.now result }
     {
         let TakeSeat { places: seats } = ahead;
         let ClerkSeat { places } = clerk;

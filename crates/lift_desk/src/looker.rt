@@ -4,11 +4,11 @@ ghost use mathlib.Core.Option.{none};
 ghost use Rattle.atomic_table.specs.Table.{Allows, Joins, Me, Splits, step};
 ghost use Rattle.lift_desk.specs.declared.view.View.{View};
 ghost use Rattle.lift_desk.specs.Rule.{IsKept, blank, opening_view};
-ghost use Rattle.lift_desk.specs.Looker.{sits_at, Loads, Stores, Carries};
+ghost use Rattle.lift_desk.specs.Looker.{sits_at, Loads, Stores, IsParted, Joined};
 
 use crate::view::{DeskRule, View};
 use atomic_table::{Badge, Join, Play, Seat, Split, Table};
-use lift_base::{Memory, table_of_words};
+use lift_memory::{Memory, table_of_words};
 use std::alloc::Global;
 use std::marker::Model;
 use std::mem;
@@ -121,8 +121,7 @@ impl Looker {
         requires seated { self.old.seated ≡ true }
         requires keeps { (id : ℕ)
             → Splits IsKept id self.old.view (M.left self.old.view) (M.right self.old.view) }
-        requires counts { Carries self.old.view self.old.view (M.left self.old.view)
-            × Carries self.old.view self.old.view (M.right self.old.view) }
+        requires counts { IsParted self.old.view (M.left self.old.view) (M.right self.old.view) }
         ensures left { self.new ≡ record self.old { view = M.left self.old.view } }
         ensures right { result ≡ record self.old { view = M.right self.old.view } }
     {
@@ -142,7 +141,7 @@ impl Looker {
         requires other { (other.seated ≡ true) × (other.table ≡ self.old.table) }
         requires keeps { (id another : ℕ) → Joins IsKept id self.old.view another other.view
             (M.both self.old.view other.view) M.spent }
-        requires counts { Carries self.old.view other.view (M.both self.old.view other.view) }
+        requires counts { Joined self.old.view other.view (M.both self.old.view other.view) }
         ensures { self.new ≡ record self.old { view = M.both self.old.view other.view } }
     {
         let mut seat = self.lift();

@@ -13,11 +13,16 @@ pub struct Note {
 }
 
 impl Model for Note {
+    ghost use Rattle.std.specs.Prelude.{◌≡◌};
     ghost use Rattle.lift_desk.specs.Seats.{NoteState, note_of};
 
     ghost Value = { NoteState };
 
     ghost view = { λ n. note_of n.looker };
+
+    // It has counted no look.
+    ghost invariant = { λ n.
+        (n.looker.view.clerk.looks ≡ 0) × (n.looker.view.terminal.looks ≡ 0) };
 }
 
 impl Default for Note {
@@ -32,13 +37,15 @@ impl Default for Note {
 
 impl Note {
     pub(crate) fn new(looker: Looker) -> Note
+        requires { (looker.view.clerk.looks ≡ 0) × (looker.view.terminal.looks ≡ 0) }
         ensures { result ≡ note_of looker }
     {
         Note { looker }
     }
 
     pub(crate) fn into_looker(self) -> Looker
-        ensures { note_of result ≡ self }
+        ensures same { note_of result ≡ self }
+        ensures uncounted { (result.view.clerk.looks ≡ 0) × (result.view.terminal.looks ≡ 0) }
     {
         let Note { looker } = self;
         looker

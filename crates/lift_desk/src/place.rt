@@ -5,7 +5,7 @@ ghost use mathlib.Core.List.{IsPrefix};
 ghost use Rattle.lift_desk.specs.Words.{turn_of, last_of, number_of, reply_word};
 ghost use Rattle.lift_desk.specs.declared.words.Ask.{Ask};
 ghost use Rattle.lift_desk.specs.Rule.{clerk_view, no_answers, taken_only, with_note};
-ghost use Rattle.lift_desk.specs.Rule.{IsInOrder};
+ghost use Rattle.lift_desk.specs.Rule.{with_more_looks, IsInOrder};
 ghost use Rattle.lift_desk.specs.Steps.{with_answer, with_look, with_taking, with_told_answers};
 ghost use Rattle.lift_desk.specs.Steps.{with_told_asks, lists_of};
 ghost use Rattle.lift_desk.specs.Seats.{ClerkPlace, placed_at, Owes, TakesOf};
@@ -122,13 +122,13 @@ impl Place<Whole> {
 }
 
 impl Place<Lender> {
-    // Takes back the seat ahead of this one.
+    // Takes back the seat ahead of this one, and counts what that one has looked.
     pub(crate) fn join(self, table: &DeskTable, ahead: AheadPlace) -> Place<Whole>
         requires table { (self.table ≡ table.now.shared.table_id)
             × (table.now.shared.table_id.words ≡ 2) }
         requires seated { (self.seated ≡ true) × (ahead.seated ≡ true)
             × (ahead.table ≡ self.table) }
-        ensures { result ≡ self }
+        ensures { result ≡ record self { view = with_more_looks self.view ahead.view.looks } }
     {
         let Place {
             mut looker,

@@ -143,6 +143,7 @@ impl Seat {
             × (table.now.shared.table_id.words ≡ 2) }
         requires clerk { (clerk.table ≡ self.old.table) × (clerk.seated ≡ true)
             × (clerk.view.answers ≡ true) × (clerk.view.looks_ahead ≡ false) }
+        requires no_answers_read { clerk.view.terminal.looks ≡ 0 }
         ensures told { self.new ≡ seat_with self.old
             (with_told_answers self.old.view clerk.view.clerk.answered) }
         ensures clerk { result ≡ record clerk { view = clerk_part clerk.view self.old.view.asked } }
@@ -160,6 +161,7 @@ impl Seat {
             × (table.now.shared.table_id.words ≡ 2) }
         requires clerk { (clerk.table ≡ self.old.table) × (clerk.seated ≡ true)
             × (clerk.view.answers ≡ true) × (clerk.view.looks_ahead ≡ false) }
+        requires no_answers_read { clerk.view.terminal.looks ≡ 0 }
         ensures looked { self.new ≡ seat_with self.old (with_look self.old.view result.0) }
         ensures last { result.0 ≡ last_of clerk.view.clerk.answered }
         ensures heard { IsPrefix self.old.view.heard clerk.view.clerk.answered }
@@ -179,9 +181,11 @@ impl Seat {
             × (table.now.shared.table_id.words ≡ 2) }
         requires ahead { (ahead.table ≡ self.old.table) × (ahead.seated ≡ true) }
         requires rights { (ahead.view.looks_ahead ≡ true) × (ahead.view.answers ≡ false) }
+        requires no_answers_read { ahead.view.terminal.looks ≡ 0 }
         ensures same { self.new ≡ self.old }
         ensures ahead { (result.table ≡ self.old.table) × (result.seated ≡ true) }
         ensures rights { (result.view.looks_ahead ≡ true) × (result.view.answers ≡ false) }
+        ensures no_answers_read { result.view.terminal.looks ≡ 0 }
         ensures view { result.view.clerk ≡ with_told_asks ahead.view.clerk self.old.view.asked }
         ensures asked { IsAhead self.old.view.asked ahead.view.clerk.taken }
     {

@@ -1,10 +1,33 @@
 //! Two seats for the clerk: one takes asks ahead, and the other looks again and answers.
-ghost use Rattle.std.specs.Prelude.{◌≡◌, ◌+◌, ◌<◌, ◌≤◌, suc, length};
+ghost use Rattle.std.specs.Prelude.{◌≡◌, ◌+◌, ◌<◌, ◌≤◌, length};
 ghost use Rattle.lift_desk.specs.Words.{last_of, turn_of};
 ghost use Rattle.lift_desk.specs.Seats.{IsClerkOf, IsSeatOf, view_at};
 
 use lift_base::{Reply, Terminal};
-use lift_desk::{Ask, ClerkSeat, Desk, Seat, TakeSeat};
+use lift_desk::{Ask, ClerkSeat, Desk, Lender, Seat, TakeSeat};
+
+/// Looks at the terminal, and answers what was taken ahead where this look finds it too. The number of
+/// the asks answered, 0 or 1.
+fn look_and_answer(
+    desk: &Desk,
+    clerk: &mut ClerkSeat<Lender>,
+    terminal: Terminal,
+    reply: Reply,
+    first: bool,
+) -> u8
+    requires clerk { IsClerkOf desk.now clerk.old }
+    requires terminal { terminal < length desk.now }
+    ensures stays { IsClerkOf desk.now clerk.new }
+    ensures looks { (view_at clerk.new terminal).looks ≡ (view_at clerk.old terminal).looks + 1 }
+    ensures answers { length (view_at clerk.new terminal).answered
+        ≡ length (view_at clerk.old terminal).answered + result }
+{
+    if desk.look(clerk, terminal).is_some() && first {
+        desk.answer(clerk, terminal, reply);
+        return 1;
+    }
+    0
+}
 
 /// Takes an ask of the terminal ahead, looks at it again, and answers it. The number of the asks
 /// answered, 0 or 1.
@@ -17,17 +40,14 @@ pub fn relay_once(
     requires clerk { IsClerkOf desk.now clerk }
     requires terminal { terminal < length desk.now }
     ensures stays { IsClerkOf desk.now result.0 }
-    ensures looks { (view_at result.0 terminal).looks ≡ suc (view_at clerk terminal).looks }
+    // One look by each of the two seats.
+    ensures looks { (view_at result.0 terminal).looks ≡ (view_at clerk terminal).looks + 2 }
     ensures answers { length (view_at result.0 terminal).answered
         ≡ length (view_at clerk terminal).answered + result.1 }
 {
     let (mut ahead, mut clerk) = desk.split(clerk);
     let first = desk.take(&mut ahead, terminal).is_some();
-    let mut answered = 0u8;
-    if desk.look(&mut clerk, terminal).is_some() && first {
-        desk.answer(&mut clerk, terminal, reply);
-        answered = 1;
-    }
+    let answered = look_and_answer(desk, &mut clerk, terminal, reply, first);
     (desk.join(ahead, clerk), answered)
 }
 

@@ -5,7 +5,3 @@ use Rattle.lift_disk.specs.Outcomes.{IsCut}
 -- what held of all that a crash might leave holds again of all that a further one may leave
 pub cut_leaves : (old new : DiskState) (P : Image → Type 0) → IsCut old new → LeavesNow old P → LeavesNow new P
 cut_leaves old new P cut leaves honest left is = leaves (cut.honest.0 honest) left (cut.again left is)
-
--- and of the image itself
-pub cut_has : (old new : DiskState) (P : Image → Type 0) → IsCut old new → LeavesNow old P → old.is_honest → P new.image
-cut_has old new P cut leaves honest = leaves honest new.image cut.left

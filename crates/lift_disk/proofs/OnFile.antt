@@ -18,9 +18,6 @@ pub err_items : {T E P : Type 0} (r : Result T E) {b : Bool} → b ≡ is_err r 
 err_items (Ok x) is not p = absurd (cc (is, not))
 err_items (Err e) is not p = p
 
-pub as_before : (disk : DiskState) → Elapses disk disk
-as_before disk = record { later = omega arith; nothing_else = λ t left le was. inl was; keeps = λ t left le was. was }
-
 -- time goes on twice
 pub elapses_then : (old mid new : DiskState) → Elapses old mid → Elapses mid new → TouchesNothing mid new → StaysLoose mid new → Elapses old new
 elapses_then old mid new first second between stays = record {

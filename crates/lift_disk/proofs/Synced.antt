@@ -1,15 +1,12 @@
 -- What several calls of a file come to, one after the other.
 use Rattle.std.proofs.Common.{Result, Ok, Err, OnOk, OnErr, append_assoc, ◌≡◌, ◌∙◌, inl, inr, ⊎_elim, ℕ, zero, suc, ◌+◌, Bool, IsTrue, List, [], ◌∷◌, ◌++◌, refl, sym, ap, subst, arith}
-use Rattle.lift_disk.specs.Disk.{DiskState, CountsNow, KeepsWrites, TouchesNothing}
+use Rattle.lift_disk.specs.Disk.{DiskState, TouchesNothing}
 use Rattle.lift_disk.specs.FileCalls.{FailsIn, FileCall, LeadsBy}
-use Rattle.lift_disk.specs.Runs.{Rests}
 use Rattle.std.proofs.Math.Logic.{∥∥₁_map}
-use Rattle.lift_disk.specs.Holding.{IsKnownSteady, IsSameFile, IsUntouched, SyncMakesSafe}
+use Rattle.lift_disk.specs.Holding.{IsKnownSteady, IsSameFile}
 use Rattle.lift_disk.specs.Traced.{IsMaking, file_of, making_of, zero_write, zero_writes}
 use Rattle.lift_disk.specs.declared.traced.TracedFile.{TracedFile}
 use Rattle.lift_disk.specs.lemmas.Moments.{changes_more, changes_twice}
-use Rattle.lift_disk.specs.lemmas.Starts.{holds_then}
-use Rattle.lift_disk.proofs.OnFile.{elapses_then}
 
 touches_nothing_then : (old mid new : DiskState) → TouchesNothing old mid → TouchesNothing mid new → TouchesNothing old new
 touches_nothing_then old mid new first second = record {
@@ -22,49 +19,6 @@ same_then old mid new first second = record {
   size = second.size ∙ first.size;
   honest = (λ h. first.honest.0 (second.honest.0 h), λ h. second.honest.1 (first.honest.1 h));
 }
-
-pub untouched_then : (old mid new : DiskState) → IsUntouched old mid → IsUntouched mid new → IsUntouched old new
-untouched_then old mid new first second = record {
-  same = same_then old mid new first.same second.same;
-  held = λ honest. holds_then old mid new (first.held honest) (second.held (first.same.honest.1 honest));
-}
-
-pub rests_then : (old mid new : DiskState) → Rests old mid → Rests mid new → Rests old new
-rests_then old mid new first second = record {
-  size = second.size ∙ first.size;
-  honest = (λ h. first.honest.0 (second.honest.0 h), λ h. second.honest.1 (first.honest.1 h));
-  time = λ honest. let honest2 = first.honest.1 honest in elapses_then old mid new (first.time honest) (second.time honest2) (second.touched honest2) (second.loose honest2);
-  touched = λ honest. touches_nothing_then old mid new (first.touched honest) (second.touched (first.honest.1 honest));
-  loose = λ honest i was. second.loose (first.honest.1 honest) i (first.loose honest i was);
-  kept = λ honest. second.kept (first.honest.1 honest) ∙ first.kept honest;
-}
-
--- what is made safe after a write back
-pub safe_after : (old mid new : DiskState) → CountsNow old → old.is_honest → Rests old mid → KeepsWrites old mid → SyncMakesSafe mid new → SyncMakesSafe old new
-safe_after old mid new counts honest rests keeps safe =
-    let first = rests.time honest in
-    let second = safe.time in
-    let touched = rests.touched honest in record {
-      time = record {
-        later = omega (arith, first.later, second.later);
-        nothing_else = λ since left le was. ⊎_elim
-            (λ before. ⊎_elim (λ long. inl long)
-            (λ now. inl (counts honest since left le (changes_twice old.is_loose old.image mid.image left touched.within (changes_more mid.is_loose old.is_loose mid.image left touched.loose now))))
-            (first.nothing_else since left le before))
-            (λ now. inr now) (second.nothing_else since left (omega (arith, le, first.later)) was);
-        keeps = λ since left le was. second.keeps since left (omega (arith, le, first.later)) (first.keeps since left le was);
-      };
-      saves = record {
-        as_written = λ i bytes was. safe.saves.as_written i bytes (keeps.written honest i bytes was);
-        touched = touches_nothing_then old mid new touched safe.saves.touched;
-        synced = safe.saves.synced;
-        steady = λ was.
-            let now = keeps.steady honest was in
-            let then = safe.saves.steady now.steady in
-            record { steady = then.steady; same = then.same ∙ now.same };
-        saved = safe.saves.saved;
-      };
-    }
 
 pub leads_then : {F : Type 0} (gives : F → FileCall → F → Type 0) (calls more : List FileCall) (old mid new : F) → LeadsBy gives calls old mid → LeadsBy gives more mid new → LeadsBy gives (calls ++ more) old new
 leads_then {F} gives [] more old mid new same led = subst (λ (f : F). LeadsBy gives more f new) same led

@@ -30,17 +30,6 @@ run_more (first ∷ run) from bytes image =
 pub held_read : (sectors : List (List ℕ)) (i : ℕ) → i < length sectors → slice_get sectors i ≡ Some (get_or sectors i [])
 held_read sectors i less = slice_get-get_or sectors i [] less
 
--- nothing but time goes on
-pub rests_none : (disk : DiskState) → Rests disk disk
-rests_none disk = record {
-  size = refl;
-  honest = (λ h. h, λ h. h);
-  time = λ _. record { later = omega arith; nothing_else = λ t left le was. inl was; keeps = λ t left le was. was };
-  touched = λ _. record { loose = λ i was. was; within = changes_nothing disk.is_loose disk.image };
-  loose = λ _ i was. was;
-  kept = λ _. refl;
-}
-
 pub keeps_none : (disk : DiskState) → KeepsWrites disk disk
 keeps_none disk = record { written = λ _ i bytes was. was; steady = λ _ steady. record { steady = steady; same = refl } }
 
@@ -99,37 +88,6 @@ opens_of old new from sector pending announced waits =
       };
       kept = λ _. announced.synced;
     }
-
--- and then the writes that were held back are made
-pub opens_then : (old mid new : DiskState) (sector from from2 from3 : ℕ) (pending pending2 : List (List ℕ)) → pending2 ≡ [] → Loosens sector (waiting old from pending) (waiting mid from pending) → Rests (waiting mid from pending) (waiting new from2 pending2)
-    → Loosens sector (waiting old from pending) (waiting new from3 pending2)
-opens_then old mid new sector from from2 from3 pending (bytes ∷ pending2) none opens rests = absurd (cc none)
-opens_then old mid new sector from from2 from3 pending [] none opens rests = record {
-  size = rests.size ∙ opens.size;
-  honest = (λ h. opens.honest.0 (rests.honest.0 h), λ h. rests.honest.1 (opens.honest.1 h));
-  time = λ honest.
-      let first = opens.time honest in
-      let second = rests.time (opens.honest.1 honest) in
-      let between = rests.touched (opens.honest.1 honest) in record {
-        later = omega (arith, first.later, second.later);
-        nothing_else = λ since left le was. ⊎_elim
-            (λ before. ⊎_elim (λ long. inl long)
-            (λ now. inr (changes_more mid.is_loose new.is_loose new.image left (rests.loose (opens.honest.1 honest))
-            (changes_both mid.is_loose (image_of mid from pending) new.image left between.within now)))
-            (first.nothing_else since left le before))
-            (λ now. inr now) (second.nothing_else since left (omega (arith, le, first.later)) was);
-        keeps = λ since left le was. second.keeps since left (omega (arith, le, first.later)) (first.keeps since left le was);
-      };
-  touched = λ honest.
-      let first = opens.touched honest in
-      let second = rests.touched (opens.honest.1 honest) in
-      let stays = rests.loose (opens.honest.1 honest) in record {
-        loose = λ i. (λ is. (first.loose i).0 (second.loose i is), λ was. stays i ((first.loose i).1 was));
-        within = changes_more mid.is_loose new.is_loose (image_of old from pending) new.image stays
-            (changes_twice mid.is_loose (image_of old from pending) (image_of mid from pending) new.image first.within second.within);
-      };
-  kept = λ honest. rests.kept (opens.honest.1 honest) ∙ opens.kept honest;
-}
 
 -- the sector that was announced is held back too
 pub waits_more : (disk : DiskState) (from sector : ℕ) (pending : List (List ℕ)) (bytes : List ℕ) → Waits disk from pending → (disk.is_honest → disk.is_loose sector) → from + length pending ≡ sector → Waits disk from (pending ++ bytes ∷ [])

@@ -11,7 +11,7 @@ use crate::Outcome;
 use crate::runs::MOST_AHEAD;
 use crate::span::Span;
 use crate::two_places::TwoPlaces;
-use lift_base::{Memory, push};
+use lift_memory::{Memory, push};
 use std::alloc::Global;
 
 /// No flag is set any more. Outside of the span none was.

@@ -11,7 +11,8 @@ use crate::memory_sectors::MemorySectors;
 use crate::runs::{Ahead, RunDisk};
 use crate::trace::{Made, ProofTrace};
 use crate::{Disk, DiskFault, Outcome};
-use lift_base::{Memory, ProofCount};
+use lift_base::ProofCount;
+use lift_memory::Memory;
 use std::alloc::Global;
 
 /// A disk in memory, no call of which fails by itself: a read gives what was written last. It keeps

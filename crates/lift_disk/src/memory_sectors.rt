@@ -13,7 +13,7 @@ use crate::in_memory::{
 use crate::runs::Ahead;
 use crate::span::Span;
 use crate::two_places::TwoPlaces;
-use lift_base::Memory;
+use lift_memory::Memory;
 use std::alloc::Global;
 
 /// What was written last in each sector, and what the last sync made safe. A write copies its bytes

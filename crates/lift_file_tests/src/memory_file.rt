@@ -3,11 +3,11 @@ ghost use Rattle.std.specs.Prelude.{◌≡◌, ◌≤◌, ◌+◌, ◌*◌, ⊤,
 ghost use Rattle.lift_disk.specs.Holding.{sectors_in};
 ghost use Rattle.lift_disk.specs.Traced.{to_be_made};
 
-use lift_base::Memory;
 use lift_disk::{
     Buffered, Disk, FileFault, FileOpener, MOST_AHEAD, MemDisk, RunDisk, SectorFile, ToldFile,
     TracedFile,
 };
+use lift_memory::Memory;
 use std::alloc::Global;
 use std::io;
 use std::io::ErrorKind;

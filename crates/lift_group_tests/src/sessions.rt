@@ -9,10 +9,10 @@ use crate::terminals::{Terminals, Who, clerk_of, open};
 use lift_base::text::{Counted, Watched};
 use lift_base::{Body, Dir, Letter, Number, Position, Reply, Stop};
 use lift_building::Building;
-use lift_car::{Car, DriveEnd, Ending, ModelCar, drive};
+use lift_car::{Car, DriveEnd, Ending, Halts, ModelCar, drive};
 use lift_clerk::Clerk;
 use lift_desk::{AskRefusal, ClerkSeat, Desk, DeskParts, Seat};
-use lift_kiosk::{DeskPort, End, LastLetter, Limits, Port, SessionEnd, session};
+use lift_kiosk::{DeskPort, End, LastLetter, Limits, Port, SessionEnd, Yield, session};
 use lift_policy::Etd;
 use std::alloc::Global;
 use std::process::Abort;
@@ -112,7 +112,7 @@ fn is_late_at<R: AllocGlobal + Abort>(
     let device = formatted(rt, rt.alloc(), building);
     let mut clerk = clerk_of(rt, desk, seat, device, building);
     let is_placed = group.ask(Who::CarA, 0, place(0, Dir::Up)) & turns(&mut clerk);
-    let mut port = DeskPort::new(desk, group.take_last(rt));
+    let mut port = DeskPort::new(desk, group.take_last(rt), Yield);
     is_placed & is_late_and_greeted(rt.alloc(), &mut port, &mut clerk)
 }
 
@@ -145,6 +145,12 @@ impl Car for Recorder {
         self.car.go(stop);
         let _kept = self.stops.push(self.car.tell());
     }
+}
+
+impl<P> Halts<P> for Recorder {
+    ghost halts = { λ before port after. after ≡ before };
+
+    fn halt(&mut self, _port: &P) {}
 }
 
 /// At this floor, going up.
@@ -201,7 +207,7 @@ fn is_driven_at<R: AllocGlobal + Abort>(
     let device = formatted(rt, rt.alloc(), building);
     let mut clerk = clerk_of(rt, desk, seat, device, building);
     let is_sent = sends_car_a(&mut group, &mut clerk);
-    let port = DeskPort::new(desk, group.into_first(rt));
+    let port = DeskPort::new(desk, group.into_first(rt), Yield);
     let mut port = Turned { port, clerk };
     let (end, is_driven) = drive_up(rt.alloc(), &mut port);
     is_sent

@@ -2,7 +2,7 @@
 use Rattle.std.proofs.Common.{◌≡◌, ◌<◌, ◌≤◌, ◌+◌, ℕ, zero, suc, List, [], ◌∷◌, ◌++◌, Option, Some, None, All, map, sym, ◌∙◌, ap, subst, arith}
 use Rattle.std.specs.List.{flat_map, range_with_len, AllByRecursion}
 use Rattle.std.proofs.lemmas.List.{map-append}
-use Rattle.std.proofs.lemmas.List.Elements.{recursion_from_All, All-from_recursion}
+use Rattle.std.proofs.lemmas.List.Elements.{recursion_from_All}
 use Rattle.lift_base.specs.declared.history.Last.{Last as LastCommand}
 use Rattle.lift_base.specs.declared.history.Record.{Record}
 use Rattle.lift_base.specs.declared.history.Record.TheVariants.{Entry, Row, Last, Done}
@@ -10,7 +10,7 @@ use Rattle.lift_base.specs.declared.history.Row.{Row as CallRow}
 use Rattle.lift_register.specs.Register.{RegisterState, rows_of, last_of, cars, terminals}
 use Rattle.lift_register.specs.Base.{base_records, record_of_last, last_records}
 use Rattle.lift_register.specs.WellFormed.{IsWellFormed}
-use Rattle.lift_journal.specs.Order.{IsOfBase, MayFollow, IsInOrderAfter, AreRecordsInOrder, last_record_after, MayEnd, IsComplete}
+use Rattle.lift_journal.specs.Order.{MayFollow, IsInOrderAfter, AreRecordsInOrder, last_record_after, MayEnd, IsComplete}
 use Rattle.lift_journal.specs.lemmas.Orders.{order_join, last_join}
 
 -- an open call of this car, or of a later one, may follow
@@ -135,26 +135,3 @@ pub base_complete : (register : RegisterState) → IsComplete (base_records regi
 base_complete register =
     let front = map Row (flat_map (rows_of register) cars) ++ flat_map (last_records register) terminals in
     subst MayEnd (sym (last_join None front (Done register.done ∷ []))) tt
-
-of_base_join : (first second : List Record) → AllByRecursion IsOfBase first → AllByRecursion IsOfBase second → AllByRecursion IsOfBase (first ++ second)
-of_base_join [] second one two = two
-of_base_join (next ∷ first) second one two = (one.0, of_base_join first second one.1 two)
-
-rows_of_base : (rows : List CallRow) → AllByRecursion IsOfBase (map Row rows)
-rows_of_base [] = tt
-rows_of_base (row ∷ rows) = (tt, rows_of_base rows)
-
-last_of_base : (terminal : ℕ) (found : Option LastCommand) → AllByRecursion IsOfBase (record_of_last terminal found)
-last_of_base terminal None = tt
-last_of_base terminal (Some last) = (tt, tt)
-
-lasts_of_base : (f : ℕ → Option LastCommand) (places : List ℕ) → AllByRecursion IsOfBase (flat_map (λ k. record_of_last k (f k)) places)
-lasts_of_base f [] = tt
-lasts_of_base f (place ∷ places) = of_base_join (record_of_last place (f place)) (flat_map (λ k. record_of_last k (f k)) places) (last_of_base place (f place)) (lasts_of_base f places)
-
-pub base_is_base : (register : RegisterState) → All IsOfBase (base_records register)
-base_is_base register =
-    let rows = map Row (flat_map (rows_of register) cars) in
-    let lasts = flat_map (last_records register) terminals in
-    All-from_recursion IsOfBase (base_records register)
-    (of_base_join (rows ++ lasts) (Done register.done ∷ []) (of_base_join rows lasts (rows_of_base (flat_map (rows_of register) cars)) (lasts_of_base (last_of register) terminals)) (tt, tt))

@@ -12,8 +12,8 @@ use Rattle.lift_register.specs.WellFormed.{IsWellFormed}
 use Rattle.lift_record.specs.declared.version.Version.{Version}
 use Rattle.lift_record.specs.declared.version.Version.TheVariants.{One, Two}
 use Rattle.lift_record.specs.Version.{version_number}
-use Rattle.lift_disk.specs.Disk.{DiskState, Image, RunsOn, LooseWithin, TouchesOnly, LeavesNoOther, IsSteadyAt, IsWhole}
-use Rattle.lift_disk.specs.lemmas.Moments.{runs_none, runs_then, touches_none, touches_then}
+use Rattle.lift_disk.specs.Disk.{DiskState, Image, RunsOn, LooseWithin, TouchesOnly, IsSteadyAt, IsWhole}
+use Rattle.lift_disk.specs.lemmas.Moments.{runs_then, touches_then}
 use Rattle.lift_journal.specs.Order.{AreRecordsInOrder, IsComplete}
 use Rattle.lift_journal.specs.Layout.{Batch, new_batch, body_size, size_of, used, NeverFall, IsSound, IsBody, is_marked, IsOpen, sector_at}
 use Rattle.lift_journal.specs.Steps.{overwritten, marked, IsInRange}
@@ -24,7 +24,7 @@ use Rattle.lift_disk.specs.Trace.{Access}
 use Rattle.lift_disk.specs.Trace.Access.{Write}
 use Rattle.lift_journal.specs.Calls.{batch_body, draft_calls, writes_from, MakesPrefix}
 use Rattle.lift_journal.proofs.Following.{all_then, front_then, front_more}
-use Rattle.lift_journal.specs.lemmas.Telling.{none_made, passes_then}
+use Rattle.lift_journal.specs.lemmas.Telling.{passes_then}
 use Rattle.lift_journal.proofs.Appends.{overwritten_there, length-overwritten, sector_set}
 use Rattle.lift_journal.proofs.Bases.{base_in_order, base_complete}
 use Rattle.lift_journal.specs.lemmas.Chains.{used_more}
@@ -32,7 +32,7 @@ use Rattle.lift_journal.specs.lemmas.Folding.{batch_at, batches_more, records_in
 use Rattle.lift_journal.specs.lemmas.Orders.{order_front}
 use Rattle.lift_journal.proofs.Seeing.{bodies_few}
 use Rattle.lift_journal.proofs.Texts.{length-batch_body}
-use Rattle.lift_journal.proofs.Walks.{front_same, reaches_start, reaches_more}
+use Rattle.lift_journal.proofs.Walks.{front_same, reaches_more}
 
 -- the next record, if there is one
 take_one : {X : Type 0} (xs : List X) (k : ℕ) → take k xs ++ option_to_list (slice_get xs k) ≡ take (suc k) xs
@@ -229,20 +229,6 @@ pub record Drafted (old now : DiskState) (start gate count : ℕ) (records : Lis
   pub at : gate ≡ start + used (in_batches count records)
   pub steady : old.is_honest → old.is_steady → now.is_steady
   pub reached : old.is_honest → old.is_steady → (end : ℕ) → start + 64 ≤ end → end ≤ old.size → Reaches now.image start end gate (in_batches count records)
-
-pub drafted_none : (disk : DiskState) (start : ℕ) (records : List Record) → LeavesNoOther disk → Drafted disk disk start start 0 records
-drafted_none disk start records only_now = record {
-  runs = runs_none disk;
-  calls = omega arith;
-  writes = omega arith;
-  failures = refl;
-  told = none_made disk;
-  trace = sym (append-nil disk.trace);
-  touched = λ loose. touches_none (IsInRange start (start + 64)) disk loose only_now;
-  at = omega arith;
-  steady = λ honest steady. steady;
-  reached = λ honest steady end room inside. reaches_start disk.image start end;
-}
 
 module _ (old now new : DiskState) (start gate count : ℕ) (records : List Record) (so_far : Drafted old now start gate count records) where
   -- the next batch touches no sector beyond

@@ -86,10 +86,6 @@ rows_same before first one two same =
 pub row_then : (old mid new : DiskState) (first a next most end : ℕ) → next ≡ first + a → mid.trace ≡ old.trace ++ reads_from first a → HasRead next most end mid new → HasRead first (a + most) end old new
 row_then old mid new first a next most end at was row = (a + row.0, omega (arith, row.1), omega (arith, at, row.2), rows_then old mid new first a row.0 next at was row.3)
 
--- no call
-pub row_none : (old new : DiskState) (first most end : ℕ) → first ≤ end → new.trace ≡ old.trace → HasRead first most end old new
-row_none old new first most end low same = (0, omega arith, omega (arith, low), same ∙ sym (append-nil old.trace))
-
 -- where a half begins
 pub begins_at : (half start : ℕ) → 1 ≤ half → (start ≡ 2) ⊎ (start ≡ half + 2) → half_start (nat_lt 2 start) half ≡ start
 begins_at half start some (inl is) = ap (λ b. cond b (half + 2) 2) (ap (nat_lt 2) is) ∙ sym is

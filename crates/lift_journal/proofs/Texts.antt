@@ -153,16 +153,6 @@ text_of_body number batch first second body blank = by_size (nat_lt (length batc
         ∙ ap (λ k. replicate k 0) (omega (arith, size, few)))
     by_size false large spelled zeros = ap (λ (l : List ℕ). first ++ l) (sym (append-nil second)) ∙ spelled
 
--- its header
-pub header_of_text : (number : ℕ) (batch : Batch) (first second : List ℕ) → 16 ≤ length first → first ++ second ≡ filled 2 (batch_bytes number batch)
-    → take 16 first ≡ header_bytes batch.version (length batch.records) number
-header_of_text number batch first second long is =
-    let head = header_bytes batch.version (length batch.records) number in
-    let texts = flat_map (spelling_of batch.version) batch.records in
-    let zeros = replicate (1024 - length (head ++ texts)) 0 in
-    sym (take-append-le 16 first second long) ∙ ap (take 16) is ∙ ap (take 16) (append_assoc head texts zeros)
-    ∙ take_at head (texts ++ zeros) 16 (length-header_bytes batch.version (length batch.records) number)
-
 -- its records and zeros
 pub tail_of_text : (number : ℕ) (batch : Batch) (first second : List ℕ) → All (IsRecordIn batch.version) batch.records
     → first ++ second ≡ filled 2 (batch_bytes number batch) → IsTailOf batch.version batch.records (drop 16 (first ++ second))

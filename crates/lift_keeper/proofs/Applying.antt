@@ -28,20 +28,6 @@ base_next register [] k next is = absurd (cc is)
 base_next register (first ∷ records) zero next is = let same : first ≡ next = cc is in ap (with_record register) same
 base_next register (first ∷ records) (suc k) next is = base_next (with_record register first) records k next is
 
--- the entry at one place fits, and those after it
-pub entry_here : (plan : Plan) (register : RegisterState) (entries : List Entry) (k : ℕ) (next : Entry) → slice_get entries k ≡ Some next
-    → FitFrom plan register (drop k entries) → Fits plan register next × FitFrom plan (register_of register (next ∷ [])) (drop (suc k) entries)
-entry_here plan register [] k next is fit = absurd (cc is)
-entry_here plan register (first ∷ entries) zero next is fit =
-    let same : first ≡ next = cc is in
-    subst (λ (e : Entry). Fits plan register e × FitFrom plan (register_of register (e ∷ [])) entries) same fit
-entry_here plan register (first ∷ entries) (suc k) next is fit = entry_here plan register entries k next is fit
-
-pub entry_next : (entries : List Entry) (k : ℕ) (next : Entry) → slice_get entries k ≡ Some next → take (suc k) entries ≡ take k entries ++ next ∷ []
-entry_next [] k next is = absurd (cc is)
-entry_next (first ∷ entries) zero next is = let same : first ≡ next = cc is in ap (λ (e : Entry). e ∷ []) same
-entry_next (first ∷ entries) (suc k) next is = ap (λ (l : List Entry). first ∷ l) (entry_next entries k next is)
-
 -- what fits is lawful
 fits_lawful : (plan : Plan) (register : RegisterState) (entry : Entry) → Fits plan register entry → IsLawful (EntryRecord entry)
 fits_lawful plan register (Allot kiosk number from to car party) fits = record { of_kiosk = fits.0.of_kiosk.0; numbered = omega (arith, fits.1); apart = fits.0.apart }

@@ -378,11 +378,3 @@ adding_fails plan half is_in_second_half taken register batch old mid new count 
       folding = λ few. absurd (omega (arith, few, more, calls, ap (λ n. room_call_count register taken half n) counted));
       adding = λ _. at_count;
     }
-
--- a commit that failed within it
-pub folding_fails : (plan : Plan) (half : ℕ) (is_in_second_half : Bool) (taken : ℕ) (register : RegisterState) (batch : List Entry) (old new : DiskState) (count : ℕ)
-    → count ≡ length batch → new.calls ≤ old.calls + room_call_count register taken half count → FailsInCheckpoint plan half is_in_second_half taken register old new → IsFailedCommit plan half is_in_second_half taken register batch old new
-folding_fails plan half is_in_second_half taken register batch old new count counted few stops = record {
-  folding = λ _. stops;
-  adding = λ many. absurd (omega (arith, few, many, ap (λ n. room_call_count register taken half n) counted));
-}

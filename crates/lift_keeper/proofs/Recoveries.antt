@@ -42,10 +42,6 @@ pub passed_then : (state : RecoveryState) (first later : List Record) → all_pa
 passed_then state [] later = refl
 passed_then state (next ∷ first) later = passed_then (passed state next) first later
 
-pub with_then : (register : RegisterState) (first later : List Record) → with_all register (first ++ later) ≡ with_all (with_all register first) later
-with_then register [] later = refl
-with_then register (next ∷ first) later = with_then (with_next register next) first later
-
 pub fit_then : (plan : Plan) (register : RegisterState) (first later : List Record) → AllFit plan register first → AllFit plan (with_all register first) later → AllFit plan register (first ++ later)
 fit_then plan register [] later fit more = more
 fit_then plan register (next ∷ first) later fit more = (fit.0, fit_then plan (with_next register next) first later fit.1 more)

@@ -13,7 +13,7 @@ ghost use Rattle.lift_keeper.specs.Prelude.{OpensByCalls, RefusedCalls, Reopenin
 
 use crate::copies::copy_of;
 use crate::fault::KeeperFault;
-use crate::writer::Writer;
+use crate::writer::{Safe, Writer};
 use lift_base::{Body, MOST_CARS, Number, Reply, Terminal};
 use lift_building::Building;
 use lift_decider::Decider;
@@ -167,7 +167,7 @@ impl<'b, D: Disk> Keeper<'b, D> {
     }
 
     /// Makes the batch safe, and begins another. Where a call fails the batch stays, and is in doubt.
-    pub fn commit(&mut self) -> Result<(), KeeperFault>
+    pub fn commit(&mut self) -> Result<Safe, KeeperFault>
         // What a crash may leave at each moment of it, why it fails, and what stays.
         ensures commits { Commits
             D.state self.old.writer self.old.state.batch self.new.writer result }
@@ -179,9 +179,9 @@ impl<'b, D: Disk> Keeper<'b, D> {
         ensures begins { OnOk result (self.new.state ≡ record self.old.state { batch = [] }) }
         ensures unmoved { OnErr result (self.new.state ≡ self.old.state) }
     {
-        self.writer.commit(self.decider.batch())?;
+        let safe = self.writer.commit(self.decider.batch())?;
         self.decider.clear_batch();
-        Ok(())
+        Ok(safe)
     }
 
     /// Opens it again, also after a fault: no car has reported where it is, and the batch is empty.

@@ -15,4 +15,4 @@ mod writer;
 pub use checkpoints::checkpoints_keep;
 pub use fault::KeeperFault;
 pub use keeper::Keeper;
-pub use writer::Writer;
+pub use writer::{Safe, Writer};

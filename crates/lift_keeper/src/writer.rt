@@ -24,6 +24,14 @@ use lift_register::Register;
 use std::marker::Model;
 use std::snapshot::Snapshot;
 
+/// Evidence that a batch was committed: every crash from then on leaves it. Only `Writer::commit` makes
+/// one, where it has succeeded. So what is answered by one alone is answered after its commit, also in a
+/// call that never returns.
+#[derive(Drop)]
+pub struct Safe {
+    made: (),
+}
+
 /// The register that is safe on a device, whatever a crash leaves.
 #[derive(Drop)]
 pub struct Writer<'b, D: Disk> {
@@ -130,8 +138,9 @@ impl<'b, D: Disk> Writer<'b, D> {
         self.is_broken
     }
 
-    /// Makes a batch safe. At `Ok` the safe register is the one with the batch.
-    pub fn commit(&mut self, batch: &ArrayVec<Entry, MOST_ENTRIES>) -> Result<(), KeeperFault>
+    /// Makes a batch safe. At `Ok` the safe register is the one with the batch; also where it has no
+    /// entries.
+    pub fn commit(&mut self, batch: &ArrayVec<Entry, MOST_ENTRIES>) -> Result<Safe, KeeperFault>
         requires fits { self.old.is_broken ≡ false
             → FitFrom self.old.plan self.old.register batch.now.items }
         ensures commits { Commits D.state self.old batch.now.items self.new result }
@@ -141,13 +150,13 @@ impl<'b, D: Disk> Writer<'b, D> {
             return Err(KeeperFault::Journal(JournalFault::Broken));
         }
         if batch.is_empty() {
-            return Ok(());
+            return Ok(Safe { made: () });
         }
         put_records(batch, &mut self.records);
         match store(&mut self.journal, &self.register, &self.records) {
             Ok(()) => {
                 apply_all(&mut self.register, self.building, batch);
-                Ok(())
+                Ok(Safe { made: () })
             }
             Err(fault) => {
                 self.is_broken = true;

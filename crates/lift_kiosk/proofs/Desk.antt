@@ -3,17 +3,15 @@ use Rattle.std.proofs.Common.{◌≡◌, ℕ, suc, ◌+◌, true, false, List, [
 use Rattle.std.specs.Prelude.{Option, Some, None, nat_lt}
 use Rattle.std.proofs.lemmas.Bool.Decides.{nat_tests}
 use Rattle.std.proofs.lemmas.List.{map-append}
-use Rattle.lift_base.specs.declared.command.Body.{Body}
 use Rattle.lift_base.specs.declared.command.Reply.{Reply}
-use Rattle.lift_desk.specs.declared.words.Ask.{Ask}
 use Rattle.lift_desk.specs.declared.view.TerminalView.{TerminalView}
-use Rattle.lift_desk.specs.Words.{IsReply, number_of, last_of, ask_word, ask_of, reply_of}
-use Rattle.lift_desk.specs.Steps.{with_ask, with_hearing, is_awaited}
-use Rattle.lift_desk.specs.Seats.{TerminalSeat, StoresAsk, HearsOf, Waits}
-use Rattle.lift_kiosk.specs.Port.{PortView, AsksOne}
+use Rattle.lift_desk.specs.Words.{IsReply, number_of, last_of, reply_of}
+use Rattle.lift_desk.specs.Steps.{with_hearing, is_awaited}
+use Rattle.lift_desk.specs.Seats.{HearsOf, Waits}
+use Rattle.lift_kiosk.specs.Port.{PortView}
 use Rattle.lift_kiosk.specs.Hearing.{heard}
 use Rattle.lift_kiosk.specs.Desk.{port_view, pending_of}
-use Rattle.lift_desk.specs.lemmas.ReadBack.{ask_back, reply_back}
+use Rattle.lift_desk.specs.lemmas.ReadBack.{reply_back}
 
 rests_at : (v : TerminalView) → (Waits v → ⊥) → pending_of v ≡ None
 rests_at v rests =
@@ -40,22 +38,3 @@ hears_reply v new rests_now word reply is hears range rests =
     ∙ ap (λ (p : Option ℕ). port_as v rests_now p (map reply_of (v.heard ++ word ∷ [])) (suc v.looks)) pending
     ∙ ap (λ (replies : List Reply). port_as v rests_now None replies (suc v.looks)) answers
     ∙ ap (λ (n : ℕ). port_as v rests_now None (map reply_of v.heard ++ reply ∷ []) n) looks
-
-pending_at : (v : TerminalView) (number : ℕ) → Waits v → number_of (last_of v.asked) ≡ number → pending_of v ≡ Some number
-pending_at v number waits last =
-    let awaits : nat_lt (length v.heard) (length v.asked) ≡ true = grind (arith, nat_tests) in
-    rw (awaits, last) refl
-
--- an ask that is stored is the port's, since its word reads back
-pub asks_one : (old new : TerminalSeat) (rests number : ℕ) (body : Body) → StoresAsk old number body new
-    → AsksOne (port_view old.view rests) (record { number = number; body = body }) (port_view new.view rests)
-asks_one old new rests number body stores =
-    let word : ℕ = ask_word (suc (length old.view.asked)) number body in
-    let new_view : new.view ≡ with_ask old.view word = ap (λ (s : TerminalSeat). s.view) stores.stored in
-    let read : ask_of word ≡ record { number = number; body = body } = ask_back (suc (length old.view.asked)) number body stores.in_range.0 stores.in_range.1 in record {
-      pending = pending_at new.view number stores.waits stores.last;
-      asked = ap (λ (v : TerminalView). map ask_of v.asked) new_view ∙ map-append ask_of old.view.asked (word ∷ []) ∙ ap (λ (a : Ask). map ask_of old.view.asked ++ a ∷ []) read;
-      heard = ap (λ (v : TerminalView). map reply_of v.heard) new_view;
-      looks = ap (λ (v : TerminalView). v.looks) new_view;
-      rests = refl;
-    }

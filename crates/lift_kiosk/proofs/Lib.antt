@@ -7,3 +7,4 @@ pub mod Single
 pub mod Determined
 pub mod Whole
 pub mod Streams
+pub mod OfStreams

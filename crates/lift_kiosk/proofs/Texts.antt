@@ -15,6 +15,3 @@ few_digits text new n small all = omega (arith, ap length all, length-append tex
 
 pub eight_digits : (text new : List ℕ) (n : ℕ) → n < 16777216 → new ≡ text ++ decimal n → length new ≤ length text + 8
 eight_digits text new n small all = omega (arith, ap length all, length-append text (decimal n), length-decimal-le 8 n (omega arith) (omega arith) (omega arith))
-
-pub seven_digits : (text new : List ℕ) (n : ℕ) → n < 10000000 → new ≡ text ++ decimal n → length new ≤ length text + 7
-seven_digits text new n small all = omega (arith, ap length all, length-append text (decimal n), length-decimal-le 7 n (omega arith) (omega arith) (omega arith))

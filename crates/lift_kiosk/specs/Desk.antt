@@ -30,5 +30,9 @@ pub record DeskPortState : Type 0 where
   pub seat : TerminalSeat
   pub rests : ℕ
 
+-- how many asks were stored at a seat
+abbrev pub asks_at : TerminalSeat → ℕ
+asks_at seat = length seat.view.asked
+
 abbrev pub place_of : DeskPortState → PortPlace
 place_of port = record { desk = port.desk; table = port.seat.table; terminal = port.seat.terminal }

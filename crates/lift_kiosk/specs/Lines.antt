@@ -10,34 +10,46 @@ use Rattle.lift_kiosk.specs.declared.terms.End.{End}
 use Rattle.lift_kiosk.specs.declared.terms.End.TheVariants.{Closed, Limit, ReadFault}
 use Rattle.std.specs.Io.KnownBytes.{Consumes, IsAtEnd, Keeps}
 
--- a reader: how often it was called, whether a call failed or found the end, and what it has left,
--- where it tells that
+-- a reader: how often it was called, how many calls failed and how many found the end, whether any
+-- did, all bytes that came, and what it has left, where it tells that
 pub record Source : Type 0 where
   pub calls : ℕ
+  pub failures : ℕ
+  pub ends : ℕ
   pub failed : Bool
   pub ended : Bool
+  pub came : List ℕ
   pub left : Option (List ℕ)
 
 -- these bytes came, one at each call
 pub record GivesBytes (bytes : List ℕ) (before after : Source) : Type 0 where
   pub calls : after.calls ≡ before.calls + length bytes
+  pub failures : after.failures ≡ before.failures
+  pub ends : after.ends ≡ before.ends
   pub failed : after.failed ≡ before.failed
   pub ended : after.ended ≡ before.ended
+  pub came : after.came ≡ before.came ++ bytes
   pub left : Consumes before.left after.left bytes
 
 -- one call found the end
 pub record FindsEnd (before after : Source) : Type 0 where
   pub calls : after.calls ≡ before.calls + 1
+  pub failures : after.failures ≡ before.failures
+  pub ends : after.ends ≡ before.ends + 1
   pub failed : after.failed ≡ before.failed
   pub ended : after.ended ≡ true
+  pub came : after.came ≡ before.came
   pub left : Consumes before.left after.left []
   pub nothing : IsAtEnd after.left
 
 -- one call failed
 pub record FailsOnce (before after : Source) : Type 0 where
   pub calls : after.calls ≡ before.calls + 1
+  pub failures : after.failures ≡ before.failures + 1
+  pub ends : after.ends ≡ before.ends
   pub failed : after.failed ≡ true
   pub ended : after.ended ≡ before.ended
+  pub came : after.came ≡ before.came
   pub left : Keeps before.left after.left
 
 abbrev pub HasNoFeed : List ℕ → Type 0
@@ -70,8 +82,11 @@ abbrev pub source_of : {R : Type 0} → (remaining : R → Option (List ℕ)) �
 source_of remaining input =
     record {
       calls = input.calls;
+      failures = input.failures;
+      ends = input.ends;
       failed = input.failed;
       ended = input.ended;
+      came = input.came;
       left = remaining input.reader;
     }
 

@@ -241,10 +241,44 @@ abbrev pub IsSession : (wants : List ℕ → Wanted → Type 0)
 IsSession wants keeps limits end before after = EndsAtOnce keeps limits end before after
     ⊎ EndsAfter wants keeps limits end before after
 
+-- how many calls of the reader have failed after a session that ended so, by how many had before
+abbrev pub failed_reads : End → ℕ → ℕ
+failed_reads Closed before = before
+failed_reads Limit before = before
+failed_reads Late before = before
+failed_reads Spent before = before
+failed_reads ReadFault before = before + 1
+failed_reads WriteFault before = before
+
+-- how many have found its end
+abbrev pub ends_found : End → ℕ → ℕ
+ends_found Closed before = before + 1
+ends_found Limit before = before
+ends_found Late before = before
+ends_found Spent before = before
+ends_found ReadFault before = before
+ends_found WriteFault before = before
+
+-- and how many calls of the writer have failed, or taken nothing
+abbrev pub failed_writes : End → ℕ → ℕ
+failed_writes Closed before = before
+failed_writes Limit before = before
+failed_writes Late before = before
+failed_writes Spent before = before
+failed_writes ReadFault before = before
+failed_writes WriteFault before = before + 1
+
+-- what the end of a session says of its reader and its writer: which call of them failed, and
+-- whether one found the end
+pub record EndsAsCalled (end : End) (before after : Standing) : Type 0 where
+  pub read : after.source.failures ≡ failed_reads end before.source.failures
+  pub found : after.source.ends ≡ ends_found end before.source.ends
+  pub wrote : after.sink.failures ≡ failed_writes end before.sink.failures
+
 -- A session, and what its end says. It called the reader as often as the limits say at most. One
 -- that ends late awaits an answer and has made all looks for it; one that ends spent has no turn
--- left; one that ends closed found the reader's end; after a fault a call of the reader or of the
--- writer had failed.
+-- left; one that ends closed found the reader's end; one that ends with a fault saw one call of the
+-- reader or of the writer fail, and no other session did.
 pub record Converses (wants : List ℕ → Wanted → Type 0) (keeps : LastLetter → ℕ → Reply
     → LastLetter) (limits : Limits) (end : End) (before after : Standing) : Type 0 where
   pub session : IsSession wants keeps limits end before after
@@ -255,3 +289,4 @@ pub record Converses (wants : List ℕ → Wanted → Type 0) (keeps : LastLette
   pub closed : end ≡ Closed → after.source.ended ≡ true
   pub unwritten : end ≡ WriteFault → after.sink.failed ≡ true
   pub failed : end ≡ ReadFault → after.source.failed ≡ true
+  pub counted : EndsAsCalled end before after

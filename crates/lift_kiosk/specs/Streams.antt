@@ -1,6 +1,7 @@
 -- A whole session follows from what its port, its reader and its writer gave, whatever the session
 -- made of it.
 use Rattle.std.specs.Prelude.{◌≡◌, ℕ, List, [], ◌∷◌, ◌++◌, Option, Some, None}
+use Rattle.std.specs.List.{flat_map}
 use Rattle.lift_base.specs.declared.command.Reply.{Reply}
 use Rattle.lift_kiosk.specs.declared.dialect.Wanted.{Wanted}
 use Rattle.lift_kiosk.specs.declared.terms.End.{End}
@@ -93,3 +94,28 @@ StreamsDetermine wants keeps =
     → (one_end ≡ other_end) × (one_after.last ≡ other_after.last)
     × (text_of wants keeps limits one_end one one_after first
     ≡ text_of wants keeps limits other_end other other_after second)
+
+-- the answers that the port gave, where it gave any
+abbrev pub heard_in : Option (Option Reply) → List Reply
+heard_in None = []
+heard_in (Some None) = []
+heard_in (Some (Some reply)) = reply ∷ []
+
+-- all answers of the port: the one that was brought in, and those to the session's own asks
+abbrev pub answers_heard : Streams → List Reply
+answers_heard streams = heard_in streams.brought ++ flat_map heard_in streams.given
+
+-- What is said of a session is what there was of it: its bytes are those that came of the reader while
+-- it ran, its text is what the writer took, and its answers are those that the port heard.
+pub record IsOfStreams (before after : Standing) (streams : Streams) (text : List ℕ) : Type 0 where
+  pub came : after.source.came ≡ before.source.came ++ streams.bytes
+  pub gone : after.sink.gone ≡ before.sink.gone ++ text
+  pub heard : after.port.heard ≡ before.port.heard ++ answers_heard streams
+
+abbrev pub StreamsAreOfSessions : (wants : List ℕ → Wanted → Type 0)
+    → (keeps : LastLetter → ℕ → Reply → LastLetter) → Type 0
+StreamsAreOfSessions wants keeps =
+    (limits : Limits) (end : End) (before after : Standing)
+    (session : IsSession wants keeps limits end before after)
+    → IsOfStreams before after (streams_of (came_to wants keeps limits end before after session))
+    (text_of wants keeps limits end before after session)

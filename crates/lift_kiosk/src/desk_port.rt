@@ -2,53 +2,49 @@
 
 ghost use Rattle.std.specs.Prelude.{◌≡◌};
 ghost use Rattle.lift_desk.specs.Seats.{IsSeatOf};
+ghost use Rattle.lift_kiosk.specs.Desk.{asks_at};
 
 use crate::port::Port;
-use crate::rests::{Rest, Rests};
-use lift_base::{Body, Number, Reply, Terminal};
+use crate::rest::{Rest, Yield};
+use lift_base::{Body, Number, ProofCount, Reply, Terminal};
 use lift_desk::{AskRefusal, Desk, Seat};
 use std::marker::Model;
-use std::thread;
+use std::snapshot::Snapshot;
 
-/// Lets other threads run.
+/// A terminal's seat at the desk as a port. How it rests, and who is told of what is asked and heard
+/// there, its type names; how often it rested only proofs read. That it rests when it counts stands
+/// in the two lines of its `rest`: a rest changes nothing that a clause could name.
 #[derive(Drop)]
-struct Yield;
-
-impl Rest for Yield {
-    fn rest(&self) {
-        thread::yield_now();
-    }
-}
-
-/// A terminal's seat at the desk as a port. It rests by letting other threads run.
-#[derive(Drop)]
-pub struct DeskPort<'d> {
+pub struct DeskPort<'d, W: Rest + Drop = Yield> {
     desk: &'d Desk,
     seat: Seat,
-    rests: Rests<Yield>,
+    way: W,
+    rests: ProofCount,
 }
 
-impl<'d> Model for DeskPort<'d> {
+impl<'d, W: Rest + Drop> Model for DeskPort<'d, W> {
     ghost use Rattle.lift_desk.specs.Seats.{IsSeatOf};
-    ghost use Rattle.lift_kiosk.specs.Desk.{DeskPortState};
+    ghost use Rattle.lift_kiosk.specs.Desk.{DeskPortState, asks_at};
 
     ghost Value = { DeskPortState };
 
-    ghost view = { λ p. record { desk = p.desk.now; seat = p.seat; rests = p.rests } };
+    ghost view = { λ p. record { desk = p.desk.now; seat = p.seat; rests = p.rests.count } };
 
-    ghost invariant = { λ p. IsSeatOf p.desk.now p.seat };
+    ghost invariant = { λ p. IsSeatOf p.desk.now p.seat × W.was_told p.way (asks_at p.seat) };
 }
 
-impl<'d> DeskPort<'d> {
-    /// The port of a seat of this desk.
-    pub fn new(desk: &'d Desk, seat: Seat) -> Self
-        requires { IsSeatOf desk.now seat }
+impl<'d, W: Rest + Drop> DeskPort<'d, W> {
+    /// The port of a seat of this desk, which rests this way.
+    pub fn new(desk: &'d Desk, seat: Seat, way: W) -> Self
+        requires seated { IsSeatOf desk.now seat }
+        requires told { W.was_told way (asks_at seat) }
         ensures { result ≡ record { desk = desk.now; seat = seat; rests = 0 } }
     {
         DeskPort {
             desk,
             seat,
-            rests: Rests::new(Yield),
+            way,
+            rests: ProofCount::new(),
         }
     }
 
@@ -67,13 +63,14 @@ impl<'d> DeskPort<'d> {
         let DeskPort {
             desk: _,
             seat,
+            way: _,
             rests: _,
         } = self;
         seat
     }
 }
 
-impl<'d> Port for DeskPort<'d> {
+impl<'d, W: Rest + Drop> Port for DeskPort<'d, W> {
     ghost use Rattle.lift_kiosk.specs.Desk.{port_view, place_of};
 
     ghost view = { λ p. port_view p.seat.view p.rests };
@@ -85,15 +82,19 @@ impl<'d> Port for DeskPort<'d> {
     }
 
     fn ask(&mut self, number: Number, body: Body) -> Result<(), AskRefusal> {
-        self.desk.ask(&mut self.seat, number, body)
+        self.desk.ask(&mut self.seat, number, body)?;
+        self.way.asked(Snapshot::of(&self.seat));
+        Ok(())
     }
 
     fn hear(&mut self) -> Option<Reply> {
         let reply = self.desk.hear(&mut self.seat)?;
+        self.way.heard(&reply);
         Some(reply)
     }
 
     fn rest(&mut self) {
-        self.rests.rest();
+        self.way.rest();
+        self.rests = ProofCount::next(&self.rests);
     }
 }

@@ -3,7 +3,7 @@
 ghost use Rattle.lift_kiosk.specs.Determined.{AsksForOneThing, LineDetermines, LinesDetermine};
 ghost use Rattle.lift_kiosk.specs.Determined.{OutcomesAreWritten};
 ghost use Rattle.lift_kiosk.specs.Whole.{SessionsDetermine, SessionsAreWritten};
-ghost use Rattle.lift_kiosk.specs.Streams.{StreamsDetermine};
+ghost use Rattle.lift_kiosk.specs.Streams.{StreamsAreOfSessions, StreamsDetermine};
 ghost use Rattle.lift_kiosk.specs.Kiosk.{WantsCall, keeps_letter};
 
 use crate::dialect::Dialect;
@@ -15,7 +15,8 @@ use crate::kiosk::Kiosk;
 /// outcomes. And where the same comes from the port, the reader and the writer, from the first line
 /// to the last byte, a session ends alike, knows the same last command, and wrote the same; also
 /// where of the reader only its bytes are known, and how its last call went, and not where a line
-/// or the session ended.
+/// or the session ended. These bytes are what came of the reader, what is written is what the writer
+/// took, and the port's answers are those that it heard.
 pub fn dialects_determine<T: Dialect>()
     ensures line { AsksForOneThing T.wants → LineDetermines T.wants }
     ensures lines { AsksForOneThing T.wants → LinesDetermine T.wants T.keeps }
@@ -23,6 +24,7 @@ pub fn dialects_determine<T: Dialect>()
     ensures whole { AsksForOneThing T.wants → SessionsDetermine T.wants T.keeps }
     ensures streams { AsksForOneThing T.wants → StreamsDetermine T.wants T.keeps }
     ensures text { AsksForOneThing T.wants → SessionsAreWritten T.wants T.keeps }
+    ensures own { StreamsAreOfSessions T.wants T.keeps }
 {}
 
 /// Sessions of kiosks are determined, as `dialects_determine` says.
@@ -33,6 +35,7 @@ pub fn sessions_are_determined()
     ensures whole { SessionsDetermine WantsCall keeps_letter }
     ensures streams { StreamsDetermine WantsCall keeps_letter }
     ensures text { SessionsAreWritten WantsCall keeps_letter }
+    ensures own { StreamsAreOfSessions WantsCall keeps_letter }
 {
     dialects_determine::<Kiosk>();
 }

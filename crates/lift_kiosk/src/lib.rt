@@ -12,7 +12,7 @@ mod listening;
 mod outcome;
 mod port;
 mod reading;
-mod rests;
+mod rest;
 mod speaking;
 mod terms;
 
@@ -26,5 +26,5 @@ pub use listening::{bring_in, carry_out};
 pub use outcome::{Opening, Outcome};
 pub use port::Port;
 pub use reading::{without_return, words_in};
-pub use rests::{Rest, Rests};
+pub use rest::{Rest, Yield};
 pub use terms::{End, LastLetter, Limits, SessionEnd};

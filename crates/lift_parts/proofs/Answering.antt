@@ -6,12 +6,11 @@ use Rattle.std.proofs.lemmas.List.{length-map}
 use Rattle.lift_clerk.specs.TakenAndAnswered.{AreApart, AreOthers, Grows, TakesAndAnswers, answers_to}
 use Rattle.lift_parts.specs.Batch.{replies_in}
 use Rattle.lift_clerk.specs.TakenAndAnswered.{answer_words, ask_of}
-use Rattle.std.proofs.Common.{ℕ, suc, ◌≡◌, ◌≢◌, ◌+◌, Bool, true, false, cond, eqb, List, [], ◌∷◌, ◌++◌, length, map, refl, sym, ap, subst, ◌∙◌, arith, append_assoc}
+use Rattle.std.proofs.Common.{ℕ, suc, ◌≡◌, ◌≢◌, ◌+◌, Bool, true, false, cond, eqb, List, [], ◌∷◌, ◌++◌, length, map, refl, sym, ap, subst, ◌∙◌, arith}
 use Rattle.std.specs.Prelude.{filter, All}
 use Rattle.std.proofs.lemmas.List.Elements.{All-cons, All-nil}
 use Rattle.std.proofs.lemmas.Bool.{eq-eqb, ne_eqb}
 use Rattle.std.proofs.lemmas.List.{append-nil, length-append}
-use mathlib.Core.List.{map-append}
 use Rattle.lift_base.specs.declared.command.Reply.{Reply}
 use Rattle.lift_desk.specs.declared.view.ClerkView.{ClerkView}
 use Rattle.lift_desk.specs.Words.{reply_word}
@@ -28,7 +27,6 @@ use Rattle.lift_clerk.specs.Visits.{FindsAt}
 use Rattle.lift_clerk.specs.lemmas.Lists.{no_asks}
 use Rattle.lift_clerk.specs.lemmas.Stored.{length-answered, number-taken}
 use Rattle.lift_clerk.specs.lemmas.Visiting.{taken-new}
-use Rattle.lift_clerk.specs.lemmas.Words.{asks_both, asks_count, answers_both, answers_long}
 use Rattle.lift_parts.specs.declared.taken.NotedCommand.{NotedCommand}
 use Rattle.lift_parts.specs.Batch.{AreBelow, commands_in}
 use Rattle.lift_parts.specs.Flusher.{AnswersBatch, LooksGive, noted_visit, looked_for, answers_in}
@@ -42,31 +40,6 @@ pub record Grown (before after : ClerkView) (cs : List Command) (answers : List 
 
 grown_none : (v : ClerkView) → Grown v v [] []
 grown_none v = record { taken = sym (append-nil v.taken); answered = sym (append-nil v.answered) }
-
-grown_join : (u v x : ClerkView) (cs ds : List Command) (old_answers new_answers : List Answer) → Grown u v cs old_answers → Grown v x ds new_answers → Grown u x (cs ++ ds) (old_answers ++ new_answers)
-grown_join u v x cs ds old_answers new_answers g h =
-    let lt : suc (length v.taken) ≡ suc (length u.taken) + length (map ask_of cs) = omega (
-      arith,
-      ap length g.taken,
-      length-append u.taken (ask_words (suc (length u.taken)) (map ask_of cs)),
-      asks_count (suc (length u.taken)) (map ask_of cs),
-    ) in
-    let la : suc (length v.answered) ≡ suc (length u.answered) + length old_answers = omega (
-      arith,
-      ap length g.answered,
-      length-append u.answered (answer_words (suc (length u.answered)) old_answers),
-      answers_long (suc (length u.answered)) old_answers,
-    ) in
-    record {
-      taken = h.taken ∙ ap (λ (xs : List ℕ). xs ++ ask_words (suc (length v.taken)) (map ask_of ds)) g.taken
-          ∙ append_assoc u.taken (ask_words (suc (length u.taken)) (map ask_of cs)) (ask_words (suc (length v.taken)) (map ask_of ds))
-          ∙ ap (λ (n : ℕ). u.taken ++ (ask_words (suc (length u.taken)) (map ask_of cs) ++ ask_words n (map ask_of ds))) lt
-          ∙ ap (λ (xs : List ℕ). u.taken ++ xs) (sym (asks_both (suc (length u.taken)) (map ask_of cs) (map ask_of ds)) ∙ ap (ask_words (suc (length u.taken))) (sym (map-append ask_of cs ds)));
-      answered = h.answered ∙ ap (λ (xs : List ℕ). xs ++ answer_words (suc (length v.answered)) new_answers) g.answered
-          ∙ append_assoc u.answered (answer_words (suc (length u.answered)) old_answers) (answer_words (suc (length v.answered)) new_answers)
-          ∙ ap (λ (n : ℕ). u.answered ++ (answer_words (suc (length u.answered)) old_answers ++ answer_words n new_answers)) la
-          ∙ ap (λ (xs : List ℕ). u.answered ++ xs) (sym (answers_both (suc (length u.answered)) old_answers new_answers));
-    }
 
 -- the answer that is told
 abbrev pub answer_told : Bool → NotedCommand → Answer

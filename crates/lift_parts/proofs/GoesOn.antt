@@ -8,7 +8,8 @@ use Rattle.lift_base.specs.declared.history.Entry.{Entry}
 use Rattle.lift_building.specs.Plan.{Plan}
 use Rattle.lift_disk.specs.Disk.{DiskState, LeavesNow, LeavesOnly}
 use Rattle.lift_register.specs.Register.{RegisterState, register_of}
-use Rattle.lift_desk.specs.Seats.{ClerkPlace, view_at}
+use Rattle.lift_desk.specs.Seats.{ClerkPlace, view_at, with_looks_of}
+use Rattle.lift_desk.specs.lemmas.Places.{words_with_looks}
 use Rattle.lift_policy.specs.Eligible.{any_eligible}
 use Rattle.lift_policy.specs.Step.{State}
 use Rattle.lift_policy.specs.Run.{Run}
@@ -521,11 +522,13 @@ split_rests {D} clerk f desk seat writer state = record {
   broken = inr (ap (λ (w : WriterView D). w.is_broken) writer);
 }
 
-join_rests : {D P : Type 0} (clerk : ClerkState D P) (f : FlusherState D) → clerk.desk ≡ f.desk → clerk.seat ≡ f.seat → clerk.keeper.writer ≡ f.writer → clerk.keeper.state ≡ f.end.state
+join_rests : {D P : Type 0} (clerk : ClerkState D P) (f : FlusherState D) → clerk.desk ≡ f.desk → (ahead : List ClerkPlace) → clerk.seat ≡ with_looks_of ahead f.seat → clerk.keeper.writer ≡ f.writer → clerk.keeper.state ≡ f.end.state
     → ClerkRests (group_after f) (group_of clerk)
-join_rests {D} clerk f desk seat writer state = record {
+join_rests {D} clerk f desk ahead seat writer state = record {
   desk = desk;
-  words = λ t. (ap (λ (s : List ClerkPlace). (view_at s t).taken) seat, ap (λ (s : List ClerkPlace). (view_at s t).answered) seat);
+  words = λ t.
+      let same = words_with_looks ahead f.seat t in
+      (ap (λ (s : List ClerkPlace). (view_at s t).taken) seat ∙ same.0, ap (λ (s : List ClerkPlace). (view_at s t).answered) seat ∙ same.1);
   state = λ whole. state;
   register = ap (λ (w : WriterView D). w.register) writer;
   doubt = ap (λ (w : WriterView D). w.doubt) writer;
@@ -537,12 +540,12 @@ pub splits_go_on : {D P : Type 0} → SplitsGoOn D P
 splits_go_on clerk f base safe given desk seat writer state h = Rested h (split_rests clerk f desk seat writer state)
 
 pub joined_go_on : {D P : Type 0} → JoinedGoOn D P
-joined_go_on clerk f base safe given desk seat writer state h = Rested h (join_rests clerk f desk seat writer state)
+joined_go_on clerk f ahead base safe given desk seat writer state h = Rested h (join_rests clerk f desk ahead seat writer state)
 
 pub splits_keep_pasts : {D P : Type 0} → PastsGoOn D → SplitsKeepPasts D P
 splits_keep_pasts {D} past w clerk f terminals safe given desk seat writer state p =
     past.rests w (group_of clerk) (group_after f) terminals safe given p (split_rests clerk f desk seat writer state) (ap (λ (w : WriterView D). w.is_broken) writer)
 
 pub joined_keep_pasts : {D P : Type 0} → PastsGoOn D → JoinedKeepPasts D P
-joined_keep_pasts {D} past w clerk f terminals safe given desk seat writer state p =
-    past.rests w (group_after f) (group_of clerk) terminals safe given p (join_rests clerk f desk seat writer state) (ap (λ (w : WriterView D). w.is_broken) writer)
+joined_keep_pasts {D} past w clerk f ahead terminals safe given desk seat writer state p =
+    past.rests w (group_after f) (group_of clerk) terminals safe given p (join_rests clerk f desk ahead seat writer state) (ap (λ (w : WriterView D). w.is_broken) writer)

@@ -1,13 +1,19 @@
 -- Whatever turns a flusher has made, what was given is kept.
-use Rattle.std.proofs.Common.{◌++◌, Option}
-use Rattle.lift_disk.specs.Disk.{DiskState}
+use Rattle.std.proofs.Common.{List, [], ◌++◌, Option, Result, refl}
+use Rattle.std.proofs.lemmas.List.{append-nil}
+use Rattle.lift_base.specs.declared.history.Entry.{Entry}
+use Rattle.lift_disk.specs.Disk.{DiskState, LeavesOnly}
+use Rattle.lift_disk.specs.lemmas.Moments.{leaves_then, leaves_weaker}
+use Rattle.lift_register.specs.Register.{RegisterState}
 use Rattle.lift_keeper.specs.declared.fault.KeeperFault.{KeeperFault}
-use Rattle.lift_clerk.specs.Keeping.{CrashesKeep, LeavesSafe}
-use Rattle.lift_clerk.specs.lemmas.Keeps.{kept_now}
+use Rattle.lift_world.specs.declared.event.Taken.{Taken}
+use Rattle.lift_clerk.specs.Keeping.{CrashesKeep, KeepsAll, KeepsEither, LeavesSafe}
+use Rattle.lift_clerk.specs.lemmas.Keeps.{keeps_fewer, keeps_first, kept_now}
+use Rattle.lift_parts.specs.declared.counts.FlushCounts.{FlushCounts}
 use Rattle.lift_parts.specs.Flusher.{FlusherState}
-use Rattle.lift_parts.specs.Turns.{FlusherTurns, NoFlush, OneFlush}
-use Rattle.lift_parts.specs.History.{FlushesStand, group_after}
-use Rattle.lift_parts.specs.Keeping.{HaveKept, NoneYet, OneKept, TurnsKeep}
+use Rattle.lift_parts.specs.Turns.{FlusherTurns, IsFlush, NoFlush, OneFlush}
+use Rattle.lift_parts.specs.History.{FlushesStand, FlushStands, group_after}
+use Rattle.lift_parts.specs.Keeping.{HaveKept, KeepingTurns, LosesNothing, NoneYet, OneKept, TurnsKeep}
 use Rattle.lift_parts.specs.lemmas.Received.{commits_to}
 use Rattle.lift_parts.proofs.GoesOn.{leaves_after}
 
@@ -17,9 +23,31 @@ module _ {D : Type 0} (state : D → DiskState) where
   leaves_on f g first last leaves NoFlush = leaves
   leaves_on f g first last leaves (OneFlush {g = m} {first = before} {answer = answer} more flush is) = leaves_after state m g answer (commits_to state m g answer flush) (leaves_on f m first before leaves more)
 
+  -- what had been given before a turn is kept throughout it,
+  within : (base : RegisterState) (g h : FlusherState D) (mid : List Entry) (now : List Taken) → FlushStands g h base mid now (state g.writer.device) (state h.writer.device) → LeavesOnly (state g.writer.device) (state h.writer.device) (KeepsAll D g.writer.plan base now)
+  within base g h mid now s = leaves_weaker (state g.writer.device) (state h.writer.device) (KeepsEither D g.writer.plan base mid s.batch now) (KeepsAll D g.writer.plan base now)
+      (λ honest left kept. keeps_first g.writer.plan g.writer.plan base mid s.batch now now left refl ([], append-nil now) kept) s.stands
+
+  -- and as long as all is that was given at its end
+  since : (base : RegisterState) (g h : FlusherState D) (mid : List Entry) (now : List Taken) (answer : Result FlushCounts KeeperFault) → IsFlush state g h answer → (s : FlushStands g h base mid now (state g.writer.device) (state h.writer.device)) → (last : DiskState)
+      → LeavesOnly (state h.writer.device) last (KeepsAll D h.writer.plan base (now ++ s.goes_on.told)) → LeavesOnly (state g.writer.device) last (KeepsAll D g.writer.plan base now)
+  since base g h mid now answer flush s last keeps = leaves_then (state g.writer.device) (state h.writer.device) last (KeepsAll D g.writer.plan base now) (within base g h mid now s)
+      (leaves_weaker (state h.writer.device) last (KeepsAll D h.writer.plan base (now ++ s.goes_on.told)) (KeepsAll D g.writer.plan base now)
+      (λ honest left kept. keeps_fewer g.writer.plan h.writer.plan base now s.goes_on.told left flush.commits.same.0 kept) keeps)
+
+  loses_on : (base : RegisterState) (f g : FlusherState D) (safe mid : List Entry) (given now : List Taken) (turns : KeepingTurns state base f safe given g mid now) (last : DiskState) → LeavesOnly (state g.writer.device) last (KeepsAll D g.writer.plan base now) → LosesNothing last turns
+  loses_on base f g safe mid given now NoneYet last keeps = tt
+  loses_on base f h safe end given later (OneKept {g = g} {mid = mid} {now = now} {answer = answer} turns flush s) last keeps =
+      let before = since base g h mid now answer flush s last keeps in (loses_on base f g safe mid given now turns last before, before)
+
+  loses_nothing : (base : RegisterState) (f g : FlusherState D) (safe mid : List Entry) (given now : List Taken) (turns : KeepingTurns state base f safe given g mid now) → LosesNothing (state g.writer.device) turns
+  loses_nothing base f g safe mid given now NoneYet = tt
+  loses_nothing base f h safe end given later (OneKept {g = g} {mid = mid} {now = now} turns flush s) =
+      let before = within base g h mid now s in (loses_on base f g safe mid given now turns (state h.writer.device) before, before)
+
   pub turns_keep : CrashesKeep D → FlushesStand D state → TurnsKeep D state
   turns_keep law stand f g first last base safe given h NoFlush =
-      record { now_safe = safe; now_given = given; turns = NoneYet; history = h; kept = kept_now law base (group_after f) safe given h (state f.writer.device) }
+      record { now_safe = safe; now_given = given; turns = NoneYet; loses_nothing = tt; history = h; kept = kept_now law base (group_after f) safe given h (state f.writer.device) }
   turns_keep law stand f g first last base safe given h (OneFlush {g = m} {first = before} {answer = answer} more flush is) =
       let k : HaveKept state base f m safe given = turns_keep law stand f m first before base safe given h more in
       let s = stand m g answer flush base k.now_safe k.now_given k.history in
@@ -27,6 +55,7 @@ module _ {D : Type 0} (state : D → DiskState) where
         now_safe = k.now_safe ++ s.goes_on.more;
         now_given = k.now_given ++ s.goes_on.told;
         turns = OneKept k.turns flush s;
+        loses_nothing = loses_nothing base f g safe (k.now_safe ++ s.goes_on.more) given (k.now_given ++ s.goes_on.told) (OneKept k.turns flush s);
         history = s.goes_on.history;
         kept = λ leaves. s.now (leaves_on f m first before leaves more);
       }

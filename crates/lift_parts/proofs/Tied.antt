@@ -10,6 +10,7 @@ use Rattle.lift_register.specs.Register.{register_of}
 use Rattle.lift_desk.specs.Spelled.{ask_words}
 use Rattle.lift_desk.specs.declared.view.ClerkView.{ClerkView}
 use Rattle.lift_desk.specs.Seats.{ClerkPlace, view_at, ahead_from}
+use Rattle.lift_desk.specs.lemmas.Places.{words_with_looks}
 use Rattle.lift_policy.specs.Step.{State}
 use Rattle.lift_policy.specs.declared.command.Command.{Command}
 use Rattle.lift_world.specs.declared.event.Event.{Event}
@@ -294,7 +295,17 @@ module _ {D P : Type 0} (laws : RelayLaws) (w : World) (a : AllocatorState P) (f
   rejoins = record {
     building = m.same_plan ∙ ap (λ (v : Rattle.lift_keeper.specs.Writer.WriterView D). v.plan) (sym r.writer);
     reached = m.reached;
-    words = λ t. subst (λ (s : List ClerkPlace). ShowsWords w t (view_at s t)) (sym r.seat) (words_of w t (view_at a.seat t) (view_at f.seat t) (none_queued w t none_in) (m.words t));
+    words = λ t.
+        let same = words_with_looks a.seat f.seat t in
+        let shows = words_of w t (view_at a.seat t) (view_at f.seat t) (none_queued w t none_in) (m.words t) in
+        record {
+          first = shows.first;
+          waiting = shows.waiting;
+          asked = shows.asked;
+          taken = ap (λ (s : List ClerkPlace). (view_at s t).taken) r.seat ∙ same.0 ∙ shows.taken;
+          answered = ap (λ (s : List ClerkPlace). (view_at s t).answered) r.seat ∙ same.1 ∙ shows.answered;
+          even = shows.even;
+        };
     whole = λ e.
         let k = m.whole (sym broken_same ∙ e) in
         record {

@@ -5,6 +5,7 @@ use Rattle.std.specs.List.{flat_map}
 use Rattle.lift_base.specs.declared.history.Entry.{Entry}
 use Rattle.lift_disk.specs.Disk.{DiskState}
 use Rattle.lift_register.specs.Register.{RegisterState}
+use Rattle.lift_desk.specs.Seats.{ClerkPlace, with_looks_of}
 use Rattle.lift_keeper.specs.declared.fault.KeeperFault.{KeeperFault}
 use Rattle.lift_world.specs.declared.event.Taken.{Taken}
 use Rattle.lift_world.specs.Next.{unknown_to}
@@ -68,13 +69,17 @@ pub record FlushStands {D : Type 0} (f g : FlusherState D) (base : RegisterState
   pub now : LeavesSafe f.writer old
       → KeepsNow base (group_after g) (safe ++ goes_on.more) (given ++ goes_on.told) new
 
+-- Whatever had happened before it: all that was given is kept at each moment, and what the turn gives
+-- from its end on.
+abbrev pub FlushKeeps : {D : Type 0} → (D → DiskState) → (f g : FlusherState D) → Type 0
+FlushKeeps state f g = (base : RegisterState) (safe : List Entry) (given : List Taken)
+    → History base (group_after f) safe given
+    → FlushStands f g base safe given (state f.writer.device) (state g.writer.device)
+
 -- So it is of each turn of a flusher,
 abbrev pub FlushesStand : (D : Type 0) → (D → DiskState) → Type 0
 FlushesStand D state = (f g : FlusherState D) (answer : Result FlushCounts KeeperFault)
-    → IsFlush state f g answer
-    → (base : RegisterState) (safe : List Entry) (given : List Taken)
-    → History base (group_after f) safe given
-    → FlushStands f g base safe given (state f.writer.device) (state g.writer.device)
+    → IsFlush state f g answer → FlushKeeps state f g
 
 -- and of any number of them the history goes on.
 abbrev pub TurnsGoOn : (D : Type 0) → (D → DiskState) → Type 0
@@ -90,9 +95,10 @@ SplitsGoOn D P = (clerk : ClerkState D P) (f : FlusherState D) (base : RegisterS
     → (clerk.keeper.writer.is_broken ≡ false → f.end.state ≡ clerk.keeper.state)
     → History base (group_of clerk) safe given → History base (group_after f) safe given
 
--- and of a clerk that is joined of both parts.
+-- and of a clerk that is joined of both parts, and counts the looks of the seats ahead too.
 abbrev pub JoinedGoOn : (D P : Type 0) → Type 0
-JoinedGoOn D P = (clerk : ClerkState D P) (f : FlusherState D) (base : RegisterState)
-    (safe : List Entry) (given : List Taken) → clerk.desk ≡ f.desk → clerk.seat ≡ f.seat → clerk.keeper.writer ≡ f.writer
+JoinedGoOn D P = (clerk : ClerkState D P) (f : FlusherState D) (ahead : List ClerkPlace)
+    (base : RegisterState) (safe : List Entry) (given : List Taken) → clerk.desk ≡ f.desk
+    → clerk.seat ≡ with_looks_of ahead f.seat → clerk.keeper.writer ≡ f.writer
     → clerk.keeper.state ≡ f.end.state
     → History base (group_after f) safe given → History base (group_of clerk) safe given

@@ -1,12 +1,12 @@
 -- What a flusher's turns keep, over power cuts, of all that was answered.
 use Rattle.std.specs.Prelude.{List, ◌++◌, Option, Result}
 use Rattle.lift_base.specs.declared.history.Entry.{Entry}
-use Rattle.lift_disk.specs.Disk.{DiskState}
+use Rattle.lift_disk.specs.Disk.{DiskState, LeavesOnly}
 use Rattle.lift_register.specs.Register.{RegisterState}
 use Rattle.lift_world.specs.declared.event.Taken.{Taken}
 use Rattle.lift_keeper.specs.declared.fault.KeeperFault.{KeeperFault}
 use Rattle.lift_clerk.specs.History.{History}
-use Rattle.lift_clerk.specs.Keeping.{LeavesSafe, KeepsNow}
+use Rattle.lift_clerk.specs.Keeping.{KeepsAll, LeavesSafe, KeepsNow}
 use Rattle.lift_parts.specs.declared.counts.FlushCounts.{FlushCounts}
 use Rattle.lift_parts.specs.Flusher.{FlusherState}
 use Rattle.lift_parts.specs.Turns.{FlusherTurns, IsFlush}
@@ -26,6 +26,15 @@ pub data KeepingTurns {D : Type 0} (state : D → DiskState) (base : RegisterSta
       → (s : FlushStands g h base mid now (state g.writer.device) (state h.writer.device))
       → KeepingTurns state base f safe given h (mid ++ s.goes_on.more) (now ++ s.goes_on.told)
 
+-- From the beginning of each of these turns until the device is this one, each image that a crash may
+-- leave keeps all that had been given by then: what the turns answer is never lost later on.
+abbrev pub LosesNothing : {D : Type 0} {state : D → DiskState} {base : RegisterState} {f g : FlusherState D}
+    {safe mid : List Entry} {given now : List Taken} → DiskState
+    → KeepingTurns state base f safe given g mid now → Type 0
+LosesNothing last NoneYet = Unit {0}
+LosesNothing {D} {state} {base} last (OneKept {g = g} {now = now} turns flush s) = LosesNothing last turns
+    × LeavesOnly (state g.writer.device) last (KeepsAll D g.writer.plan base now)
+
 -- The turns have come to this flusher. Just these entries are safe now and just these commands were
 -- answered: that is the history of its group. A crash now leaves what keeps them, where one before
 -- the first turn left what was safe or in doubt.
@@ -34,6 +43,8 @@ pub record HaveKept {D : Type 0} (state : D → DiskState) (base : RegisterState
   pub now_safe : List Entry
   pub now_given : List Taken
   pub turns : KeepingTurns state base f safe given g now_safe now_given
+  -- from each turn on to the last
+  pub loses_nothing : LosesNothing (state g.writer.device) turns
   pub history : History base (group_after g) now_safe now_given
   pub kept : LeavesSafe f.writer (state f.writer.device)
       → KeepsNow base (group_after g) now_safe now_given (state g.writer.device)

@@ -1,6 +1,6 @@
 -- A clerk in two parts, and the parts together again.
 use Rattle.std.specs.Prelude.{◌≡◌, ◌⊎◌, true, []}
-use Rattle.lift_desk.specs.Seats.{OwesNothing, ahead_from}
+use Rattle.lift_desk.specs.Seats.{OwesNothing, ahead_from, with_looks_of}
 use Rattle.lift_clerk.specs.Clerk.{ClerkState}
 use Rattle.lift_clerk.specs.Turn.{without_batch}
 use Rattle.lift_parts.specs.Allocator.{AllocatorState}
@@ -34,7 +34,8 @@ pub record AreOfOne {D P : Type 0} (a : AllocatorState P) (f : FlusherState D) :
 pub record IsRejoined {D P : Type 0} (a : AllocatorState P) (f : FlusherState D)
     (clerk : ClerkState D P) : Type 0 where
   pub desk : clerk.desk ≡ a.desk
-  pub seat : clerk.seat ≡ f.seat
+  -- the flusher's seats, which count the looks of the allocator's too
+  pub seat : clerk.seat ≡ with_looks_of a.seat f.seat
   pub state : clerk.keeper.state ≡ a.state
   pub writer : clerk.keeper.writer ≡ f.writer
   pub policy : clerk.policy ≡ a.policy

@@ -4,6 +4,7 @@ use Rattle.std.specs.Prelude.{ℕ, ◌≡◌, Bool, true, false, List, [], ◌�
 use Rattle.std.specs.Prelude.{Result, is_ok}
 use Rattle.lift_base.specs.declared.history.Entry.{Entry}
 use Rattle.lift_disk.specs.Disk.{DiskState}
+use Rattle.lift_desk.specs.Seats.{ClerkPlace, with_looks_of}
 use Rattle.lift_keeper.specs.declared.fault.KeeperFault.{KeeperFault}
 use Rattle.lift_world.specs.declared.event.Event.{Event}
 use Rattle.lift_world.specs.declared.event.Phase.TheVariants.{GateWritten}
@@ -66,8 +67,8 @@ SplitsKeepPasts D P = (w : World) (clerk : ClerkState D P) (f : FlusherState D)
 -- and nor is a rejoining of its parts.
 abbrev pub JoinedKeepPasts : (D P : Type 0) → Type 0
 JoinedKeepPasts D P = (w : World) (clerk : ClerkState D P) (f : FlusherState D)
-    (terminals : Terminals) (safe : List Entry) (given : List Taken)
-    → clerk.desk ≡ f.desk → clerk.seat ≡ f.seat → clerk.keeper.writer ≡ f.writer
-    → clerk.keeper.state ≡ f.end.state
+    (ahead : List ClerkPlace) (terminals : Terminals) (safe : List Entry) (given : List Taken)
+    → clerk.desk ≡ f.desk → clerk.seat ≡ with_looks_of ahead f.seat
+    → clerk.keeper.writer ≡ f.writer → clerk.keeper.state ≡ f.end.state
     → IsPastOf w (group_after f) terminals safe given
     → IsPastOf w (group_of clerk) terminals safe given

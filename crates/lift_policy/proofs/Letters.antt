@@ -1,10 +1,10 @@
 -- The eligible cars as a list that grows letter by letter.
-use Rattle.std.proofs.Common.{◌≡◌, ℕ, zero, suc, ◌+◌, ◌-◌, ◌<◌, ◌≤◌, ◌&&◌, nat_le, Bool, true, false, cond, List, [], ◌∷◌, ◌++◌, length, filter, get_or, append-nil, refl, sym, ap, ◌∙◌, arith}
+use Rattle.std.proofs.Common.{◌≡◌, ℕ, zero, suc, ◌+◌, ◌-◌, ◌<◌, ◌≤◌, ◌&&◌, nat_le, Bool, true, false, cond, List, [], ◌∷◌, ◌++◌, length, filter, get_or, take, append-nil, refl, sym, ap, ◌∙◌, arith}
 use Rattle.std.specs.List.{range_with_len}
 use Rattle.std.specs.Prelude.{Option}
 use Rattle.std.specs.Option.{option_to_list, is_some}
 use Rattle.std.proofs.lemmas.List.Elements.{filter-append}
-use Rattle.std.proofs.lemmas.List.{get_or_past}
+use Rattle.std.proofs.lemmas.List.{get_or_past, length-take-le}
 use Rattle.lift_building.specs.Plan.{Plan, serves_floor, places_of}
 use Rattle.lift_register.specs.Register.{cars, rows_of}
 use Rattle.lift_register.specs.Prelude.{persons_of}
@@ -106,3 +106,21 @@ eligible_so_far plan view call letters n all few so_far =
     ∙ none_above p n (16 - n) (λ number h. none_after plan view call number (omega arith))
     ∙ ap (λ (m : ℕ). filter p (range_with_len 0 m)) e
     ∙ sym (eligible_cars-is plan view call)
+
+-- ---- some of them
+
+kept_le : (p : ℕ → Bool) (letters : List ℕ) → length (filter p letters) ≤ length letters
+kept_le p [] = omega arith
+kept_le p (x ∷ letters) = at (p x) (kept_le p letters)
+  where
+    at : (b : Bool) → length (filter p letters) ≤ length letters → length (cond b (x ∷ filter p letters) (filter p letters)) ≤ suc (length letters)
+    at true h = omega (arith, h)
+    at false h = omega (arith, h)
+
+-- those kept of the first few are fewer than all
+pub few_kept : (p : ℕ → Bool) (letters found : List ℕ) (i : ℕ) → found ≡ filter p (take i letters) → i < length letters → length letters ≤ 16 → length found < 16
+few_kept p letters found i is inside few =
+    let a = kept_le p (take i letters) in
+    let b = ap (λ (xs : List ℕ). length xs) is in
+    let c : length (take i letters) ≡ i = length-take-le i letters (omega arith) in
+    omega arith

@@ -13,10 +13,6 @@ head_in x xs = (0, omega arith, refl)
 later_in : (x : ℕ) (xs : List ℕ) (y : ℕ) → Contains xs y → Contains (x ∷ xs) y
 later_in x xs y (k, inside, at) = (suc k, omega arith, at)
 
--- the least of a list that rises from above x
-low_of : (low : ℕ) (xs : List ℕ) (y : ℕ) → Rise low xs → Contains xs y → low ≤ y
-low_of low xs y rising (k, inside, at) = let h = Rise-low low xs k y rising inside in let e = at in omega arith
-
 keeps_first : (m : ℕ → ℕ) (x : ℕ) (xs : List ℕ) (later : ℕ) → Rise (x + 1) xs → IsFirstLeast m xs later → m x ≤ m later → IsFirstLeast m (x ∷ xs) x
 keeps_first m x xs later rising is le = record {
   member = head_in x xs;

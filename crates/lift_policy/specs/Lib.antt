@@ -3,6 +3,7 @@ pub mod View
 pub mod Eligible
 pub mod Least
 pub mod Choices
+pub mod Present
 pub mod Step
 pub mod Verdict
 pub mod Run

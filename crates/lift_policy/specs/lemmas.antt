@@ -3,3 +3,4 @@ pub mod Least
 pub mod Steps
 pub mod Joins
 pub mod Verdicts
+pub mod Present

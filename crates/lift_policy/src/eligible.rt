@@ -1,10 +1,12 @@
 //! Which cars may take a call.
-ghost use Rattle.std.specs.Prelude.{◌≡◌, ◌↔◌, ◌<◌, ◌≤◌, ◌==◌, [], ◌∷◌, if◌then◌else◌, length};
+ghost use Rattle.std.specs.Prelude.{◌≡◌, ◌↔◌, ◌<◌, ◌≤◌, ◌==◌, [], ◌∷◌, if◌then◌else◌, length, filter};
 ghost use Rattle.std.specs.Prelude.{IfSome, IsNone};
 ghost use Rattle.std.specs.Option.{option_to_list};
 ghost use Rattle.lift_policy.specs.Eligible.{can_take, is_eligible, eligible_cars, AreLetters};
 ghost use Rattle.lift_policy.specs.Eligible.{AreEligible};
+ghost use Rattle.lift_policy.specs.Present.{is_in, present_first};
 
+use crate::presence::CarSet;
 use crate::view::View;
 use arrayvec::ArrayVec;
 use lift_base::{Letter, MOST_CARS};
@@ -67,6 +69,32 @@ impl Eligible {
     {
         self.letters.as_slice()
     }
+
+    /// Those that are present; where none of them is, all.
+    #[tactic(auto, using(crate::specs::lemmas::Present::are_letters))]
+    pub(crate) fn present_first(self, present: &CarSet) -> Eligible
+        ensures { result ≡ present_first present.now self }
+    {
+        let found = present_among(self.letters(), present);
+        if found.is_empty() {
+            return self;
+        }
+        Eligible { letters: found }
+    }
+}
+
+/// Those of some cars that are present.
+fn present_among(letters: &[Letter], present: &CarSet) -> ArrayVec<Letter, MOST_CARS>
+    requires { length letters.now ≤ 16 }
+    ensures { result.items ≡ filter (is_in present.now) letters.now }
+{
+    let mut found = ArrayVec::new();
+    for car in letters {
+        if present.has(*car) {
+            found.push(*car);
+        }
+    }
+    found
 }
 
 /// The car with this index, where it may take a call.

@@ -1,105 +1,147 @@
 -- What words come to.
-use Rattle.std.proofs.Common.{◌≡◌, ◌≢◌, ℕ, Option, List, false, refl, inl, inr, subst}
+use Rattle.std.proofs.Common.{◌≡◌, ◌∙◌, ℕ, Bool, Option, List, Some, sym, subst, ap}
 use Rattle.std.specs.Prelude.{Result, Ok, Err, IfErr, IfOk}
 use Rattle.std.specs.declared.net.tcp.TcpListener.{TcpListener as Listener}
 use Rattle.clap.specs.Words.{Text}
 use Rattle.lift_keeper.specs.Keeper.{KeeperView}
 use Rattle.lift_base.specs.Input.{InputState}
-use Rattle.lift_replay.specs.Reading.{IsInputRead}
-use Rattle.lift_policy.specs.Choices.{IsShipped}
+use Rattle.lift_policy.specs.declared.dispatching.Dispatching.{Dispatching}
 use Rattle.lift_policy.specs.declared.policies.Shipped.{Shipped}
-use Rattle.lift_serve.specs.Open.{ServingEndState}
+use Rattle.lift_replay.specs.Replaying.{ReportsPrefix}
+use Rattle.lift_replay.specs.declared.lines.Verdict.{Verdict}
 use Rattle.lift_serve.specs.lemmas.Opened.{keeps_over}
-use Rattle.lift_program.proofs.Writing.{said_front}
-use Rattle.std.specs.Io.KnownBytes.{Appends}
-use Rattle.lift_program.specs.Ends.{EndOver, IsEndFor, IsEndOf, IsInputLeft, IsReadyFor, SaysPrefix, WritesFor, serving_text}
-use Rattle.lift_program.specs.Serving.{IsServedOver, IsServing}
+use Rattle.lift_program.proofs.Flushing.{building_no_output, image_no_output}
+use Rattle.lift_program.proofs.Stages.{fault_there}
+use Rattle.lift_program.proofs.Writing.{report_front}
+use Rattle.lift_program.specs.Ends.{EndOver, IsEndFor, IsEndOf, IsInputLeft, IsOutputOf, IsPassedOn, IsReportOfEnd, IsUnmade, KeepsFor, KeepsIfServed, ReportsAll, WritesFor, failed_for, fault_of}
+use Rattle.lift_program.specs.Output.{IsFlushed, WriterHasFailed}
+use Rattle.lift_program.specs.Serving.{IsReadyOver, IsServedBy, IsServedOver, IsServing, file_found}
+use Rattle.lift_program.specs.Stages.{fault_in}
 use Rattle.lift_program.specs.declared.fault.Fault.{Fault}
+use Rattle.lift_program.specs.declared.leftover.Failure.{Failure}
+use Rattle.lift_program.specs.declared.leftover.Failure.TheVariants.{NoBuilding, NoImage, Opened}
+use Rattle.lift_program.specs.declared.serve.Serving.{Serving}
 use Rattle.lift_program.specs.declared.words.Request.TheVariants.{Replay, Format, Show, Serve}
 use Rattle.lift_program.specs.Images.{CommandFiles}
 use Rattle.lift_program.specs.Words.{AskForRequest}
-use Rattle.lift_program.specs.declared.end.End.TheVariants.{Replayed, Formatted, Shown, Served, Failed, NoImage, Unformatted, Unshown, Unserved, OtherWords}
-use Rattle.lift_program.specs.declared.fault.Fault.TheVariants.{File, Memory}
+use Rattle.lift_program.specs.declared.end.End.TheVariants.{Replayed, Formatted, Shown, Served, OtherWords, NoWords}
+use Rattle.lift_program.specs.declared.fault.Fault.TheVariants.{File}
 use Rattle.lift_program.specs.declared.fault.Role.TheVariants.{Output}
 use Rattle.lift_program.specs.declared.words.Request.{Request}
 
 -- an end of what the words ask for
-pub asked_end : (files : CommandFiles) (gives : ℕ → Option Listener → Type 0) (input : Option (List ℕ)) (words : List Text) (before after : Option (List ℕ)) (end : EndOver files) (request : Request) → AskForRequest words request → IsEndFor files gives request before after end
-    → WritesFor files input request before after → IsEndOf files gives input words before after end
-asked_end files gives input words before after (Replayed verdict unused) request asks is writes = inr (request, asks, is, writes)
-asked_end files gives input words before after (Formatted disk) request asks is writes = inr (request, asks, is, writes)
-asked_end files gives input words before after (Shown disk) request asks is writes = inr (request, asks, is, writes)
-asked_end files gives input words before after (Served port fault left ending) request asks is writes = inr (request, asks, is, writes)
-asked_end files gives input words before after (Failed fault unused) request asks is writes = inr (request, asks, is, writes)
-asked_end files gives input words before after (NoImage fault cause) request asks is writes = inr (request, asks, is, writes)
-asked_end files gives input words before after (Unformatted fault left) request asks is writes = inr (request, asks, is, writes)
-asked_end files gives input words before after (Unshown fault left) request asks is writes = inr (request, asks, is, writes)
-asked_end files gives input words before after (Unserved fault left) request asks is writes = inr (request, asks, is, writes)
-asked_end files gives input words before after (OtherWords unused) request asks is writes = absurd is
+module _ (files : CommandFiles) (gives : ℕ → Option Listener → Type 0) (before after : Option (List ℕ)) where
+  no_other_for : (request : Request) (unused : files.image.Opener) → IsEndFor files gives request before after (OtherWords unused) → ⊥
+  no_other_for Replay unused is = is
+  no_other_for (Format image building half) unused is = is
+  no_other_for (Show image building) unused is = is
+  no_other_for (Serve image building port sessions policy) unused is = is
 
--- so it is of whatever a request comes to, over a reader of this input
-pub asked_ended : {T R : Type 0} (files : CommandFiles) (gives : ℕ → Option Listener → Type 0) (remaining : R → Option (List ℕ)) (reader read : R) (words : List Text) (before after : Option (List ℕ)) (request : Request) (result : Result T (EndOver files)) → reader ≡ read → AskForRequest words request
-    → IfErr result (IsEndFor files gives request before after) → WritesFor files (remaining reader) request before after → IfErr result (IsEndOf files gives (remaining read) words before after)
-asked_ended files gives remaining reader read words before after request (Ok ready) same asks is writes = tt
-asked_ended {T} {R} files gives remaining reader read words before after request (Err end) same asks is writes =
-    asked_end files gives (remaining read) words before after end request asks is (subst (λ (r : R). WritesFor files (remaining r) request before after) same writes)
+  no_words_for : (request : Request) (no_memory : Unit {0}) (unused : files.image.Opener) → IsEndFor files gives request before after (NoWords no_memory unused) → ⊥
+  no_words_for Replay no_memory unused is = is
+  no_words_for (Format image building half) no_memory unused is = is
+  no_words_for (Show image building) no_memory unused is = is
+  no_words_for (Serve image building port sessions policy) no_memory unused is = is
 
--- only a replay fails for the standard output with nothing asked of an image
-pub output_of_replay : {T : Type 0} (files : CommandFiles) (gives : ℕ → Option Listener → Type 0) (before after : Option (List ℕ)) (request : Request) (result : Result T (EndOver files)) (unused : files.image.Opener) (P : Type 0) → IfErr result (IsEndFor files gives request before after)
-    → (request ≡ Replay → result ≡ Err (Failed (File Output) unused) → P) → result ≡ Err (Failed (File Output) unused) → P
-output_of_replay files gives before after Replay result unused P is holds same = holds refl same
-output_of_replay {T} files gives before after (Format image building half) result unused P is holds same = absurd (subst (λ (r : Result T (EndOver files)). IfErr r (IsEndFor files gives (Format image building half) before after)) same is).0
-output_of_replay {T} files gives before after (Show image building) result unused P is holds same = absurd (subst (λ (r : Result T (EndOver files)). IfErr r (IsEndFor files gives (Show image building) before after)) same is).0
-output_of_replay {T} files gives before after (Serve image building port sessions policy) result unused P is holds same =
-    absurd (subst (λ (r : Result T (EndOver files)). IfErr r (IsEndFor files gives (Serve image building port sessions policy) before after)) same is).0
+  pub asked_end : (input : Option (List ℕ)) (words : List Text) (end : EndOver files) (request : Request) → AskForRequest words request → IsEndFor files gives request before after end
+      → WritesFor files input request before after → IsEndOf files gives input words before after end
+  asked_end input words (Replayed outcome unused) request asks is writes = (request, asks, is, writes)
+  asked_end input words (Formatted outcome) request asks is writes = (request, asks, is, writes)
+  asked_end input words (Shown outcome) request asks is writes = (request, asks, is, writes)
+  asked_end input words (Served outcome) request asks is writes = (request, asks, is, writes)
+  asked_end input words (OtherWords unused) request asks is writes = absurd (no_other_for request unused is)
+  asked_end input words (NoWords no_memory unused) request asks is writes = absurd (no_words_for request no_memory unused is)
 
--- so it is left as the words ask
-pub asked_left : {T R : Type 0} (files : CommandFiles) (gives : ℕ → Option Listener → Type 0) (remaining : R → Option (List ℕ)) (words : List Text) (before after : Option (List ℕ)) (request : Request) (result : Result T (EndOver files)) (old new : InputState R) → AskForRequest words request
-    → IfErr result (IsEndFor files gives request before after) → IsInputLeft remaining (request ≡ Replay) files.image.opener result old new
+  -- so it is of whatever a request comes to, over a reader of this input
+  pub asked_ended : {T R : Type 0} (remaining : R → Option (List ℕ)) (reader read : R) (words : List Text) (request : Request) (result : Result T (EndOver files)) → reader ≡ read → AskForRequest words request
+      → IfErr result (IsEndFor files gives request before after) → WritesFor files (remaining reader) request before after → IfErr result (IsEndOf files gives (remaining read) words before after)
+  asked_ended remaining reader read words request (Ok ready) same asks is writes = tt
+  asked_ended {T} {R} remaining reader read words request (Err end) same asks is writes =
+      asked_end (remaining read) words end request asks is (subst (λ (r : R). WritesFor files (remaining r) request before after) same writes)
+
+-- and so it was written
+pub asked_output : {T R W : Type 0} (files : CommandFiles) (gives : ℕ → Option Listener → Type 0) (contents : W → Option (List ℕ)) (takes : W → List ℕ → Option ℕ → W → Type 0) (flushes : W → Bool → W → Type 0) (remaining : R → Option (List ℕ)) (reader read : R) (words : List Text) (request : Request)
+    (result : Result T (EndOver files)) (old new : W) → reader ≡ read → IfErr result (IsEndFor files gives request (contents old) (contents new)) → IfErr result (λ end. IsReportOfEnd (remaining reader) end (contents old) (contents new))
+    → IfErr result (λ end. failed_for end ≡ Some (File Output) → WriterHasFailed takes flushes old new) → IfErr result (λ end. IsPassedOn end (IsFlushed takes flushes old new))
+    → IfErr result (λ end. IsOutputOf contents takes flushes (remaining read) words files.image.opener end old new)
+asked_output files gives contents takes flushes remaining reader read words request (Ok ready) old new same is report unwritten passed_on = tt
+asked_output {T} {R} files gives contents takes flushes remaining reader read words request (Err end) old new same is report unwritten passed_on = record {
+  report = subst (λ (r : R). IsReportOfEnd (remaining r) end (contents old) (contents new)) same report;
+  answered = λ other. absurd (no_other_for files gives (contents old) (contents new) request files.image.opener (subst (λ (e : EndOver files). IsEndFor files gives request (contents old) (contents new) e) other is));
+  unwritten = unwritten;
+  passed_on = passed_on;
+}
+
+-- the input is left as the words ask
+pub asked_left : {T R : Type 0} (files : CommandFiles) (remaining : R → Option (List ℕ)) (words : List Text) (request : Request) (result : Result T (EndOver files)) (old new : InputState R) → AskForRequest words request
+    → IsInputLeft remaining (request ≡ Replay) files.image.opener result old new
     → IsInputLeft remaining (AskForRequest words Replay) files.image.opener result old new
-asked_left files gives remaining words before after request result old new asks is left = record {
+asked_left files remaining words request result old new asks left = record {
   unasked = λ none. left.unasked (λ same. none (subst (AskForRequest words) same asks));
   unwaiting = left.unwaiting;
   good = left.good;
   unread = left.unread;
-  read = λ replays. output_of_replay files gives before after request result files.image.opener (IsInputRead remaining old new) is left.read;
+  read = left.read;
   few_calls = left.few_calls;
 }
 
--- what is ready was read by a keeper that is whole
-pub ready_whole : (files : CommandFiles) (gives : ℕ → Option Listener → Type 0) (request : Request) (keeper : KeeperView files.image.Served) (listener : Listener) (port sessions : ℕ) (policy : Shipped)
-    → IsReadyFor files gives request keeper listener port sessions policy → keeper.writer.is_broken ≡ false
-ready_whole files gives Replay keeper listener port sessions policy never = absurd never
-ready_whole files gives (Format image building half) keeper listener port sessions policy never = absurd never
-ready_whole files gives (Show image building) keeper listener port sessions policy never = absurd never
-ready_whole files gives (Serve image building asked count named) keeper listener port sessions policy (at, many, by_policy, ready) = ready.has.whole
+-- what was written of a script is a prefix of its report
+pub replayed_front : (input before after : Option (List ℕ)) (outcome : Result Verdict Fault) → ReportsAll input before after outcome → ReportsPrefix input before after
+replayed_front input before after (Ok verdict) reports = report_front input before after verdict reports
+replayed_front input before after (Err fault) reports = reports
+
+-- what a command over an image has failed for
+pub image_failed : {T D F O : Type 0} (P : Type 0) (wanted : Fault) (outcome : Result T (Failure D F O)) → IfErr outcome (λ failure. fault_in failure ≡ wanted → P) → fault_of outcome ≡ Some wanted → P
+image_failed P wanted (Ok done) holds is = absurd (let other = is in cc)
+image_failed P wanted (Err failure) holds is = holds (ap fault_there is)
+
+-- which is never the standard output where a journal was to be made
+pub unmade_no_output : (files : CommandFiles) (image building : List ℕ) (half : ℕ) (P : Type 0) (outcome : Result files.image.Made (Failure files.image.Made files.image.File files.image.Opener)) → IfErr outcome (IsUnmade files image building half)
+    → fault_of outcome ≡ Some (File Output) → P
+unmade_no_output files image building half P (Ok left) is same = absurd (let other = same in cc)
+unmade_no_output files image building half P (Err (NoBuilding fault unused)) is same = absurd (building_no_output _ _ fault is.0 (ap fault_there same))
+unmade_no_output files image building half P (Err (NoImage refused)) is same = absurd (image_no_output refused.fault is.no_image.is_fault (ap fault_there same))
+unmade_no_output files image building half P (Err (Opened fault left)) is same = absurd (let other = sym is.is_fault ∙ ap fault_there same in cc)
+
+-- a building is to be served so, and all that this takes was had
+abbrev pub IsReadyFor : (files : CommandFiles) → (gives : ℕ → Option Listener → Type 0) → Request
+    → KeeperView files.image.Served → Listener → (port sessions : ℕ) → Dispatching Shipped → Type 0
+IsReadyFor files gives Replay keeper listener port sessions policy = ⊥
+IsReadyFor files gives (Format image building half) keeper listener port sessions policy = ⊥
+IsReadyFor files gives (Show image building) keeper listener port sessions policy = ⊥
+IsReadyFor files gives (Serve image building asked count named) keeper listener port sessions policy =
+    (port ≡ asked) × (sessions ≡ count) × (policy ≡ named)
+    × IsReadyOver files (gives asked) image.now building.now keeper listener
 
 -- what was ready was served
-pub served_end : (files : CommandFiles) (gives : ℕ → Option Listener → Type 0) (input : Option (List ℕ)) (words : List Text) (before after : Option (List ℕ)) (request : Request) (keeper : KeeperView files.image.Served) (listener : Listener) (port sessions : ℕ) (policy : Shipped)
-    (fault : Option Fault) (left : files.image.Served) (ending : ServingEndState) → AskForRequest words request → IsReadyFor files gives request keeper listener port sessions policy → Appends before after (serving_text port)
-    → IsServedOver files.image.served_state policy listener sessions keeper fault left ending → IsEndOf files gives input words before after (Served port fault left ending)
-served_end files gives input words before after Replay keeper listener port sessions policy fault left ending asks never said served = absurd never
-served_end files gives input words before after (Format image building half) keeper listener port sessions policy fault left ending asks never said served = absurd never
-served_end files gives input words before after (Show image building) keeper listener port sessions policy fault left ending asks never said served = absurd never
-served_end files gives input words before after (Serve image building asked count named) keeper listener port sessions policy fault left ending asks (at, many, by_policy, ready) said served =
-    let serving : IsServing files (gives asked) image.now building.now policy sessions fault left ending = record {
+pub served_end : (files : CommandFiles) (gives : ℕ → Option Listener → Type 0) (input : Option (List ℕ)) (words : List Text) (before after : Option (List ℕ)) (request : Request) (keeper : KeeperView files.image.Served) (listener : Listener) (port sessions : ℕ) (policy : Dispatching Shipped)
+    (serving : Serving files.image.Served) → AskForRequest words request → IsReadyFor files gives request keeper listener port sessions policy → WritesFor files input request before after
+    → serving.port ≡ port → IsServedOver files.image.served_state policy listener sessions keeper serving → IsEndOf files gives input words before after (Served (Ok serving))
+served_end files gives input words before after Replay keeper listener port sessions policy serving asks never writes at served = absurd never
+served_end files gives input words before after (Format image building half) keeper listener port sessions policy serving asks never writes at served = absurd never
+served_end files gives input words before after (Show image building) keeper listener port sessions policy serving asks never writes at served = absurd never
+served_end files gives input words before after (Serve image building asked count named) keeper listener port sessions policy serving asks (same, many, by_policy, ready) writes at served =
+    let is : IsServing files (gives asked) image.now building.now policy sessions serving = record {
       keeper = keeper;
       listener = listener;
       ready = ready;
       served = served;
       keeps = λ honest base accepted given found.
-          keeps_over IsShipped files.image.served_state ready.plan ready.has.opened keeper ready.has.recovers ready.has.starts ready.has.whole ready.has.no_doubt ready.has.own honest base accepted given found
-          policy served.last ending.fault served.comes;
-    } in
-    inr (
+          let stays = files.image.stays image.now ready.has.opened ready.has.fresh honest in
+          keeps_over IsServedBy files.image.served_state files.image.held ready.plan ready.has.opened keeper ready.has.recovers ready.has.starts ready.has.whole ready.has.no_doubt ready.has.own (file_found ready) honest stays.0 stays.1 base accepted given found
+          policy served.last serving.end.fault served.comes;
+    } in (
       Serve image building asked count named,
       asks,
-      (
-        at,
-        subst (λ (n : ℕ). IsServing files (gives asked) image.now building.now named n fault left ending) many
-            (subst (λ (p : Shipped). IsServing files (gives asked) image.now building.now p sessions fault left ending) by_policy serving),
-      ),
-      subst (λ (p : ℕ). SaysPrefix p before after) at (said_front port before after said),
+      record {
+        port_is = at ∙ same;
+        serving = subst (λ (n : ℕ). IsServing files (gives asked) image.now building.now named n serving) many
+            (subst (λ (p : Dispatching Shipped). IsServing files (gives asked) image.now building.now p sessions serving) by_policy is);
+        failure = tt;
+        refused = tt;
+        quiet = tt;
+      },
+      writes,
     )
 
 -- words ask for what their request is
@@ -107,15 +149,29 @@ pub asked_of : {T U : Type 0} (words : List Text) (request : Request) (result : 
 asked_of words request (Ok t) of asks same = subst (AskForRequest words) same asks
 asked_of words request (Err end) of asks same = tt
 
--- words that ask for something are no other words
-pub no_other : (files : CommandFiles) (gives : ℕ → Option Listener → Type 0) (input : Option (List ℕ)) (words : List Text) (before after : Option (List ℕ)) (request : Request) (end : EndOver files) (unused : files.image.Opener) (P : Type 0) → AskForRequest words request
-    → IsEndOf files gives input words before after end → end ≡ OtherWords unused → P
-no_other files gives input words before after request end unused P asks is same = absurd ((subst (λ (e : EndOver files). IsEndOf files gives input words before after e) same is).0 request asks)
+-- a group that was served has kept every letter
+served_keeps : (files : CommandFiles) (gives : ℕ → Option Listener → Type 0) (before after : Option (List ℕ)) (request : Request) (serving : Serving files.image.Served) → IsEndFor files gives request before after (Served (Ok serving)) → KeepsFor files request serving
+served_keeps files gives before after Replay serving never = absurd never
+served_keeps files gives before after (Format image building half) serving never = absurd never
+served_keeps files gives before after (Show image building) serving never = absurd never
+served_keeps files gives before after (Serve image building port sessions policy) serving is =
+    let s = is.serving in
+    record {
+      plan = s.ready.plan;
+      described = s.ready.described;
+      keeper = s.keeper;
+      has = s.ready.has;
+      last = s.served.last;
+      comes = s.served.comes;
+      is_left = s.served.is_left;
+      keeps = s.keeps;
+    }
 
--- what is so of all requests but a replay is so where the words ask for none
-pub no_replay : (words : List Text) (request : Request) (P : Type 0) → AskForRequest words request → (request ≢ Replay → P) → ¬ AskForRequest words Replay → P
-no_replay words request P asks holds none = holds (λ same. none (subst (AskForRequest words) same asks))
-
--- memory was wanting for the words
-pub unread_words : (files : CommandFiles) (gives : ℕ → Option Listener → Type 0) (input : Option (List ℕ)) (words : List Text) (written : Option (List ℕ)) → IsEndOf files gives input words written written (Failed (Memory tt) files.image.opener)
-unread_words files gives input words written = inl (refl, refl)
+pub end_keeps : (files : CommandFiles) (gives : ℕ → Option Listener → Type 0) (input : Option (List ℕ)) (words : List Text) (before after : Option (List ℕ)) (end : EndOver files) → IsEndOf files gives input words before after end → KeepsIfServed files words end
+end_keeps files gives input words before after (Replayed outcome unused) is = tt
+end_keeps files gives input words before after (Formatted outcome) is = tt
+end_keeps files gives input words before after (Shown outcome) is = tt
+end_keeps files gives input words before after (Served (Ok serving)) (request, asks, is, writes) = (request, asks, served_keeps files gives before after request serving is)
+end_keeps files gives input words before after (Served (Err failure)) is = tt
+end_keeps files gives input words before after (OtherWords unused) is = tt
+end_keeps files gives input words before after (NoWords no_memory unused) is = tt

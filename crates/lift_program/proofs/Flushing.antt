@@ -1,7 +1,7 @@
 -- How the output was called.
 use Rattle.std.proofs.Common.{◌≡◌, ◌<◌, ◌∙◌, ℕ, Bool, true, false, List, Option, length, refl, subst, sym, inl, inr}
 use Rattle.std.proofs.lemmas.Bool.{false≢true}
-use Rattle.std.specs.Prelude.{Result, Ok, Err, IsErrAnd, IfErr, OnOk, is_err}
+use Rattle.std.specs.Prelude.{Result, Ok, Err, IfErr, OnOk, is_err}
 use Rattle.lift_base.specs.Output.{WroteAll, WroteUpToFault}
 use Rattle.lift_base.specs.declared.text.output.WriteFault.{WriteFault}
 use Rattle.lift_replay.specs.Writing.{TakesSomeEachCall}
@@ -30,10 +30,6 @@ pub put_failed : {W : Type 0} (gives : W → List ℕ → Option ℕ → W → T
     → WriterHasFailed gives flushes old new
 put_failed gives flushes bytes old new (Ok done) failed within told = absurd (false≢true failed)
 put_failed gives flushes bytes old new (Err fault) failed within told = inl (fails_of gives bytes old new fault within told)
-
--- a fault that is handed on, and isn't this one
-pub other_than : {T : Type 0} (P : Type 0) (result : Result T Fault) (fault wanted : Fault) → IsErrAnd result (λ told. told ≡ fault) → (fault ≡ wanted → P) → result ≡ Err wanted → P
-other_than P result fault wanted is holds same = holds (sym (subst (λ r. IsErrAnd r (λ told. told ≡ fault)) same is))
 
 -- no fault but a building's file and text, or memory
 abbrev pub IsOfBuilding : Fault → Type 0

@@ -6,3 +6,4 @@ mod Telling
 mod Unread
 mod Stages
 mod Writing
+pub mod Counting

@@ -1,12 +1,14 @@
 -- What the rows of `format` and `show` say of their words.
-use Rattle.std.proofs.Common.{◌≡◌, ◌<◌, ◌^◌, Option, Some, None, List, ℕ, Bor, codes, option_map, ap, sym, subst, ◌∙◌, arith}
+use Rattle.std.proofs.Common.{◌≡◌, ◌<◌, ◌^◌, Bool, true, false, Option, Some, None, List, ℕ, Bor, codes, option_map, ap, sym, subst, ◌∙◌, arith}
 use Rattle.std.specs.Prelude.{IfNone}
 use Rattle.std.specs.Fmt.{decimal}
 use Rattle.std.proofs.lemmas.Fmt.{decimal_injective}
 use Rattle.clap.specs.Words.{Row, Text, first_of, first_value, rows_of}
 use Rattle.clap.specs.declared.parser.matches.Found.{Found}
 use Rattle.clap.proofs.WalkLemmas.{first_value-rows}
-use Rattle.lift_program.specs.Words.{AsksNothing, IsCount, IsFormat, IsHalf, IsOver, IsPolicy, IsServe, IsShow}
+use Rattle.lift_base.specs.lemmas.Words.{same_text, other_text}
+use Rattle.std.specs.Str.{bytes_eq}
+use Rattle.lift_program.specs.Words.{AsksNothing, IsAbsentLast, IsCount, IsFormat, IsHalf, IsOver, IsPolicy, IsServe, IsShow}
 use Rattle.lift_policy.specs.declared.policies.Shipped.{Shipped}
 use Rattle.lift_program.specs.declared.words.Request.TheVariants.{Replay, Format, Show, Serve}
 
@@ -72,7 +74,7 @@ pub no_policy : (rows : List Row) (word : Option Text) → first_of (codes "poli
 no_policy rows word same none Replay is = is
 no_policy rows word same none (Format image building half) is = is
 no_policy rows word same none (Show image building) is = is
-no_policy rows word same none (Serve image building port sessions policy) is = none policy (subst (λ w. IsPolicy w policy) same is.3)
+no_policy rows word same none (Serve image building port sessions policy) is = none policy.policy (subst (λ w. IsPolicy w policy.policy) same is.3)
 
 -- nought is no count
 pub no_count : (most : ℕ) (word : Option Text) (text : Text) (number : ℕ) → most < 2 ^ 32 → word ≡ Some text → text ≡ decimal number → number < 1 → (count : ℕ) → IsCount most word count → ⊥
@@ -80,3 +82,14 @@ no_count most word text number small same spelled none count is = go (subst (λ 
   where
     go : IsCount most (Some text) count → ⊥
     go said = let equal = decimal_injective number count (omega arith) (omega (arith, said, small)) (sym spelled ∙ said.0) in omega (arith, equal, said, none)
+
+-- whether a word is `true`
+pub there_if : (word : Text) (there : Bool) → there ≡ bytes_eq word (codes "true") → IsAbsentLast (Some word) there
+there_if word true is = ap Some (same_text word (codes "true") (sym is))
+there_if word false is = λ same. other_text word (codes "true") (sym is) (some_injective word (codes "true") same)
+  where
+    some_injective : (x y : Text) → Some x ≡ Some y → x ≡ y
+    some_injective x y same = cc
+
+pub not_there : IsAbsentLast None false
+not_there = λ same. cc

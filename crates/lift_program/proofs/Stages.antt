@@ -20,11 +20,15 @@ use Rattle.lift_keeper.specs.declared.fault.KeeperFault.TheVariants.{Journal as 
 use Rattle.std.specs.declared.fs.options.OpenOptions.{OpenOptions}
 use Rattle.lift_disk.specs.FileCalls.{FileCall}
 use Rattle.lift_disk.specs.Files.{IsMeasured, sector_file_state_of}
+use Rattle.lift_disk.specs.Holding.{HoldsTheSame}
+use Rattle.lift_program.specs.Unwritten.{unwritten_file_of, unwritten_state_of}
+use Rattle.lift_program.specs.declared.unwritten.UnwrittenFile.{UnwrittenFile}
+use Rattle.lift_disk.specs.lemmas.Starts.{holds_then}
 use Rattle.lift_disk.specs.declared.file.FileFault.{FileFault}
 use Rattle.lift_disk.specs.declared.told.ToldFile.{Ghosts as Told}
 use Rattle.lift_disk.specs.declared.sectors.SectorFile.{SectorFile}
 use Rattle.lift_program.specs.Images.{CommandFiles, ImageFiles, IsOpened}
-use Rattle.lift_program.specs.Ends.{IsFileFault, IsMadeWith, IsUnformatted, IsReplayFault, IsReportOfFault, IsShowingFault}
+use Rattle.lift_program.specs.Ends.{IsFileFault, IsMadeWith, IsUnformatted, IsReportOfFault, IsShowingFault}
 use Rattle.lift_program.specs.Faults.{of_building}
 use Rattle.std.specs.declared.net.tcp.TcpListener.{TcpListener as Listener}
 use Rattle.lift_program.specs.Serving.{IsReadyOver}
@@ -104,11 +108,6 @@ is_unformatted files path building plan half image left told fault same has fres
 
 pub reads_building : (is_text : List ℕ → Type 0) (plan : Plan) → HasBuilding is_text plan → ReadsBuilding is_text
 reads_building is_text plan has = (plan, has)
-
--- the building's file, which is no text, or want of memory
-pub file_refuses : (is_text : List ℕ → Type 0) (is_no_text : Type 0) (fault : Fault) → IsFileFault OfBuilding fault → (fault ≡ File OfBuilding → is_no_text) → IsBuildingFault is_text is_no_text fault
-file_refuses is_text is_no_text fault (inl is) none = subst (IsBuildingFault is_text is_no_text) (sym is) (none is)
-file_refuses is_text is_no_text fault (inr is) none = subst (IsBuildingFault is_text is_no_text) (sym is) tt
 
 -- the fault of bytes that were read
 bytes_refuse : (is_text : List ℕ → Type 0) (is_no_text : Type 0) (bytes : List ℕ) (fault : Fault) → is_text bytes → (¬ IsUtf8 bytes → is_no_text) → IsBuildingFault (λ t. t ≡ bytes) (¬ IsUtf8 bytes) fault → IsBuildingFault is_text is_no_text fault
@@ -263,18 +262,6 @@ showing_part files path building plan opened left before after (Memory no_memory
 showing_part files path building plan opened left before after Network described fresh is written front = absurd is
 showing_part files path building plan opened left before after Thread described fresh is written front = absurd is
 
--- a script that couldn't be read has no report
-pub replay_report : (fault : Fault) (before after : Option (List ℕ)) → IsReplayFault fault → (fault ≡ File Input → after ≡ before) → IsReportOfFault fault before after
-replay_report (Building fault) before after is unread = absurd is
-replay_report (Journal fault) before after is unread = absurd is
-replay_report (File OfBuilding) before after is unread = absurd is
-replay_report (File OfImage) before after is unread = absurd is
-replay_report (File Input) before after is unread = unread refl
-replay_report (File Output) before after is unread = tt
-replay_report (Memory no_memory) before after is unread = tt
-replay_report Network before after is unread = absurd is
-replay_report Thread before after is unread = absurd is
-
 -- where nothing was written any fault may be told
 pub nothing_written : (fault : Fault) (written : Option (List ℕ)) → IsReportOfFault fault written written
 nothing_written (Building fault) written = refl
@@ -292,23 +279,33 @@ pub output_report : (fault : Fault) (before after : Option (List ℕ)) → IsFil
 output_report fault before after (inl is) = subst (λ (f : Fault). IsReportOfFault f before after) (sym is) tt
 output_report fault before after (inr is) = subst (λ (f : Fault). IsReportOfFault f before after) (sym is) tt
 
+-- a file whose writes are refused holds what it would else
+pub unwritten_holds : {F : Type 0} {told : Told F} (holds : F → DiskState) (d : UnwrittenFile F told) → HoldsTheSame (sector_file_state_of holds (unwritten_file_of d)) (unwritten_state_of holds d)
+unwritten_holds holds d = record {
+  size = refl;
+  image = refl;
+  synced = refl;
+  loose = λ i. (λ is. is, λ was. was);
+  steady = (λ is. is, λ was. was);
+  written = λ i bytes. (λ is. is, λ was. was);
+  moment = refl;
+  left_since = λ t left. (λ is. is, λ was. was);
+}
+
 -- an image that was opened, by the file below it
 pub is_opened : {F : Type 0} {told : Told F} (opens : OpenOptions → List ℕ → Option F → Type 0) (gives : F → FileCall → F → Type 0) (holds : F → DiskState) (how : OpenOptions) (first : List FileCall) (image : DiskState) (file below : SectorFile F told) (path : List ℕ) → below ≡ file → image.calls ≡ 0 → image.failures ≡ 0
-    → (sector_file_state_of holds file).calls ≡ 0 → IsMeasured (opens how path) gives holds first file → ((sector_file_state_of holds file).is_honest → image.is_honest) → IsOpened opens gives holds how first path image below
-is_opened {F} {told} opens gives holds how first image file below path same uncalled unhurt untouched measured honest =
+    → (sector_file_state_of holds file).calls ≡ 0 → IsMeasured (opens how path) gives holds first file → ((sector_file_state_of holds file).is_honest → image.is_honest) → HoldsTheSame (sector_file_state_of holds file) image → IsOpened opens gives holds how first path image below
+is_opened {F} {told} opens gives holds how first image file below path same uncalled unhurt untouched measured honest held =
     subst (λ (f : SectorFile F told). IsOpened opens gives holds how first path image f) (sym same) (record {
       uncalled = uncalled;
       unhurt = unhurt;
       untouched = untouched;
       measured = measured;
       honest = λ is. honest (measured.honest.1 is);
+      held = λ is. holds_then (holds measured.file) (sector_file_state_of holds file) image (measured.held is) held;
     })
 
 -- the fault that is there
 abbrev pub fault_there : Option Fault → Fault
 fault_there None = Memory tt
 fault_there (Some fault) = fault
-
--- what is there isn't nothing
-pub some_none : {P : Type 0} (fault : Fault) → Some fault ≡ None → P
-some_none fault is = absurd (let other = is in cc)

@@ -1,15 +1,16 @@
 -- Which line is told, and when.
-use Rattle.std.proofs.Common.{◌≡◌, ℕ, Bool, true, false, List, Option, Some, None, refl, sym, ◌∙◌, subst}
-use Rattle.std.specs.Prelude.{IfSome}
+use Rattle.std.proofs.Common.{◌≡◌, ℕ, Bool, true, false, List, Option, Some, None, refl, sym, ◌∙◌, ap, subst}
+use Rattle.std.specs.Prelude.{IfSome, Ok, Err}
 use Rattle.lift_base.specs.Output.{OutputState}
 use Rattle.lift_relay.specs.Heard.{FailureHeard}
 use Rattle.lift_serve.specs.declared.serving.ServeFault.{ServeFault}
 use Rattle.lift_serve.specs.declared.serving.ServeFault.TheVariants.{Network as NoNetwork, Thread as NoThread, Memory as NoGrowth}
-use Rattle.lift_program.specs.Ends.{IsFailureTold, TellsLine, line_at_end, line_at_once, line_at_once_in, line_of}
+use Rattle.lift_program.specs.Ends.{IsFailureTold, TellsLine, line_at_end, line_at_end_in, line_at_once, line_at_once_in, line_for, line_of}
 use Rattle.lift_program.specs.Faults.{served_fault}
 use Rattle.lift_program.specs.Output.{IsWrittenOrFailed}
+use Rattle.lift_program.specs.declared.at_once.AtOnce.{AtOnce}
 use Rattle.lift_program.specs.declared.end.End.{End}
-use Rattle.lift_program.specs.declared.end.End.TheVariants.{Replayed, Formatted, Shown, Served, Failed, NoImage, Unformatted, Unshown, Unserved, OtherWords}
+use Rattle.lift_program.specs.declared.end.End.TheVariants.{Replayed, Formatted, Shown, Served, OtherWords, NoWords}
 use Rattle.lift_program.specs.declared.fault.Fault.{Fault}
 use Rattle.lift_program.specs.declared.fault.Fault.TheVariants.{Building, Journal, File, Memory, Network, Thread}
 
@@ -28,6 +29,13 @@ module _ {E : Type 0} (contents : E → Option (List ℕ)) (a b : OutputState E)
       subst (λ f. TellsLine contents (line_at_once_in f) a b) (sym is)
       (broken_told is_broken other (subst (λ w. FailureHeard (IsFailureTold contents) w is_broken a b) whole heard))
 
+-- what is notified that a device failed writes to what it was made with
+pub heard_errors : {E : Type 0} (contents : E → Option (List ℕ)) (was is : Bool) (old new : AtOnce E) → FailureHeard (λ (a b : AtOnce E). IsFailureTold contents a.errors b.errors) was is old new
+    → FailureHeard (IsFailureTold contents) was is old.errors new.errors
+heard_errors {E = E} contents false false old new heard = ap (λ (a : AtOnce E). a.errors) heard
+heard_errors contents false true old new heard = heard
+heard_errors {E = E} contents true is old new heard = ap (λ (a : AtOnce E). a.errors) heard
+
 module _ {E : Type 0} (contents : E → Option (List ℕ)) (a b c : OutputState E) where
   first_so : (line : List ℕ) → IsWrittenOrFailed contents a b line → c ≡ b → IsWrittenOrFailed contents a c line
   first_so line told same = subst (λ (x : OutputState E). IsWrittenOrFailed contents a x line) (sym same) told
@@ -36,22 +44,26 @@ module _ {E : Type 0} (contents : E → Option (List ℕ)) (a b c : OutputState 
   last_so line same told = subst (λ (x : OutputState E). IsWrittenOrFailed contents x c line) same told
 
 -- what is told before the end, and then at it, is one line
-module _ {M S V F O E : Type 0} (contents : E → Option (List ℕ)) (a b c : OutputState E) where
-  pub told_once : (end : End M S V F O) → TellsLine contents (line_at_once end) a b → IfSome (line_at_end end) (IsWrittenOrFailed contents b c) → (line_at_end end ≡ None → c ≡ b)
+module _ {E : Type 0} (contents : E → Option (List ℕ)) (a b c : OutputState E) where
+  served_once : (fault : Option Fault) → TellsLine contents (line_at_once_in fault) a b → IfSome (line_at_end_in fault) (IsWrittenOrFailed contents b c) → (line_at_end_in fault ≡ None → c ≡ b)
+      → TellsLine contents (line_for fault) a c
+  served_once None first last quiet = quiet refl ∙ first
+  served_once (Some (Building fault)) first last quiet = last_so contents a b c _ first last
+  served_once (Some (Journal fault)) first last quiet = first_so contents a b c _ first (quiet refl)
+  served_once (Some (File role)) first last quiet = last_so contents a b c _ first last
+  served_once (Some (Memory no_memory)) first last quiet = last_so contents a b c _ first last
+  served_once (Some Network) first last quiet = last_so contents a b c _ first last
+  served_once (Some Thread) first last quiet = last_so contents a b c _ first last
+
+  pub told_once : {M S V F O : Type 0} (end : End M S V F O) → TellsLine contents (line_at_once end) a b → IfSome (line_at_end end) (IsWrittenOrFailed contents b c) → (line_at_end end ≡ None → c ≡ b)
       → TellsLine contents (line_of end) a c
-  told_once (Replayed verdict unused) first last quiet = quiet refl ∙ first
-  told_once (Formatted disk) first last quiet = quiet refl ∙ first
-  told_once (Shown disk) first last quiet = quiet refl ∙ first
-  told_once (Served port None left ending) first last quiet = quiet refl ∙ first
-  told_once (Served port (Some (Building fault)) left ending) first last quiet = last_so contents a b c _ first last
-  told_once (Served port (Some (Journal fault)) left ending) first last quiet = first_so contents a b c _ first (quiet refl)
-  told_once (Served port (Some (File role)) left ending) first last quiet = last_so contents a b c _ first last
-  told_once (Served port (Some (Memory no_memory)) left ending) first last quiet = last_so contents a b c _ first last
-  told_once (Served port (Some Network) left ending) first last quiet = last_so contents a b c _ first last
-  told_once (Served port (Some Thread) left ending) first last quiet = last_so contents a b c _ first last
-  told_once (Failed fault unused) first last quiet = last_so contents a b c _ first last
-  told_once (NoImage fault cause) first last quiet = last_so contents a b c _ first last
-  told_once (Unformatted fault left) first last quiet = last_so contents a b c _ first last
-  told_once (Unshown fault left) first last quiet = last_so contents a b c _ first last
-  told_once (Unserved fault left) first last quiet = last_so contents a b c _ first last
+  told_once (Replayed (Ok verdict) unused) first last quiet = quiet refl ∙ first
+  told_once (Replayed (Err fault) unused) first last quiet = last_so contents a b c _ first last
+  told_once (Formatted (Ok left)) first last quiet = quiet refl ∙ first
+  told_once (Formatted (Err failure)) first last quiet = last_so contents a b c _ first last
+  told_once (Shown (Ok left)) first last quiet = quiet refl ∙ first
+  told_once (Shown (Err failure)) first last quiet = last_so contents a b c _ first last
+  told_once (Served (Ok serving)) first last quiet = served_once serving.fault first last quiet
+  told_once (Served (Err failure)) first last quiet = last_so contents a b c _ first last
   told_once (OtherWords unused) first last quiet = last_so contents a b c _ first last
+  told_once (NoWords no_memory unused) first last quiet = last_so contents a b c _ first last

@@ -8,6 +8,7 @@ use Rattle.lift_disk.specs.FileCalls.{FileCall}
 use Rattle.lift_disk.specs.FileCalls.FileCall.{Lock}
 use Rattle.lift_disk.specs.Files.{IsMadeDevice, IsMeasured, sector_file_state_of}
 use Rattle.lift_disk.specs.Files.{IsRefused, stands_in_the_way, fails_making, fails_opening}
+use Rattle.lift_disk.specs.Holding.{HoldsTheSame}
 use Rattle.lift_disk.specs.Traced.{to_be_made, to_be_read, to_be_used}
 use Rattle.lift_disk.specs.declared.buffered.Buffered.{Buffered}
 use Rattle.lift_disk.specs.declared.file.FileFault.{FileFault}
@@ -39,6 +40,15 @@ pub record ImageFiles : Type 1 where
   pub served_state : Served → DiskState
   -- its image was opened at this path, its lock was had, and nothing else was done
   pub is_to_be_served : List ℕ → Served → Type 0
+  -- what such a file holds
+  pub held : File → DiskState
+  -- the file that was found there when it was opened
+  pub found : (path : List ℕ) (image : Served) → is_to_be_served path image → File
+  -- where that was an honest one, so is the image, and it holds what that held
+  pub stays : (path : List ℕ) (image : Served) (is : is_to_be_served path image)
+      → (held (found path image is)).is_honest
+      → (served_state image).is_honest
+      × HoldsTheSame (held (found path image is)) (served_state image)
   pub Shown : Type 0
   pub shown_state : Shown → DiskState
   -- its image was opened at this path to be read, and nothing else was done
@@ -62,7 +72,8 @@ IsTextRead {R} opens remaining text =
 
 -- An image was opened at this path, in this way: its file was there and was not made, but after these
 -- calls asked for its length, which gives its sectors; no other call was made of it or of its file,
--- and none has failed. Where the file that was opened is honest, so is the image.
+-- and none has failed. Where the file that was opened is honest, so is the image, and it holds what
+-- that held: so what a crash might have left of it before, a crash leaves now.
 pub record IsOpened {F : Type 0} {told : Told F}
     (opens : OpenOptions → List ℕ → Option F → Type 0) (gives : F → FileCall → F → Type 0)
     (holds : F → DiskState) (how : OpenOptions) (first : List FileCall)
@@ -73,6 +84,7 @@ pub record IsOpened {F : Type 0} {told : Told F}
   pub untouched : (sector_file_state_of holds file).calls ≡ 0
   pub measured : IsMeasured (opens how path) gives holds first file
   pub honest : (holds measured.file).is_honest → image.is_honest
+  pub held : (holds measured.file).is_honest → HoldsTheSame (holds measured.file) image
 
 -- An image of so many sectors was made at this path: its file was opened there to be made, it has its
 -- room, its folder names it for good, and no call of the image was made. It is honest where the file
@@ -120,6 +132,9 @@ image_files {F} {O} {told} {runs} {disk} {shown_runs} {shown_disk} opener stands
       served_state = served;
       is_to_be_served = λ path d.
           IsOpened opens gives holds to_be_used (Lock ∷ []) path (served d) (below d);
+      held = holds;
+      found = λ path d is. is.measured.file;
+      stays = λ path d is honest. (is.honest honest, is.held honest);
       Shown = Buffered (UnwrittenFile F told) shown_runs shown_disk;
       shown_state = shown;
       is_to_be_shown = λ path d.

@@ -1,8 +1,8 @@
 -- What is written, and what is known where it was not.
-use Rattle.std.specs.Prelude.{ℕ, ◌≡◌, ◌⊎◌, Bool, true, false, Option, List, OnOk, Result, Err}
+use Rattle.std.specs.Prelude.{ℕ, ◌≡◌, ◌+◌, ◌⊎◌, Bool, true, false, Option, List, OnOk, Result, Err}
 use Rattle.std.specs.Prelude.{take}
 use Rattle.std.specs.Io.KnownBytes.{Appends}
-use Rattle.lift_base.specs.Output.{OutputState, Takes, TakesPrefix, sink_of}
+use Rattle.lift_base.specs.Output.{OutputState, OutputTally, Takes, TakesPrefix, sink_of}
 use Rattle.lift_replay.specs.Writing.{TakesSomeEachCall, FailsAtLast}
 use Rattle.lift_program.specs.declared.fault.Fault.{Fault}
 use Rattle.lift_program.specs.declared.fault.Fault.TheVariants.{File, Memory}
@@ -35,6 +35,15 @@ abbrev pub WriterHasFailed : {W : Type 0} → (gives : W → List ℕ → Option
 WriterHasFailed {W} gives flushes old new =
     FailsAtLast gives old new
     ⊎ ((last : W) × TakesSomeEachCall gives old last × flushes last false new)
+
+-- No call of the output failed, and all that it took was passed on by a flush.
+pub record IsAllPassedOn (before after : OutputTally) : Type 0 where
+  pub failures : after.failures ≡ before.failures
+  pub flushed : after.flushed ≡ after.gone
+
+-- one call of it failed, or took nothing, or a flush failed
+abbrev pub HasFailedOnce : (before after : OutputTally) → Type 0
+HasFailedOnce before after = after.failures ≡ before.failures + 1
 
 -- How the standard output was called: what is written ends well only with a flush after it that
 -- did not fail; the output is the fault only where it has failed, and memory only where no

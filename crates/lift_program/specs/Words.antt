@@ -1,9 +1,11 @@
 -- What the program's words ask for.
-use Rattle.std.specs.Prelude.{◌≡◌, ◌≤◌, ◌⊎◌, ℕ, true, List, [], ◌∷◌, Option, Some, None, codes}
+use Rattle.std.specs.Prelude.{◌≡◌, ◌≢◌, ◌≤◌, ◌⊎◌, ℕ, Bool, true, false, List, [], ◌∷◌, Option, Some}
+use Rattle.std.specs.Prelude.{None, codes}
 use Rattle.std.specs.Fmt.{decimal}
 use Rattle.clap.specs.Words.{AddsSubcommand, App, Row, Rule, Text, app_of, new_app, new_rule}
 use Rattle.clap.specs.Words.{with_rule, with_subcommand, first_of, fault_of}
 use Rattle.clap.specs.Words.{subcommand_of, subcommand_rows_of}
+use Rattle.clap.specs.declared.builder.action.ArgAction.TheVariants.{SetTrue}
 use Rattle.clap.specs.declared.builder.command.Command.{Command}
 use Rattle.clap.specs.declared.parser.matches.ArgMatches.{ArgMatches}
 use Rattle.lift_policy.specs.declared.policies.Shipped.{Shipped}
@@ -19,6 +21,10 @@ word_rule name = record (new_rule name) { required = true }
 abbrev pub option_rule : Text → Rule
 option_rule name = record (new_rule name) { long = Some name }
 
+-- an option without a value: its word is `true` where it is there, and else `false`
+abbrev pub flag_rule : Text → Rule
+flag_rule name = record (option_rule name) { action = Some SetTrue }
+
 -- a command over an image and a building: `<name> <image> <building>`
 abbrev pub app_on : Text → App
 app_on name = with_rule (with_rule (new_app name) (word_rule (codes "image")))
@@ -32,10 +38,11 @@ format_app = with_rule (app_on (codes "format")) (option_rule (codes "half"))
 abbrev pub show_app : App
 show_app = app_on (codes "show")
 
--- `serve <image> <building> --port <p> --sessions <n> [--policy <name>]`
+-- `serve <image> <building> --port <p> --sessions <n> [--policy <name>] [--absent-last]`
 abbrev pub serve_app : App
-serve_app = with_rule (with_rule (with_rule (app_on (codes "serve")) (option_rule (codes "port")))
-    (option_rule (codes "sessions"))) (option_rule (codes "policy"))
+serve_app = with_rule (with_rule (with_rule (with_rule (app_on (codes "serve"))
+    (option_rule (codes "port"))) (option_rule (codes "sessions"))) (option_rule (codes "policy")))
+    (flag_rule (codes "absent-last"))
 
 -- `replay`
 abbrev pub replay_app : App
@@ -59,7 +66,7 @@ liftd_app = with_subcommand
 
 -- how the program is called, line by line
 abbrev pub help_text : List ℕ
-help_text = codes "liftd, the group controller of a lift group\n\n  liftd [replay]\n      carries out the script on standard input\n  liftd format <image> <building> [--half <n>]\n      makes an empty journal of two halves of n sectors, 64 to 1000000 (64)\n  liftd show <image> <building>\n      prints the open calls of a journal\n  liftd serve <image> <building> --port <p> --sessions <n>\n              [--policy etd|fewest|wait]\n      serves kiosks and cars at port p of this machine, until n connections\n      (1 to 1000000) have ended\n\nStatus 0: done. 1: a fault, told in a line on standard error, or a bad script.\n2: other words, as these are.\n"
+help_text = codes "liftd, the group controller of a lift group\n\n  liftd [replay]\n      carries out the script on standard input\n  liftd format <image> <building> [--half <n>]\n      makes an empty journal of two halves of n sectors, 64 to 1000000 (64)\n  liftd show <image> <building>\n      prints the open calls of a journal\n  liftd serve <image> <building> --port <p> --sessions <n>\n              [--policy etd|fewest|wait] [--absent-last]\n      serves kiosks and cars at port p of this machine, until n connections\n      (1 to 1000000) have ended; by the last option a car that isn't connected,\n      or hasn't said since where it is, takes calls that no other may take\n\nStatus 0: done. 1: a fault, told in a line on standard error, or a bad script.\n2: other words, as these are.\n"
 
 -- the sectors in a half: 64, or what the option's word spells, 64 to 1,000,000
 abbrev pub IsHalf : Option Text → ℕ → Type 0
@@ -96,6 +103,11 @@ abbrev pub IsPolicy : Option Text → Shipped → Type 0
 IsPolicy None policy = codes "etd" ≡ policy_name policy
 IsPolicy (Some word) policy = word ≡ policy_name policy
 
+-- whether absent cars come last: where the option is there
+abbrev pub IsAbsentLast : Option Text → Bool → Type 0
+IsAbsentLast word true = word ≡ Some (codes "true")
+IsAbsentLast word false = word ≢ Some (codes "true")
+
 -- what the words after `serve` ask for
 abbrev pub IsServe : List Row → Request → Type 0
 IsServe rows Replay = ⊥
@@ -104,7 +116,8 @@ IsServe rows (Show image building) = ⊥
 IsServe rows (Serve image building port sessions policy) = IsOver rows image.now building.now
     × IsCount 65535 (first_of (codes "port") rows) port
     × IsCount 1000000 (first_of (codes "sessions") rows) sessions
-    × IsPolicy (first_of (codes "policy") rows) policy
+    × IsPolicy (first_of (codes "policy") rows) policy.policy
+    × IsAbsentLast (first_of (codes "absent-last") rows) policy.absent_last
 
 -- what a command asks for; without one a script is carried out
 abbrev pub IsFor : Option (Text × List Row) → Request → Type 0

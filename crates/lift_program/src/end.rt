@@ -5,41 +5,33 @@ ghost use Rattle.lift_program.specs.Ends.{exit_status_of, line_at_end, line_at_e
 ghost use Rattle.lift_program.specs.Output.{IsWrittenOrFailed};
 
 use crate::fault::Fault;
-use crate::leftover::Leftover;
+use crate::leftover::{Failure, Leftover};
 use crate::output::tell;
+use crate::refused::NoMemory;
+use crate::serve::Serving;
 use crate::unwritten::ShownImage;
 use lift_base::text::Watched;
-use lift_disk::{BufferedFile, FileFault, SectorFile};
+use lift_disk::{BufferedFile, SectorFile};
 use lift_replay::Verdict;
-use lift_serve::ServingEnd;
 use std::io::Write;
 
-/// How the program ends, over the devices that it makes, shows and serves, the files of images that are
-/// refused, and what opens an image, as it has left them. Where nothing was asked of an image, what
-/// opens it is left as it was given.
+/// How the program ends, by the command, over the devices that it makes, shows and serves, the files of
+/// images that are refused, and what opens an image, as it has left them. Where nothing was asked of an
+/// image, what opens it is left as it was given.
 #[derive(Drop)]
 pub enum End<M, S, V, F: Drop, O: Drop> {
-    /// A script was replayed.
-    Replayed(Verdict, Leftover<O>),
-    /// An empty journal was made on this file.
-    Formatted(Leftover<M>),
-    /// The open calls of the journal on this file were written.
-    Shown(Leftover<S>),
-    /// The building was served on this port, over this image, and the serving ended so: only a serving
-    /// makes that. What is reported of it is a fault of the device, and else what it was refused.
-    Served(u16, Option<Fault>, Leftover<V>, ServingEnd),
-    /// The work failed, and nothing was asked of an image.
-    Failed(Fault, Leftover<O>),
-    /// No image was had, for this.
-    NoImage(Fault, Leftover<FileFault<F, O>>),
-    /// The journal couldn't be made on this file.
-    Unformatted(Fault, Leftover<M>),
-    /// The open calls of the journal on this file couldn't be written.
-    Unshown(Fault, Leftover<S>),
-    /// The building couldn't be served over this image.
-    Unserved(Fault, Leftover<V>),
+    /// A script was replayed, or why it wasn't to its end.
+    Replayed(Result<Verdict, Fault>, Leftover<O>),
+    /// An empty journal was made on this file, or why none was.
+    Formatted(Result<Leftover<M>, Failure<M, F, O>>),
+    /// The open calls of the journal on this file were written, or why they weren't.
+    Shown(Result<Leftover<S>, Failure<S, F, O>>),
+    /// The building was served, and the serving ended so; or why it wasn't.
+    Served(Result<Serving<V>, Failure<V, F, O>>),
     /// The words are those of no command.
     OtherWords(Leftover<O>),
+    /// There was no memory to read the words.
+    NoWords(NoMemory, Leftover<O>),
 }
 
 /// How a command ends over files that this opens.
@@ -69,18 +61,20 @@ impl<M, S, V, F: Drop, O: Drop> End<M, S, V, F, O> {
         ensures { result ≡ exit_status_of self.now }
     {
         match self {
-            End::Replayed(Verdict::Good, _) => 0,
-            End::Replayed(Verdict::Bad, _) => 1,
-            End::Formatted(_) => 0,
-            End::Shown(_) => 0,
-            End::Served(_, None, _, _) => 0,
-            End::Served(_, Some(_), _, _) => 1,
-            End::Failed(_, _) => 1,
-            End::NoImage(_, _) => 1,
-            End::Unformatted(_, _) => 1,
-            End::Unshown(_, _) => 1,
-            End::Unserved(_, _) => 1,
+            End::Replayed(Ok(Verdict::Good), _) => 0,
+            End::Replayed(Ok(Verdict::Bad), _) => 1,
+            End::Replayed(Err(_), _) => 1,
+            End::Formatted(Ok(_)) => 0,
+            End::Formatted(Err(_)) => 1,
+            End::Shown(Ok(_)) => 0,
+            End::Shown(Err(_)) => 1,
+            End::Served(Ok(serving)) => match &serving.fault {
+                None => 0,
+                Some(_) => 1,
+            },
+            End::Served(Err(_)) => 1,
             End::OtherWords(_) => 2,
+            End::NoWords(_, _) => 1,
         }
     }
 
@@ -92,17 +86,19 @@ impl<M, S, V, F: Drop, O: Drop> End<M, S, V, F, O> {
         ensures quiet { line_at_end self.now ≡ None → errors.new ≡ errors.old }
     {
         match self {
-            End::Replayed(_, _) => {}
-            End::Formatted(_) => {}
-            End::Shown(_) => {}
-            End::Served(_, None, _, _) => {}
-            End::Served(_, Some(fault), _, _) => tell_at_end(fault, errors),
-            End::Failed(fault, _) => fault.tell(errors),
-            End::NoImage(fault, _) => fault.tell(errors),
-            End::Unformatted(fault, _) => fault.tell(errors),
-            End::Unshown(fault, _) => fault.tell(errors),
-            End::Unserved(fault, _) => fault.tell(errors),
+            End::Replayed(Ok(_), _) => {}
+            End::Replayed(Err(fault), _) => fault.tell(errors),
+            End::Formatted(Ok(_)) => {}
+            End::Formatted(Err(failure)) => failure.fault().tell(errors),
+            End::Shown(Ok(_)) => {}
+            End::Shown(Err(failure)) => failure.fault().tell(errors),
+            End::Served(Ok(serving)) => match &serving.fault {
+                None => {}
+                Some(fault) => tell_at_end(fault, errors),
+            },
+            End::Served(Err(failure)) => failure.fault().tell(errors),
             End::OtherWords(_) => tell(errors, b"liftd: usage\n"),
+            End::NoWords(_, _) => tell(errors, b"liftd: memory\n"),
         }
     }
 }

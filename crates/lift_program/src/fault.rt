@@ -34,7 +34,7 @@ pub enum Role {
 }
 
 /// Why the program's work failed.
-#[derive(Clone, Copy, Error)]
+#[derive(Drop, Error)]
 pub enum Fault {
     /// The building's text is no building.
     Building(BuildingFault),
@@ -109,8 +109,8 @@ fn plain_line(text: &str) -> Line
 }
 
 /// The line of a building's fault, without its end.
-fn building_line(fault: BuildingFault) -> Line
-    ensures text { result.bytes ≡ building_fault_line fault }
+fn building_line(fault: &BuildingFault) -> Line
+    ensures text { result.bytes ≡ building_fault_line fault.now }
     ensures short { array_string_len result ≤ 63 }
 {
     match fault {
@@ -152,9 +152,9 @@ impl Fault {
         ensures text { result.bytes ≡ fault_text self.now }
         ensures short { array_string_len result ≤ 63 }
     {
-        match *self {
+        match self {
             Fault::Building(fault) => building_line(fault),
-            Fault::Journal(fault) => journal_line(fault),
+            Fault::Journal(fault) => journal_line(*fault),
             Fault::File(_) => plain_line("liftd: file"),
             Fault::Memory(_) => plain_line("liftd: memory"),
             Fault::Network => plain_line("liftd: network"),

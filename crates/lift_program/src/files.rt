@@ -5,21 +5,19 @@ ghost use Rattle.std.specs.Str.{IsUtf8};
 ghost use Rattle.lift_disk.specs.FileCalls.FileCall.{Lock};
 ghost use Rattle.lift_disk.specs.Files.{IsMeasured, making_below, sector_file_state_of};
 ghost use Rattle.lift_disk.specs.Traced.{making_calls, to_be_read, to_be_used};
-ghost use Rattle.lift_program.specs.Ends.{IsFileFault};
 ghost use Rattle.lift_program.specs.Images.{IsJustMade, IsTextRead};
-ghost use Rattle.lift_program.specs.Stages.{HasBuilding, HasNoImage, IsBuildingFault, IsImageFault};
+ghost use Rattle.lift_program.specs.Stages.{HasBuilding, HasNoImage, IsBuildingFault};
 ghost use Rattle.lift_program.specs.Stages.{IsNoText, most_text};
 ghost use Rattle.lift_program.specs.declared.fault.Role.TheVariants.{Building as OfBuilding};
-ghost use Rattle.lift_program.specs.declared.fault.Role.TheVariants.{Image as OfImage};
 
 use crate::fault::{Fault, Role};
-use crate::leftover::{Leftover, Refused};
+use crate::leftover::Refused;
 use crate::opening::{ImageView, TextOpener};
-use crate::refused::{text_in, told_as};
+use crate::refused::{refused, text_in};
 use crate::text::bytes_of;
 use crate::unwritten::{ShownImage, UnwrittenFile};
 use lift_building::Building;
-use lift_disk::{Buffered, FileFault, FileOpener, SectorFile};
+use lift_disk::{Buffered, FileOpener, SectorFile};
 use std::alloc::Global;
 use std::str;
 
@@ -56,18 +54,6 @@ pub fn building_in<B: TextOpener>(opener: B, alloc: Global, path: &str) -> Resul
     let (_left, outcome) = bytes_of::<B>(alloc, text);
     let bytes = outcome?;
     building_of(alloc, &bytes)
-}
-
-/// An image that was refused: the fault that is reported, and what that comes from.
-fn refused<F: Drop, O: Drop>(cause: FileFault<F, O>) -> Refused<F, O>
-    ensures fault { IsFileFault OfImage result.fault }
-    ensures told { IsImageFault cause result.fault }
-    ensures same { result.cause ≡ cause }
-{
-    Refused {
-        fault: told_as(&cause),
-        cause: Leftover::new(cause),
-    }
 }
 
 /// The file of a journal, made or made anew, if its lock is to be had.

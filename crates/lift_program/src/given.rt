@@ -4,12 +4,14 @@ ghost use Rattle.std.specs.Prelude.{◌≡◌, ◌≢◌, ℕ, List, Option, Non
 ghost use Rattle.std.specs.Prelude.{OnOk};
 ghost use Rattle.lift_program.specs.declared.fault.Role.TheVariants.{Output};
 ghost use Rattle.lift_program.specs.declared.words.Request.TheVariants.{Replay, Serve};
-ghost use Rattle.lift_program.specs.Ends.{IsAnswered, IsEndFor, IsEndOf, IsReadyFor};
-ghost use Rattle.lift_program.specs.Ends.{IsInputLeft, IsPassedOn, IsReportOfEnd, IsUncalled};
-ghost use Rattle.lift_program.specs.Ends.{SaysPrefix, WritesFor};
+ghost use Rattle.lift_program.specs.Ends.{IsEndFor, IsEndOf, IsInputLeft, IsOutputOf, IsPassedOn};
+ghost use Rattle.lift_program.specs.Ends.{IsQuietUntil, IsReportOfEnd, IsReportOfFault, IsSocketHad};
+ghost use Rattle.lift_program.specs.Ends.{IsUncalled, SaysPrefix, WritesFor};
 ghost use Rattle.lift_program.specs.Ends.{line_at_once, serving_text, uncalled, failed_for};
 ghost use Rattle.lift_program.specs.Listening.{local};
 ghost use Rattle.lift_program.specs.Output.{IsFlushed, WriterHasFailed};
+ghost use Rattle.lift_program.specs.Serving.{IsReadyOver};
+ghost use Rattle.lift_program.specs.Stages.{IsServingFailure, fault_in};
 ghost use Rattle.lift_program.specs.Words.{AskForRequest, IsRequestInRange};
 ghost use Rattle.std.specs.Io.KnownBytes.{Appends};
 
@@ -28,7 +30,7 @@ use crate::words::{Request, request_of};
 use lift_base::text::Counted;
 use lift_building::Building;
 use lift_disk::{BufferedFile, FileOpener};
-use lift_policy::Shipped;
+use lift_policy::{Dispatching, Shipped};
 use std::alloc::Global;
 use std::convert::AsStr;
 use std::io::{Read, Write};
@@ -55,7 +57,7 @@ pub(crate) struct ToServe<'w, B, I, L, E> {
     building: &'w str,
     port: u16,
     sessions: u32,
-    policy: Shipped,
+    policy: Dispatching<Shipped>,
     told: PhantomData<E>,
 }
 
@@ -102,22 +104,12 @@ fn done<'w, B: TextOpener, I: FileOpener, L: Listens, R: Read + Drop, W: Outflow
         } => {
             let Openers { files, socket } = openers;
             drop(socket);
-            match format(files, alloc, image, building, half) {
-                Ok(left) => Err(End::Formatted(left)),
-                Err(Failure::NoBuilding(fault, unused)) => Err(End::Failed(fault, unused)),
-                Err(Failure::NoImage(refused)) => Err(End::NoImage(refused.fault, refused.cause)),
-                Err(Failure::Opened(fault, left)) => Err(End::Unformatted(fault, left)),
-            }
+            Err(End::Formatted(format(files, alloc, image, building, half)))
         }
         Request::Show { image, building } => {
             let Openers { files, socket } = openers;
             drop(socket);
-            match show(files, alloc, image, building, writer) {
-                Ok(left) => Err(End::Shown(left)),
-                Err(Failure::NoBuilding(fault, unused)) => Err(End::Failed(fault, unused)),
-                Err(Failure::NoImage(refused)) => Err(End::NoImage(refused.fault, refused.cause)),
-                Err(Failure::Opened(fault, left)) => Err(End::Unshown(fault, left)),
-            }
+            Err(End::Shown(show(files, alloc, image, building, writer)))
         }
         Request::Serve {
             image,
@@ -145,31 +137,33 @@ impl<'w, B: TextOpener, I: FileOpener, L: Listens, E: Write + Drop> ToServe<'w, 
         alloc: Global,
         place: &'b mut Option<Building>,
         writer: &mut W,
-    ) -> Result<Ready<'b, BufferedFile<I::Told>, E>, EndBy<I, I::Told>>
-        ensures ready { IfOk result (λ ready. IsReadyFor
+    ) -> Result<Ready<'b, BufferedFile<I::Told>, E>, Failure<BufferedFile<I::Told>, I::Told, I>>
+        ensures ready { IfOk result (λ ready. IsReadyOver
             (⟦<Files<B, I> as FilesView>⟧.view self.entry.openers.files)
-            (L.gives self.entry.openers.socket local)
-            (Serve self.entry.image self.entry.building self.entry.port self.entry.sessions
-            self.entry.policy) ready.prepared.keeper ready.prepared.listening ready.port
-            ready.prepared.sessions ready.prepared.policy) }
-        ensures said { IfOk result (λ ready.
-            Appends (W.contents writer.old) (W.contents writer.new) (serving_text ready.port)) }
-        ensures end { IfErr result (IsEndFor
-            (⟦<Files<B, I> as FilesView>⟧.view self.entry.openers.files)
-            (L.gives self.entry.openers.socket local)
-            (Serve self.entry.image self.entry.building self.entry.port self.entry.sessions
-            self.entry.policy) (W.contents writer.old) (W.contents writer.new)) }
-        ensures only { SaysPrefix self.entry.port (W.contents writer.old) (W.contents writer.new) }
-        ensures report { IfErr result (λ end. (input : Option (List ℕ))
-            → IsReportOfEnd input end (W.contents writer.old) (W.contents writer.new)) }
+            (L.gives self.entry.openers.socket local self.entry.port) self.entry.image.now
+            self.entry.building.now ready.prepared.keeper ready.prepared.listening) }
+        ensures port { IfOk result (λ ready. ready.port ≡ self.entry.port) }
+        ensures sessions { IfOk result (λ ready. ready.prepared.sessions ≡ self.entry.sessions) }
+        ensures policy { IfOk result (λ ready. ready.prepared.policy ≡ self.entry.policy) }
         // That the port is served was passed on, before it is.
-        ensures said_on { OnOk result (IsFlushed W.gives W.flushes writer.old writer.new) }
-        ensures passed_on { IfErr result (λ end.
-            IsPassedOn end (IsFlushed W.gives W.flushes writer.old writer.new)) }
+        ensures said { OnOk result
+            (Appends (W.contents writer.old) (W.contents writer.new) (serving_text self.entry.port)) }
+        ensures flushed { OnOk result (IsFlushed W.gives W.flushes writer.old writer.new) }
+        ensures front { SaysPrefix self.entry.port (W.contents writer.old) (W.contents writer.new) }
+        // The port is the fault only where that was refused.
+        ensures refused { IfErr result (λ failure. fault_in failure ≡ Fault.Network
+            → L.gives self.entry.openers.socket local self.entry.port None) }
+        ensures failure { IfErr result (IsServingFailure
+            (⟦<Files<B, I> as FilesView>⟧.view self.entry.openers.files) self.entry.image.now
+            self.entry.building.now) }
+        ensures report { IfErr result (λ failure.
+            IsReportOfFault (fault_in failure) (W.contents writer.old) (W.contents writer.new)) }
+        ensures quiet { IfErr result (λ failure. IsQuietUntil
+            (IsSocketHad (L.gives self.entry.openers.socket local self.entry.port)) failure
+            (W.contents writer.old) (W.contents writer.new)) }
         // The standard output is the fault only where it failed.
-        ensures unwritten { IfErr result (λ end. failed_for end ≡ Some (Fault.File Output)
+        ensures failed { IfErr result (λ failure. fault_in failure ≡ Fault.File Output
             → WriterHasFailed W.gives W.flushes writer.old writer.new) }
-        ensures quiet { IfErr result (λ end. line_at_once end ≡ None) }
     {
         let ToServe {
             openers,
@@ -180,14 +174,9 @@ impl<'w, B: TextOpener, I: FileOpener, L: Listens, E: Write + Drop> ToServe<'w, 
             policy,
             told: _,
         } = self;
-        match ready_for(
+        ready_for(
             openers, alloc, place, image, building, port, sessions, policy, writer,
-        ) {
-            Ok(ready) => Ok(ready),
-            Err(Failure::NoBuilding(fault, unused)) => Err(End::Failed(fault, unused)),
-            Err(Failure::NoImage(refused)) => Err(End::NoImage(refused.fault, refused.cause)),
-            Err(Failure::Opened(fault, left)) => Err(End::Unserved(fault, left)),
-        }
+        )
     }
 }
 
@@ -237,25 +226,15 @@ impl<'w, B: TextOpener, I: FileOpener, L: Listens, S: AsStr, R: Read + Drop, E: 
         ensures end { IfErr result.1 (IsEndOf (⟦<Files<B, I> as FilesView>⟧.view self.entry.files)
             (L.gives self.entry.socket local) (R.remaining self.entry.reader)
             (map S.text self.entry.words.now) (W.contents writer.old) (W.contents writer.new)) }
-        // A script's report is that of the input, and a journal's are its open calls.
-        ensures report { IfErr result.1 (λ end. IsReportOfEnd (R.remaining self.entry.reader) end
-            (W.contents writer.old) (W.contents writer.new)) }
-        // Where all was done it was passed on.
-        ensures passed_on { IfErr result.1 (λ end.
-            IsPassedOn end (IsFlushed W.gives W.flushes writer.old writer.new)) }
+        // What was written is its report, passed on where all was done; and the output is the fault only
+        // where it failed.
+        ensures output { IfErr result.1 (λ end. IsOutputOf W.contents W.gives W.flushes
+            (R.remaining self.entry.reader) (map S.text self.entry.words.now)
+            self.entry.files.image end writer.old writer.new) }
         // Only a replay reads: nothing was read of a group that is to be served.
         ensures left { IsInputLeft R.remaining
             (AskForRequest (map S.text self.entry.words.now) Replay) self.entry.files.image result.1
             (uncalled self.entry.reader) result.0 }
-        // Words that ask for nothing are answered by how the program is called, if they ask for help.
-        ensures answered { result.1 ≡ Err (End.OtherWords self.entry.files.image)
-            → IsAnswered (map S.text self.entry.words.now)
-            (IsFlushed W.gives W.flushes writer.old writer.new)
-            (WriterHasFailed W.gives W.flushes writer.old writer.new) (W.contents writer.old)
-            (W.contents writer.new) }
-        // The standard output is the fault only where it failed.
-        ensures unwritten { IfErr result.1 (λ end. failed_for end ≡ Some (Fault.File Output)
-            → WriterHasFailed W.gives W.flushes writer.old writer.new) }
         ensures quiet { IfErr result.1 (λ end. line_at_once end ≡ None) }
     {
         let Given {
@@ -269,10 +248,8 @@ impl<'w, B: TextOpener, I: FileOpener, L: Listens, S: AsStr, R: Read + Drop, E: 
         let mut input = Counted::new(reader);
         match request_of(alloc, words) {
             Ok(Some(Request::Replay)) => {
-                let end = match replay(alloc, &mut input, writer) {
-                    Ok(verdict) => End::Replayed(verdict, openers.unused()),
-                    Err(fault) => End::Failed(fault, openers.unused()),
-                };
+                let outcome = replay(alloc, &mut input, writer);
+                let end = End::Replayed(outcome, openers.unused());
                 (Leftover::new(input), Err(end))
             }
             Ok(Some(request)) => {
@@ -284,7 +261,7 @@ impl<'w, B: TextOpener, I: FileOpener, L: Listens, S: AsStr, R: Read + Drop, E: 
                 (Leftover::new(input), Err(End::OtherWords(openers.unused())))
             }
             Err(no_memory) => {
-                let end = End::Failed(Fault::Memory(no_memory), openers.unused());
+                let end = End::NoWords(no_memory, openers.unused());
                 (Leftover::new(input), Err(end))
             }
         }

@@ -4,9 +4,9 @@
 ghost use Rattle.std.specs.Prelude.{◌≡◌, false, IfOk};
 ghost use Rattle.clap.specs.Words.{App, app_of, rule_of, with_subcommand};
 ghost use Rattle.lift_program.specs.Words.{liftd_app, bare_app, replay_app, format_app, show_app};
-ghost use Rattle.lift_program.specs.Words.{serve_app, word_rule, option_rule, IsCommand};
+ghost use Rattle.lift_program.specs.Words.{serve_app, word_rule, option_rule, flag_rule, IsCommand};
 
-use clap::{Arg, Command};
+use clap::{Arg, ArgAction, Command};
 use std::alloc::{AllocError, Global};
 
 /// How the program is called.
@@ -19,9 +19,10 @@ pub const HELP: &str = "liftd, the group controller of a lift group
   liftd show <image> <building>
       prints the open calls of a journal
   liftd serve <image> <building> --port <p> --sessions <n>
-              [--policy etd|fewest|wait]
+              [--policy etd|fewest|wait] [--absent-last]
       serves kiosks and cars at port p of this machine, until n connections
-      (1 to 1000000) have ended
+      (1 to 1000000) have ended; by the last option a car that isn't connected,
+      or hasn't said since where it is, takes calls that no other may take
 
 Status 0: done. 1: a fault, told in a line on standard error, or a bad script.
 2: other words, as these are.
@@ -41,6 +42,14 @@ fn option<'a>(alloc: Global, name: &'a str) -> Arg<'a>
     ensures local { result.global ≡ false }
 {
     Arg::new(alloc, name).long(name)
+}
+
+/// An option without a value.
+fn flag<'a>(alloc: Global, name: &'a str) -> Arg<'a>
+    ensures rule { rule_of result ≡ flag_rule name.now }
+    ensures local { result.global ≡ false }
+{
+    Arg::new(alloc, name).long(name).action(ArgAction::SetTrue)
 }
 
 /// `replay`.
@@ -69,7 +78,7 @@ fn show_command<'a>(alloc: Global) -> Result<Command<'a>, AllocError>
         .arg(word(alloc, "building"))
 }
 
-/// `serve <image> <building> --port <p> --sessions <n> [--policy <name>]`.
+/// `serve <image> <building> --port <p> --sessions <n> [--policy <name>] [--absent-last]`.
 fn serve_command<'a>(alloc: Global) -> Result<Command<'a>, AllocError>
     ensures { IfOk result (IsCommand serve_app) }
 {
@@ -78,7 +87,8 @@ fn serve_command<'a>(alloc: Global) -> Result<Command<'a>, AllocError>
         .arg(word(alloc, "building"))?
         .arg(option(alloc, "port"))?
         .arg(option(alloc, "sessions"))?
-        .arg(option(alloc, "policy"))
+        .arg(option(alloc, "policy"))?
+        .arg(flag(alloc, "absent-last"))
 }
 
 /// The program by itself, whose first word is not its name.

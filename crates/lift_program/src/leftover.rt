@@ -1,6 +1,7 @@
 //! How a command leaves the device that it was over, or what was to open it.
 
 ghost use Rattle.std.specs.Prelude.{◌≡◌};
+ghost use Rattle.lift_program.specs.Stages.{fault_in};
 
 use crate::fault::Fault;
 use lift_disk::FileFault;
@@ -14,6 +15,8 @@ pub struct Leftover<D> {
 }
 
 impl<D> Model for Leftover<D> {
+    ghost use Rattle.std.specs.Prelude.{◌≡◌};
+
     ghost Value = { D };
 
     ghost view = { λ l. l.device };
@@ -48,4 +51,17 @@ pub enum Failure<D, F: Drop, O: Drop> {
     NoImage(Refused<F, O>),
     /// One was, and was left so.
     Opened(Fault, Leftover<D>),
+}
+
+impl<D, F: Drop, O: Drop> Failure<D, F, O> {
+    /// What is reported.
+    pub fn fault(&self) -> &Fault
+        ensures { result.now ≡ fault_in self.now }
+    {
+        match self {
+            Failure::NoBuilding(fault, _) => fault,
+            Failure::NoImage(refused) => &refused.fault,
+            Failure::Opened(fault, _) => fault,
+        }
+    }
 }

@@ -1,43 +1,17 @@
 //! What is written to the standard output, and where no more can be done if it fails.
 
-ghost use Rattle.std.specs.Prelude.{ℕ, Bool, true, false, OnOk, OnErr, IfErr, take, ⊤};
-ghost use Rattle.std.specs.declared.io.Error.{Error};
-ghost use Rattle.std.specs.Io.KnownBytes.{Appends, Keeps};
+ghost use Rattle.std.specs.Prelude.{ℕ, OnOk, OnErr, IfErr, take};
+ghost use Rattle.std.specs.Io.KnownBytes.{Appends};
 ghost use Rattle.lift_program.specs.Ends.{IsFileFault};
-ghost use Rattle.lift_program.specs.Output.{IsPassedOnOrFailed, IsWrittenOrFailed};
+ghost use Rattle.lift_program.specs.Output.{HasFailedOnce, IsAllPassedOn, IsFlushed};
+ghost use Rattle.lift_program.specs.Output.{IsPassedOnOrFailed, IsWrittenOrFailed, WriterHasFailed};
 ghost use Rattle.lift_program.specs.declared.fault.Role.TheVariants.{Output};
 
 use crate::fault::{Fault, Role};
 use crate::refused::pass_on;
-use lift_base::text::{Outlet, Watched, put_all};
-use std::io;
+pub use lift_base::text::Outflow;
+use lift_base::text::{Watched, put_all};
 use std::io::Write;
-
-/// A writer whose flushes are told as its other calls are: nothing but one leads from one state of
-/// the writer to the next by `flushes`.
-pub trait Outflow: Outlet {
-    ghost flushes: { Self → Bool → Self → Type 0 };
-
-    /// A flush was refused by this error.
-    ghost refuses: { Self → Error → Self → Type 0 };
-
-    /// One flush of the writer.
-    fn flush_once(&mut self) -> io::Result<()>
-        ensures flushed { OnOk result (flushes self.old true self.new) }
-        ensures failed { OnErr result (flushes self.old false self.new) }
-        ensures refused { IfErr result (λ error. refuses self.old error self.new) }
-        ensures bytes { Keeps (Self.contents self.old) (Self.contents self.new) };
-}
-
-impl<W: Write> Outflow for W {
-    ghost flushes = { λ _ _ _. ⊤ };
-
-    ghost refuses = { λ _ _ _. ⊤ };
-
-    fn flush_once(&mut self) -> io::Result<()> {
-        self.flush()
-    }
-}
 
 /// Writes all of the bytes to the standard output, and has it pass them on.
 pub fn write_out<W: Outflow>(writer: &mut W, bytes: &[u8]) -> Result<(), Fault>
@@ -66,3 +40,13 @@ pub fn tell<W: Write + Drop>(writer: &mut Watched<W>, bytes: &[u8])
         Err(_) => {}
     }
 }
+
+/// What is counted of an output, by how it was called: once it was flushed no call had failed, and all
+/// that it took was passed on; where it has failed one call did, or a flush. So these are facts of the
+/// state of the output, also of one that doesn't tell its bytes.
+pub fn output_is_counted<W: Outflow>()
+    ensures flushed { (old : W) (new : W) → IsFlushed W.gives W.flushes old new
+        → IsAllPassedOn (W.sent old) (W.sent new) }
+    ensures failed { (old : W) (new : W) → WriterHasFailed W.gives W.flushes old new
+        → HasFailedOnce (W.sent old) (W.sent new) }
+{}

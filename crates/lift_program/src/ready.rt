@@ -21,7 +21,7 @@ use arrayvec::ArrayString;
 use itoa::Buffer;
 use lift_building::Building;
 use lift_disk::{BufferedFile, Disk, FileOpener};
-use lift_policy::Shipped;
+use lift_policy::{Dispatching, Shipped};
 use lift_serve::{Listening, PreparedGroup};
 use std::alloc::Global;
 use std::io::Write;
@@ -97,7 +97,7 @@ pub(crate) fn ready_for<'b, B: TextOpener, I: FileOpener, L: Listens, W: Outflow
     building: &str,
     port: u16,
     sessions: u32,
-    policy: Shipped,
+    policy: Dispatching<Shipped>,
     writer: &mut W,
 ) -> Result<Ready<'b, BufferedFile<I::Told>, E>, Failure<BufferedFile<I::Told>, I::Told, I>>
     ensures said { OnOk result

@@ -4,7 +4,7 @@ ghost use Rattle.std.specs.Prelude.{◌≡◌, ◌≢◌, Ok, Err, Some, None, t
 ghost use Rattle.std.specs.Prelude.{IfOk, IfErr, IfSome, IfNone, OnOk, OnErr};
 ghost use Rattle.std.specs.Io.KnownBytes.{Keeps};
 ghost use Rattle.std.specs.IoError.{error_kind};
-ghost use Rattle.lift_program.specs.Ends.{IsFileFault, IsUncalled};
+ghost use Rattle.lift_program.specs.Ends.{IsFileFault, IsUncalled, TellsLine, line_of};
 ghost use Rattle.lift_program.specs.Faults.{served_fault};
 ghost use Rattle.lift_program.specs.Stages.{IsImageFault, IsRefusedBySystem, IsTextRefused};
 ghost use Rattle.lift_program.specs.Words.{AreMatchesOf, AskForRequest, AsksNothing};
@@ -12,24 +12,28 @@ ghost use Rattle.lift_program.specs.declared.fault.Fault.TheVariants.{Memory as 
 ghost use Rattle.lift_program.specs.declared.fault.Role.TheVariants.{Building as OfBuilding};
 ghost use Rattle.lift_program.specs.declared.fault.Role.TheVariants.{Image as OfImage, Output};
 
+use crate::end::End;
 use crate::fault::{Fault, Role};
 use crate::grammar::grammar;
+use crate::leftover::{Leftover, Refused};
 use crate::opening::TextOpener;
 use crate::output::Outflow;
 use crate::text::OpenedText;
 use clap::ArgMatches;
 use clap::error::ErrorKind as WordsFault;
+use lift_base::text::Watched;
 use lift_disk::FileFault;
 use lift_serve::{ServeFault, ServingEnd};
 use std::alloc::Global;
 use std::convert::AsStr;
 use std::io;
-use std::io::ErrorKind;
+use std::io::{ErrorKind, Write};
 use std::marker::Model;
 
 /// Evidence that no memory was left. Only the calls below make one, each where it was refused: by
-/// evidence of the crate below, by the grammar of the words, or by the system's error.
-#[derive(Clone, Copy)]
+/// evidence of the crate below, by the grammar of the words, or by the system's error, which each makes
+/// the call for or uses up. Nobody can copy it.
+#[derive(Drop)]
 pub struct NoMemory {
     made: (),
 }
@@ -46,7 +50,7 @@ impl Model for NoMemory {
 
 impl NoMemory {
     /// The evidence, where that is why the system refused a call.
-    pub(crate) fn of_call(error: &io::Error) -> Option<NoMemory>
+    fn of_call(error: &io::Error) -> Option<NoMemory>
         ensures memory { error_kind error.now ≡ ErrorKind.OutOfMemory → result ≡ Some tt }
         ensures other { error_kind error.now ≢ ErrorKind.OutOfMemory → result ≡ None }
     {
@@ -98,7 +102,7 @@ fn told(role: Role, error: &io::Error) -> Fault
 }
 
 /// What is answered of a file that can't be an image.
-pub(crate) fn told_as<F: Drop, O: Drop>(cause: &FileFault<F, O>) -> Fault
+fn told_as<F: Drop, O: Drop>(cause: &FileFault<F, O>) -> Fault
     ensures file { IsFileFault OfImage result }
     ensures told { IsImageFault cause.now result }
 {
@@ -107,6 +111,18 @@ pub(crate) fn told_as<F: Drop, O: Drop>(cause: &FileFault<F, O>) -> Fault
         FileFault::NotAFile(_) => Fault::File(Role::Image),
         FileFault::Unopened(error) => told(Role::Image, error),
         FileFault::Failed(failed) => told(Role::Image, &failed.error),
+    }
+}
+
+/// An image that was refused: the fault that is reported, and what that comes from, which is used up.
+pub(crate) fn refused<F: Drop, O: Drop>(cause: FileFault<F, O>) -> Refused<F, O>
+    ensures fault { IsFileFault OfImage result.fault }
+    ensures told { IsImageFault cause result.fault }
+    ensures same { result.cause ≡ cause }
+{
+    Refused {
+        fault: told_as(&cause),
+        cause: Leftover::new(cause),
     }
 }
 
@@ -164,4 +180,22 @@ pub(crate) fn matches_of<'a, S: AsStr>(
             }
         }
     }
+}
+
+/// Why the words weren't given: for want of memory, or since one of them is no text. Nothing that
+/// opens a file or a socket was made yet.
+pub fn not_given<E: Write + Drop>(
+    error: io::Error,
+    errors: &mut Watched<E>,
+) -> End<(), (), (), (), ()>
+    ensures memory { error_kind error ≡ ErrorKind.OutOfMemory → result ≡ End.NoWords tt tt }
+    ensures other { error_kind error ≢ ErrorKind.OutOfMemory → result ≡ End.OtherWords tt }
+    ensures line { TellsLine E.contents (line_of result) errors.old errors.new }
+{
+    let end = match NoMemory::of_call(&error) {
+        Some(no_memory) => End::NoWords(no_memory, Leftover::new(())),
+        None => End::OtherWords(Leftover::new(())),
+    };
+    end.tell(errors);
+    end
 }

@@ -4,13 +4,13 @@ ghost use Rattle.std.specs.Prelude.{◌≡◌, ◌≤◌, ◌↔◌, ℕ, map, o
 ghost use Rattle.clap.specs.Words.{Text, rows_of, found_of, subcommand_rows_of};
 ghost use Rattle.lift_program.specs.Words.{AskForRequest, AsksForHelp, AsksNothing, IsCount, IsFor};
 ghost use Rattle.lift_program.specs.Words.{IsFormat, IsShow, IsHalf, IsRequestInRange, IsOver};
-ghost use Rattle.lift_program.specs.Words.{IsPolicy, IsServe};
+ghost use Rattle.lift_program.specs.Words.{IsAbsentLast, IsPolicy, IsServe};
 ghost use Rattle.lift_policy.specs.declared.policies.Shipped.{Shipped as ShippedValue};
 
 use crate::refused::{NoMemory, matches_of};
 use clap::ArgMatches;
 use lift_base::text::number_up_to;
-use lift_policy::{Etd, Shipped};
+use lift_policy::{Dispatching, Etd, Shipped};
 use std::alloc::Global;
 use std::convert::AsStr;
 
@@ -41,7 +41,8 @@ pub enum Request<'a> {
         port: u16,
         /// How many connections are to end, 1 to 1,000,000.
         sessions: u32,
-        policy: Shipped,
+        /// By which policy, and whether absent cars come last.
+        policy: Dispatching<Shipped>,
     },
 }
 
@@ -129,6 +130,17 @@ fn policy_of(word: Option<&str>) -> Option<Shipped>
     }
 }
 
+/// Whether an option without a value is there.
+#[tactic(auto, using(crate::proofs::Rows::there_if, crate::proofs::Rows::not_there))]
+fn is_there(word: Option<&str>) -> bool
+    ensures { IsAbsentLast (option_map (λ w. w.now) word.entry) result }
+{
+    match word {
+        Some(word) => word == "true",
+        None => false,
+    }
+}
+
 /// What the words after `serve` ask for.
 fn serve_of<'a>(matches: &ArgMatches<'a>) -> Option<Request<'a>>
     ensures some { IfSome result (λ request. IsServe (rows_of (found_of matches.now)) request) }
@@ -139,12 +151,16 @@ fn serve_of<'a>(matches: &ArgMatches<'a>) -> Option<Request<'a>>
     let port = count_of(matches.get_str("port"), MOST_PORT)?;
     let sessions = count_of(matches.get_str("sessions"), MOST_SESSIONS)?;
     let policy = policy_of(matches.get_str("policy"))?;
+    let absent_last = is_there(matches.get_str("absent-last"));
     Some(Request::Serve {
         image,
         building,
         port: port as u16,
         sessions,
-        policy,
+        policy: Dispatching {
+            policy,
+            absent_last,
+        },
     })
 }
 

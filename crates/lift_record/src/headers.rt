@@ -47,7 +47,9 @@ fn spell_header(version: Version, count: u16, number: u32) -> [u8; 16]
 pub fn encode_header(count: u16, number: u32) -> [u8; 16]
     requires count { (1 ≤ count) × (count ≤ 63) }
     requires number { 1 ≤ number }
-    ensures { result ≡ header_bytes Two count number }
+    ensures bytes { result ≡ header_bytes Two count number }
+    ensures in_grammar { IsHeaderSpelling result
+        (record { version = Two; count = count; number = number }) }
 {
     spell_header(Version::Two, count, number)
 }

@@ -6,7 +6,7 @@ ghost use Rattle.lift_base.specs.declared.history.Record.{Record as RecordValue}
 ghost use Rattle.lift_base.specs.declared.history.Row.{Row as RowValue};
 ghost use Rattle.lift_base.specs.declared.travel.Dir.{Dir as DirValue};
 ghost use Rattle.lift_base.specs.Records.{IsLawfulCall, IsTypedCall, IsTypedContent, IsTyped};
-ghost use Rattle.lift_base.specs.Records.{IsLawful};
+ghost use Rattle.lift_base.specs.Records.{IsLawful, IsLawfulStop, IsTypedCommand, IsRecord};
 ghost use Rattle.lift_record.specs.Version.{party_byte, IsSayableParty};
 ghost use Rattle.lift_record.specs.Record.{record_bytes, dir_byte, status_byte};
 ghost use Rattle.lift_record.specs.Record.{call_bytes as call_bytes_of};
@@ -19,15 +19,33 @@ use lift_base::{
     Content, Dir, Entry, Floor, Last, Letter, MOST_DONE, Number, Party, Record, Row, Terminal,
 };
 
-fn is_lawful_call(kiosk: Terminal, number: Number, from: Floor, to: Floor) -> bool
-    ensures { IsTrue result ↔ IsLawfulCall kiosk number from to }
+/// Whether the journal may hold this call, which any car may have taken for any party.
+fn is_lawful_call(
+    kiosk: Terminal,
+    number: Number,
+    from: Floor,
+    to: Floor,
+    _car: Letter,
+    _party: Party,
+) -> bool
+    ensures lawful { IsTrue result ↔ IsLawfulCall kiosk number from to }
+    ensures typed { IsTypedCommand kiosk number × IsTypedCall from to _car _party }
 {
     kiosk.is_kiosk() && number.get() >= 1 && from != to
 }
 
+/// Whether the journal may hold this stop, which may be at any floor.
+fn is_lawful_stop(terminal: Terminal, number: Number, _floor: Floor) -> bool
+    ensures lawful { IsTrue result ↔ IsLawfulStop terminal number }
+    ensures typed { IsTypedCommand terminal number × (_floor ≤ 63) }
+{
+    !terminal.is_kiosk() && number.get() >= 1
+}
+
 /// Whether the journal may hold this record.
 pub fn is_lawful(value: &Record) -> bool
-    ensures { IsTrue result ↔ IsLawful value.now }
+    ensures lawful { IsTrue result ↔ IsLawful value.now }
+    ensures record { IsTrue result ↔ IsRecord value.now }
 {
     match *value {
         Record::Entry(
@@ -36,14 +54,29 @@ pub fn is_lawful(value: &Record) -> bool
                 number,
                 from,
                 to,
+                car,
+                party,
+            },
+        ) => is_lawful_call(kiosk, number, from, to, car, party),
+        Record::Entry(
+            Entry::Stop {
+                car,
+                number,
+                floor,
                 ..
             },
-        ) => is_lawful_call(kiosk, number, from, to),
-        Record::Entry(Entry::Stop { number, .. }) => number.get() >= 1,
-        Record::Row(row) => is_lawful_call(row.kiosk, row.number, row.from, row.to),
-        Record::Last { terminal, ref last } => match &last.content {
-            Content::Letter { from, to, .. } => is_lawful_call(terminal, last.number, *from, *to),
-            Content::Stopped { .. } => !terminal.is_kiosk() && last.number.get() >= 1,
+        ) => is_lawful_stop(Terminal::of_car(car), number, floor),
+        Record::Row(row) => {
+            is_lawful_call(row.kiosk, row.number, row.from, row.to, row.car, row.party)
+        }
+        Record::Last { terminal, ref last } => match last.content {
+            Content::Letter {
+                from,
+                to,
+                car,
+                party,
+            } => is_lawful_call(terminal, last.number, from, to, car, party),
+            Content::Stopped { floor, .. } => is_lawful_stop(terminal, last.number, floor),
         },
         Record::Done { count } => count <= MOST_DONE,
     }
@@ -218,7 +251,7 @@ fn read_call(version: Version, kiosk: u8, content: [u8; 5], number: u32) -> Opti
         party: party_from_byte(version, party)?,
         aboard: aboard_from_byte(status)?,
     };
-    if is_lawful_call(row.kiosk, row.number, row.from, row.to) {
+    if is_lawful_call(row.kiosk, row.number, row.from, row.to, row.car, row.party) {
         Some(row)
     } else {
         None

@@ -1,4 +1,3 @@
 pub mod Follows
 pub mod ReadLemmas
 pub mod SameLemmas
-pub mod BuildingLaws

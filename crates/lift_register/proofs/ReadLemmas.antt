@@ -130,14 +130,6 @@ pub sum_over_all_kiosks : (f : ℕ → ℕ) (n : ℕ) → n ≡ 47 → sum_by f 
 unfolding kiosk_terminals
 sum_over_all_kiosks f n all = ap (λ (i : ℕ). sum_by f (range_with_len 16 i)) all
 
-pub length-option : {X : Type 0} (o : Option X) → length (option_to_list o) ≡ cond (is_some o) 1 0
-length-option None = refl
-length-option (Some x) = refl
-
-pub option-few : {X : Type 0} (o : Option X) → length (option_to_list o) ≤ 1
-option-few None = omega arith
-option-few (Some x) = omega arith
-
 pub first-of_option : {X : Type 0} (o : Option X) → slice_get (option_to_list o) 0 ≡ o
 first-of_option None = refl
 first-of_option (Some x) = refl

@@ -1,7 +1,7 @@
 -- What the line holds, by its two ends.
 use Rattle.std.proofs.Common.{◌≡◌, ◌+◌, ◌≤◌, List, [], ◌∷◌, ◌++◌, length, refl, sym, ap, ◌∙◌, append-nil, length-append, arith, subst}
 use Rattle.lift_parts.specs.Batch.{BatchState}
-use Rattle.lift_parts.specs.Line.{SendState, ReceiveState, WasFull, WasEmpty, BatchesGoOn}
+use Rattle.lift_parts.specs.Line.{SendState, ReceiveState, WasFull, BatchesGoOn}
 use Rattle.lift_parts.specs.Queued.{Queued}
 
 no_more : {A : Type 0} (xs ys : List A) → length xs ≡ length xs + length ys → ys ≡ []
@@ -22,6 +22,3 @@ same_state s r q same = (subst (λ (items : List BatchState). BatchesGoOn s.buil
 -- it was full of what had not left it
 pub full_by : (s : SendState) → WasFull s → length s.gone + 4 ≤ length s.sent
 full_by s full = omega (arith, full.four, ap length full.all, length-append full.received full.items, ap length full.later.1, length-append s.gone full.later.0)
-
-pub empty_by : (r : ReceiveState) → WasEmpty r → length r.known ≤ length r.received
-empty_by r empty = omega (arith, ap length empty.1, length-append r.known empty.0)

@@ -4,6 +4,7 @@ ghost use Rattle.std.specs.Prelude.{◌≡◌, ◌≢◌, ◌↔◌, ◌⊎◌, 
 ghost use Rattle.std.specs.Prelude.{false};
 ghost use Rattle.lift_desk.specs.Rule.{IsAhead};
 ghost use Rattle.lift_desk.specs.Seats.{IsClerkOf, IsSeatOf, OwesNothing, clerk_with, view_at};
+ghost use Rattle.lift_desk.specs.Seats.{with_looks_of};
 ghost use Rattle.lift_desk.specs.Steps.{with_told_asks};
 ghost use Rattle.lift_parts.specs.Batch.{turns_of};
 ghost use Rattle.lift_parts.specs.Line.{Begins};
@@ -167,7 +168,7 @@ impl<'d, 'b, P: Policy + Drop> Allocator<'d, 'b, P> {
             ⊎ (self.state.register ≡ settler.writer.register) }
         ensures { result ≡ record {
           desk = settler.entry.desk;
-          seat = settler.entry.seat;
+          seat = with_looks_of self.entry.seat settler.entry.seat;
           keeper = record { state = self.entry.state; writer = settler.entry.writer };
           policy = self.entry.policy;
         } }

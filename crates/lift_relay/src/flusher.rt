@@ -1,21 +1,16 @@
 //! The part that makes batches safe and answers.
 
-ghost use Rattle.std.specs.Prelude.{◌≡◌, ◌<◌, ◌⊎◌, ◌↔◌, List, [], length, true, false};
-ghost use Rattle.lift_register.specs.Register.{RegisterState};
+ghost use Rattle.std.specs.Prelude.{◌≡◌, ◌<◌, ◌⊎◌, ◌↔◌, length, true, false};
 ghost use Rattle.lift_desk.specs.Rule.{IsInOrder};
 ghost use Rattle.lift_desk.specs.Seats.{IsClerkOf, IsSeatOf, OwesNothing, seat_with, clerk_with};
-ghost use Rattle.lift_desk.specs.Seats.{view_at};
+ghost use Rattle.lift_desk.specs.Seats.{view_at, with_looks_of};
 ghost use Rattle.lift_desk.specs.Steps.{with_told_answers, with_told_asks, lists_of};
-ghost use Rattle.lift_keeper.specs.Calls.{CommitCalls};
 ghost use Rattle.lift_parts.specs.Batch.{BatchState};
 ghost use Rattle.lift_parts.specs.Queued.{Queued};
 ghost use Rattle.lift_parts.specs.Parts.{AreOfOne};
-ghost use Rattle.lift_parts.specs.Flusher.{IsFlusher, AllAnsweredBy, IsBatchTurn, entries_received};
+ghost use Rattle.lift_parts.specs.Flusher.{IsFlusher, AllAnsweredBy, IsBatchTurn};
 ghost use Rattle.lift_parts.specs.Turns.{IsFlush};
-ghost use Rattle.lift_base.specs.declared.history.Entry.{Entry};
-ghost use Rattle.lift_world.specs.declared.event.Taken.{Taken};
-ghost use Rattle.lift_clerk.specs.History.{History};
-ghost use Rattle.lift_parts.specs.History.{FlushStands, group_after};
+ghost use Rattle.lift_parts.specs.History.{FlushKeeps};
 ghost use Rattle.lift_relay.specs.Heard.{FailureHeard};
 
 use crate::allocator::Allocator;
@@ -164,7 +159,7 @@ impl<'d, 'b, D: Disk, K> Flusher<'d, 'b, D, K> {
             ⊎ (allocator.state.register ≡ self.writer.register) }
         ensures { result ≡ record {
           desk = self.entry.desk;
-          seat = self.entry.seat;
+          seat = with_looks_of allocator.entry.seat self.entry.seat;
           keeper = record { state = allocator.entry.state; writer = self.entry.writer };
           policy = allocator.entry.policy;
         } }
@@ -186,22 +181,17 @@ impl<'d, 'b, D: Disk, K> Flusher<'d, 'b, D, K> {
     ) -> Result<FlushCounts, KeeperFault>
     where
         K: HeardBy<V>,
-        ensures flushes { IsFlush D.state self.old self.new result }
-        ensures calls { CommitCalls D.state self.old.writer
-            (length (entries_received self.old.end self.new.end)) self.new.writer result }
-        // Where the device failed first, the witness was notified, once.
-        ensures heard { FailureHeard V.hears
-            self.old.writer.is_broken self.new.writer.is_broken witness.old witness.new }
+        // What it received, committed and answered, and the calls of the device that this took.
+        ensures turn { IsFlush D.state self.old self.new result }
         // A batch that it was told of, it receives.
         ensures finds { length self.old.end.received < length self.old.end.known
             → (batch : BatchState) × IsBatchTurn self.old self.new batch result }
-        // Whatever has happened, its group's history goes on: what was received is safe, and its
-        // commands have their replies, or are answered Unknown after a fault. Each image that a
-        // crash at any moment of the turn may leave shows all that was given before.
-        ensures history { (base : RegisterState) (safe : List Entry) (given : List Taken)
-            → History base (group_after self.old) safe given
-            → FlushStands self.old self.new base safe given
-            (D.state self.old.writer.device) (D.state self.new.writer.device) }
+        // Where the device failed first, the witness was notified, once.
+        ensures heard { FailureHeard V.hears
+            self.old.writer.is_broken self.new.writer.is_broken witness.old witness.new }
+        // Whatever had happened before, all that was given is kept at each moment, and what the turn
+        // gives from its end on.
+        ensures keeps { FlushKeeps D.state self.old self.new }
     {
         flushes_are_steps::<D>();
         let batch = match self.end.receive(rt) {

@@ -1,9 +1,8 @@
 //! A keeper and its clerk, held for calls that wait.
 //!
 //! A call that waits owes nothing where it never returns. So it is given these in their place, by a
-//! key type that it knows nothing of: it can look at them, split, turn and end the group, each by a
-//! call that returns, and reaches neither the seats that answer nor the writer. No call in this file
-//! waits.
+//! key type that it knows nothing of: it can look at them, split and end the group, each by a call that
+//! returns, and reaches neither the seats that answer nor the writer. No call in this file waits.
 
 ghost use Rattle.std.specs.Prelude.{◌≡◌, ◌≢◌, ◌⊎◌, List, [], length, true, IfOk, IfErr, OnErr};
 ghost use Rattle.lift_base.specs.declared.history.Entry.{Entry};
@@ -11,26 +10,23 @@ ghost use Rattle.lift_register.specs.Register.{RegisterState};
 ghost use Rattle.lift_desk.specs.Seats.{IsClerkOf, OwesNothing};
 ghost use Rattle.lift_world.specs.declared.event.Taken.{Taken};
 ghost use Rattle.lift_clerk.specs.History.{History};
-ghost use Rattle.lift_clerk.specs.Once.{TurnsOnce, TurnAdvances};
 ghost use Rattle.lift_clerk.specs.Steps.{group_of};
 ghost use Rattle.lift_parts.specs.Flusher.{IsFlusher};
 ghost use Rattle.lift_parts.specs.History.{group_after};
 ghost use Rattle.lift_parts.specs.Parts.{AreParts, AreOfOne, IsRejoined};
 ghost use Rattle.lift_parts.specs.Queued.{Queued};
-ghost use Rattle.lift_relay.specs.Heard.{FailureHeard};
 
 use crate::allocator::Allocator;
 use crate::basis::Basis;
 use crate::batch::Batch;
 use crate::flusher::Flusher;
 use crate::line::new_line;
-use crate::witness::{HeardBy, Witness, tell_of};
 use arrayvec::ArrayVec;
-use lift_base::Memory;
-use lift_clerk::{Clerk, Counts, turn_is_of_the_history};
+use lift_clerk::Clerk;
 use lift_desk::{ClerkSeat, Desk};
 use lift_disk::Disk;
-use lift_keeper::{Keeper, KeeperFault};
+use lift_keeper::Keeper;
+use lift_memory::Memory;
 use lift_parts::parts_are_clerks;
 use lift_policy::Policy;
 use std::alloc::Global;
@@ -52,8 +48,8 @@ impl<'b, D: Disk, K> Model for HeldKeeper<'b, D, K> {
     ghost view = { λ h. h.keeper };
 }
 
-/// A clerk that only who has a `K` gets back. Others can look at it, split it, have it turn, and end
-/// it.
+/// A clerk that only who has a `K` gets back. Others can look at it, split it, and end it: it makes no
+/// turn.
 #[derive(Drop)]
 pub struct HeldClerk<'d, 'b, D: Disk, P: Policy + Drop, K> {
     clerk: Clerk<'d, 'b, D, P>,
@@ -139,25 +135,6 @@ impl<'d, 'b, D: Disk, P: Policy + Drop, K> HeldClerk<'d, 'b, D, P, K> {
         ensures { result.now ≡ self.now.keeper }
     {
         self.clerk.keeper()
-    }
-
-    /// It after one turn more, and what that answers. Whatever had been answered before, each image
-    /// that a crash at any moment of the turn may leave keeps, and what the turn answers is kept
-    /// from then on. Where the device fails first in it, the witness is notified.
-    pub fn turn<V: Witness>(self, witness: &mut V) -> (Self, Result<Counts, KeeperFault>)
-    where
-        K: HeardBy<V>,
-        ensures turn { TurnsOnce
-            D.state (P.chooses self.entry.policy) self.entry result.0 result.1 }
-        ensures advances { TurnAdvances D.state self.entry result.0 result.1 }
-        ensures heard { FailureHeard V.hears self.entry.keeper.writer.is_broken
-            result.0.keeper.writer.is_broken witness.old witness.new }
-    {
-        let mut clerk = self.clerk;
-        let was_broken = clerk.keeper().is_broken();
-        let outcome = turn_is_of_the_history(&mut clerk);
-        tell_of(witness, was_broken, clerk.keeper().is_broken());
-        (HeldClerk::new(clerk), outcome)
     }
 
     /// Its keeper, as it is. It looks at the desk no more.

@@ -16,15 +16,15 @@ use crate::allocator::Allocator;
 use crate::flusher::Flusher;
 use crate::held::{part, rejoin_held};
 use crate::witness::{HeardBy, Witness};
-use lift_base::Memory;
 use lift_clerk::Clerk;
 use lift_disk::Disk;
+use lift_memory::Memory;
 use lift_policy::Policy;
 use std::alloc::Global;
 
 /// What gives back a clerk that is held for it. Only `rejoin` makes one: so who turns the parts,
 /// and is generic in their key, can reach neither the seats that answer nor the writer but by the
-/// turns of the flusher, and of the clerk of both.
+/// turns of the flusher.
 #[derive(Drop)]
 pub struct Key {
     made: (),

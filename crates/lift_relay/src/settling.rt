@@ -3,7 +3,7 @@
 ghost use Rattle.std.specs.Prelude.{◌≡◌, ℕ, List, [], ◌⊎◌, ◌↔◌, length, true, false, IfOk};
 ghost use Rattle.lift_desk.specs.Rule.{IsInOrder};
 ghost use Rattle.lift_desk.specs.Seats.{IsClerkOf, IsSeatOf, OwesNothing, view_at};
-ghost use Rattle.lift_desk.specs.Seats.{seat_with, clerk_with};
+ghost use Rattle.lift_desk.specs.Seats.{seat_with, clerk_with, with_looks_of};
 ghost use Rattle.lift_desk.specs.Steps.{with_told_answers, with_told_asks, lists_of};
 ghost use Rattle.lift_keeper.specs.Prelude.{Commits, CommitCalls};
 ghost use Rattle.lift_clerk.specs.TakenAndAnswered.{AreApart};
@@ -17,7 +17,7 @@ use crate::held::HeldClerk;
 use crate::witness::{HeardBy, Witness, tell_of};
 use arrayvec::ArrayVec;
 use lift_base::{MOST_ENTRIES, Terminal};
-use lift_clerk::{Clerk, DueAnswer, answer_all};
+use lift_clerk::{AnsweringSeat, Clerk, DueAnswer};
 use lift_decider::Decider;
 use lift_desk::{ClerkSeat, Desk, Lender, Seat, TakeSeat};
 use lift_disk::Disk;
@@ -28,13 +28,13 @@ use lift_register::Register;
 use std::marker::{Model, PhantomData};
 
 /// Makes batches safe and answers them. No call of it waits: so what it ensures holds, and no answer
-/// stands before its batch is safe, whatever a thread does that has it. The seats and the writer are
-/// reached by its calls alone, and after them by those of the clerk that it is joined to, which
-/// only who has a `K` gets back.
+/// stands before its batch is safe, whatever a thread does that has it; and none but Unknown is stored
+/// without the evidence of a commit. The seats and the writer are reached by its calls alone, and after
+/// them by those of the clerk that it is joined to, which only who has a `K` gets back.
 #[derive(Drop)]
 pub struct Settler<'d, 'b, D: Disk, K> {
     desk: &'d Desk,
-    seat: ClerkSeat<Lender>,
+    seat: AnsweringSeat<Lender>,
     writer: Writer<'b, D>,
     key: PhantomData<K>,
 }
@@ -56,7 +56,7 @@ impl<'d, 'b, D: Disk, K> Model for Settler<'d, 'b, D, K> {
 /// note says. Gives the answers that these terminals are owed: each command's reply.
 fn look_again(
     desk: &Desk,
-    seat: &mut ClerkSeat<Lender>,
+    seat: &mut AnsweringSeat<Lender>,
     commands: ArrayVec<NotedCommand, MOST_ENTRIES>,
 ) -> ArrayVec<DueAnswer, MOST_ENTRIES>
     requires seated { IsClerkOf desk.now seat.old }
@@ -76,14 +76,14 @@ fn look_again(
             note,
         } = taken;
         let terminal = command.terminal;
-        let _found = desk.look_for(seat, terminal, note);
+        let _found = seat.look_for(desk, terminal, note);
         answers.push(DueAnswer { terminal, reply });
     }
     answers
 }
 
 /// Whether an ask that these seats took is unanswered, at some terminal.
-fn owes(desk: &Desk, seat: &ClerkSeat<Lender>) -> bool
+fn owes(desk: &Desk, seat: &AnsweringSeat<Lender>) -> bool
     requires { IsClerkOf desk.now seat.now }
     ensures { (result ≡ false) ↔ OwesNothing seat.now }
 {
@@ -104,7 +104,7 @@ fn commit_nothing<D: Disk>(writer: &mut Writer<'_, D>) -> Result<FlushCounts, Ke
     ensures same { writer.new ≡ writer.old }
 {
     match writer.commit(&ArrayVec::new()) {
-        Ok(()) => Ok(FlushCounts {
+        Ok(_safe) => Ok(FlushCounts {
             batches: 0,
             answers: 0,
         }),
@@ -120,7 +120,7 @@ impl<'d, 'b, D: Disk, K> Settler<'d, 'b, D, K> {
     {
         Settler {
             desk,
-            seat,
+            seat: AnsweringSeat::new(seat),
             writer,
             key: PhantomData,
         }
@@ -153,15 +153,15 @@ impl<'d, 'b, D: Disk, K> Settler<'d, 'b, D, K> {
         let committed = self.writer.commit(batch.entries());
         let answers = look_again(self.desk, &mut self.seat, batch.into_commands());
         match committed {
-            Ok(()) => {
-                answer_all(self.desk, &mut self.seat, &answers, true);
+            Ok(safe) => {
+                self.seat.answer_all(self.desk, &answers, Some(safe));
                 Ok(FlushCounts {
                     batches: 1,
                     answers: answers.len(),
                 })
             }
             Err(fault) => {
-                answer_all(self.desk, &mut self.seat, &answers, false);
+                self.seat.answer_all(self.desk, &answers, None);
                 tell_of(witness, was_broken, self.writer.is_broken());
                 Err(fault)
             }
@@ -186,7 +186,7 @@ impl<'d, 'b, D: Disk, K> Settler<'d, 'b, D, K> {
         ensures seat_stays { IsSeatOf self.new.desk seat.new }
         ensures seated { IsClerkOf self.new.desk self.new.seat }
     {
-        self.desk.tell(seat, &mut self.seat)
+        self.seat.tell(self.desk, seat)
     }
 
     /// What is answered where there is no batch: `Journal(Broken)` while it is broken.
@@ -230,7 +230,7 @@ impl<'d, 'b, D: Disk, K> Settler<'d, 'b, D, K> {
             ⊎ (decider.state.register ≡ self.writer.register) }
         ensures { result ≡ record {
           desk = self.entry.desk;
-          seat = self.entry.seat;
+          seat = with_looks_of ahead self.entry.seat;
           keeper = record { state = decider.entry.state; writer = self.entry.writer };
           policy = policy;
         } }
@@ -241,7 +241,7 @@ impl<'d, 'b, D: Disk, K> Settler<'d, 'b, D, K> {
             writer,
             key: _,
         } = self;
-        let seat = desk.join(ahead, seat);
+        let seat = desk.join(ahead, seat.into_seat());
         HeldClerk::new(Clerk::new(desk, seat, Keeper::whole(decider, writer), policy))
     }
 }

@@ -100,11 +100,6 @@ module _ (line : List ℕ) where
   pub action_decided : IsDecided Does
   action_decided = elim ways [ inl way ↦ inl (does_of way) | inr none ↦ inr (λ does. none (way_of does.0 does.1)) ]
 
--- it leaves the clerk's seats as they are
-pub action_seat : (old new : ScriptClerk) (action : DeviceAction) → DoesToDevice action old new → new.seat ≡ old.seat
-action_seat old new (Fuse calls) armed = ap (λ (c : ScriptClerk). c.seat) armed.rest
-action_seat old new (Cut outcome) same = ap (λ (c : ScriptClerk). c.seat) same
-
 -- a fuse
 arms : (plan : Plan) (g : ScriptGroup) (calls : ℕ) (old new : ScriptClerk) (s : Option FailedBatch) → IsArmed calls old new → Stands s plan g old.keeper → g.failed ≡ s → Stands s plan (record g { passing = Some calls }) new.keeper
 arms plan g calls old new None armed stands is = (

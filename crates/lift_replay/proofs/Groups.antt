@@ -5,7 +5,7 @@ use Rattle.std.proofs.lemmas.Bool.{false≢true, true≢false, eqb-true, eqb-fal
 use Rattle.std.proofs.lemmas.Bool.Decides.{leb_tells}
 use Rattle.lift_base.specs.declared.command.Reply.{Reply}
 use Rattle.lift_building.specs.Plan.{Plan}
-use Rattle.lift_disk.specs.Disk.{DiskState, Image, MayLeave, LeavesNow, IsFilled}
+use Rattle.lift_disk.specs.Disk.{DiskState, Image, MayLeave, IsFilled}
 use Rattle.lift_disk.specs.Outcomes.{IsLeftBy}
 use Rattle.lift_disk.specs.declared.outcome.Outcome.{Outcome}
 use Rattle.lift_disk.specs.declared.outcome.Outcome.TheVariants.{Keep, Lose, Fill}
@@ -102,9 +102,6 @@ takes_all terminals seats told after places turned known visits replies heard st
         each = λ i below. all.each i (omega (arith, below, count));
       };
     }
-
-cut_whole : (disk : DiskState) (P : Image → Type 0) (image : Image) → disk.is_honest → LeavesNow disk P → MayLeave disk image → P image
-cut_whole disk P image honest leaves may = leaves honest image may
 
 -- a run that a mark divides has failed: what each cut leaves
 module _ (plan : Plan) (old new : DiskState) (P Q : Found) (unmarks : Bool) (offset mark made whole : ℕ) (honest : new.is_honest) (is : whole ≡ offset + mark)

@@ -1,14 +1,12 @@
 -- The seats of a desk's terminals, and what they hear.
-use Rattle.std.proofs.Common.{◌≡◌, ℕ, zero, suc, ◌+◌, ◌<◌, ◌≤◌, List, [], ◌∷◌, ◌++◌, length, get_or, set, take, None, Some, refl, sym, ap, ◌∙◌, inl, inr, Bool, true, false, get_or-set_other, arith}
+use Rattle.std.proofs.Common.{◌≡◌, ℕ, zero, suc, ◌+◌, ◌<◌, ◌≤◌, List, [], ◌∷◌, ◌++◌, length, get_or, set, take, None, Some, refl, subst, sym, ap, ◌∙◌, inl, inr, false, get_or-set_other, arith}
 use Rattle.std.proofs.lemmas.List.{append_assoc, append-nil, get_or_default, take-set, length-set}
 use Rattle.std.proofs.lemmas.Grind.{get_or-set_at}
-use Rattle.std.proofs.lemmas.Bool.{cases_eq, false≢true, true≢false}
-use Rattle.std.specs.Prelude.{◌||◌}
 use Rattle.atomic_table.specs.Seated.{TableId}
 use Rattle.lift_base.specs.declared.command.Reply.{Reply}
 use Rattle.lift_desk.specs.Seats.{TerminalSeat, AreSeatsOf, Waits, IsToldAnswer, seats_from, seat_with}
 use Rattle.lift_desk.specs.Steps.{with_hearing, is_awaited}
-use Rattle.lift_replay.specs.Terminals.{AreTerminalsOf, IsSpanned, AllHear, HasHeard, Hears, no_seat, seat_at}
+use Rattle.lift_replay.specs.Terminals.{AreTerminalsOf, AllHear, HasHeard, Hears, no_seat, seat_at}
 
 pub count_from : (k : ℕ) (desk : List TableId) → length (seats_from k desk) ≡ length desk
 count_from k [] = refl
@@ -19,11 +17,6 @@ own_from k [] i below = absurd (omega (arith, below))
 own_from k (table ∷ desk) zero below = omega arith
 own_from k (table ∷ desk) (suc i) below = own_from (suc k) desk i (omega (arith, below)) ∙ omega arith
 
-quiet_from : (k : ℕ) (desk : List TableId) (i : ℕ) → ¬ Waits (seat_at (seats_from k desk) i).view
-quiet_from k [] i = λ waits. omega (arith, waits)
-quiet_from k (table ∷ desk) zero = λ waits. omega (arith, waits)
-quiet_from k (table ∷ desk) (suc i) = quiet_from (suc k) desk i
-
 -- at a new desk
 pub new_terminals : (desk : List TableId) (seats : List TerminalSeat) → AreSeatsOf desk seats → seats ≡ seats_from 0 desk → AreTerminalsOf desk seats
 new_terminals desk seats seated new = record {
@@ -32,19 +25,16 @@ new_terminals desk seats seated new = record {
   own = λ i below. rw new (own_from 0 desk i (rw (sym new) below) ∙ omega arith);
 }
 
-pub new_spanned : (desk : List TableId) (seats : List TerminalSeat) → seats ≡ seats_from 0 desk → IsSpanned seats 63 0
-new_spanned desk seats new = record {
-  bound = omega arith;
-  before = λ i below. rw new (quiet_from 0 desk i);
-  behind = λ i past. rw new (quiet_from 0 desk i);
-}
-
--- those that don't wait rest
-pub all_rest : (seats : List TerminalSeat) (n : ℕ) → ((i : ℕ) → i < n → ¬ Waits (seat_at seats i).view) → AllHear (take n seats) (take n seats) []
-all_rest seats zero quiet = refl
-all_rest [] (suc n) quiet = refl
-all_rest (seat ∷ seats) (suc n) quiet =
-    ([], [], inl (quiet 0 (omega arith), refl, refl), all_rest seats n (λ i below. quiet (suc i) (omega (arith, below))), refl)
+-- all have heard once as many have as there are
+pub all_heard : (olds news : List TerminalSeat) (n : ℕ) (lines : List ℕ) → length olds ≤ n → length news ≡ length olds → AllHear (take n olds) (take n news) lines → AllHear olds news lines
+all_heard olds news n lines all same hear =
+    subst (λ l. AllHear l news lines) (take_whole n olds all) (subst (λ l. AllHear (take n olds) l lines) (take_whole n news (omega (arith, all, same))) hear)
+  where
+    take_whole : (m : ℕ) (seats : List TerminalSeat) → length seats ≤ m → take m seats ≡ seats
+    take_whole zero [] few = refl
+    take_whole (suc m) [] few = refl
+    take_whole zero (seat ∷ seats) few = absurd (omega (arith, few))
+    take_whole (suc m) (seat ∷ seats) few = ap (λ l. seat ∷ l) (take_whole m seats (omega (arith, few)))
 
 -- one more has heard
 one_more : (olds news : List TerminalSeat) (n : ℕ) (lines line : List ℕ) → n < length olds → length news ≡ length olds
@@ -59,28 +49,6 @@ one_more (old ∷ olds) (new ∷ news) (suc n) lines line below long before hear
   before.2,
   one_more olds news n before.1 line (omega (arith, below)) (omega (arith, long)) before.3 hears,
   ap (λ l. l ++ line) before.4 ∙ append_assoc before.0 before.1 line,
-)
-
--- all others rest
-pub others_rest : (olds news : List TerminalSeat) (n : ℕ) (lines : List ℕ) → length news ≡ length olds → AllHear (take n olds) (take n news) lines
-    → ((i : ℕ) → n ≤ i → seat_at news i ≡ seat_at olds i) → ((i : ℕ) → n ≤ i → ¬ Waits (seat_at olds i).view) → AllHear olds news lines
-others_rest [] [] zero lines long before same quiet = before
-others_rest [] [] (suc n) lines long before same quiet = before
-others_rest [] (new ∷ news) n lines long before same quiet = absurd (omega (arith, long))
-others_rest (old ∷ olds) [] n lines long before same quiet = absurd (omega (arith, long))
-others_rest (old ∷ olds) (new ∷ news) zero lines long before same quiet = (
-  [],
-  [],
-  inl (quiet 0 (omega arith), same 0 (omega arith), refl),
-  others_rest olds news zero [] (omega (arith, long)) refl (λ i past. same (suc i) (omega arith)) (λ i past. quiet (suc i) (omega arith)),
-  before,
-)
-others_rest (old ∷ olds) (new ∷ news) (suc n) lines long before same quiet = (
-  before.0,
-  before.1,
-  before.2,
-  others_rest olds news n before.1 (omega (arith, long)) before.3 (λ i past. same (suc i) (omega (arith, past))) (λ i past. quiet (suc i) (omega (arith, past))),
-  before.4,
 )
 
 same_seat : (seats : List TerminalSeat) (i k : ℕ) (seat : TerminalSeat) → k ≡ i → i < length seats → seat ≡ get_or seats k seat → seat_at seats i ≡ seat
@@ -118,16 +86,3 @@ pub same_after : (olds mids news : List TerminalSeat) (n : ℕ) → news ≡ set
     → (i : ℕ) → n + 1 ≤ i → seat_at news i ≡ seat_at olds i
 same_after olds mids news n is same i past =
     ap (λ seats. seat_at seats i) is ∙ get_or-set_other mids n i (seat_at news n) no_seat (λ at. omega (arith, at, past)) ∙ same i (omega (arith, past))
-
-neither : (a b : Bool) → (a || b) ≡ false → (a ≡ false) × (b ≡ false)
-neither false b is = (refl, is)
-neither true b is = absurd (true≢false is)
-
--- none waits up to here
-pub quiet_so_far : (mids news : List TerminalSeat) (n : ℕ) (a b : Bool) → news ≡ set mids n (seat_at news n) → (Waits (seat_at news n).view → b ≡ true)
-    → (a ≡ false → (i : ℕ) → i < n → ¬ Waits (seat_at mids i).view) → (a || b) ≡ false → (i : ℕ) → i < n + 1 → ¬ Waits (seat_at news i).view
-quiet_so_far mids news n a b is told quiet none i below = elim (cases_eq i n) [
-  | inl at ↦ λ waits. false≢true (sym (neither a b none).1 ∙ told (rw (sym at) waits))
-  | inr other ↦ λ waits. quiet (neither a b none).0 i (omega (arith, below, other))
-      (rw (sym (ap (λ seats. seat_at seats i) is ∙ get_or-set_other mids n i (seat_at news n) no_seat other)) waits)
-]

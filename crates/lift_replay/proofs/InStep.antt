@@ -14,9 +14,8 @@ use Rattle.lift_policy.specs.declared.command.Command.{Command}
 use Rattle.lift_clerk.specs.Visits.{Visit, FindsAt, Finds, command_at, commands_of, with_reply, replies_after, served}
 use Rattle.lift_replay.specs.Group.{Asking, asking_at, waiting_from, having_heard, heard_replies_text}
 use Rattle.lift_replay.specs.Report.{heard_text}
-use Rattle.lift_replay.specs.Terminals.{AllHear, Hears, heard_line, seat_at, one_waiting, count_waiting}
+use Rattle.lift_replay.specs.Terminals.{AllHear, Hears, heard_line, seat_at}
 use Rattle.lift_replay.specs.Shows.{WaitsFor, IsInStep}
-use Rattle.lift_replay.proofs.Telling.{counts_one, counts_none}
 
 -- a terminal waits just where an ask of it does
 pub waits_not : (a : Asking) (seat : TerminalView) (place : ClerkView) → IsInStep a seat place → a.waiting ≡ None → ¬ Waits seat
@@ -73,65 +72,6 @@ all_found (a ∷ askings) (place ∷ places) (v ∷ visits) replies seat many co
           (taken_reply (with_taking place.view v.word) v.found replies) (front 0 (omega arith)),
       all_found askings places visits (replies_after v.found replies) (λ i. seat (suc i)) (omega (arith, many)) (omega (arith, count)) finds.1
           (λ i below. each (suc i) (omega (arith, below))) (λ i below. front (suc i) (omega (arith, below))),
-    )
-
--- no fewer commands are taken than terminals wait, and where they are as many there are no others
-sum_le : (a b c d : ℕ) → a ≤ c → b ≤ d → a + b ≤ c + d
-sum_le a b c d first rest = omega (arith, first, rest)
-
-first_le : (a b c d : ℕ) → c + d ≤ a + b → b ≤ d → c ≤ a
-first_le a b c d all rest = omega (arith, all, rest)
-
-rest_le : (a b c d : ℕ) → c + d ≤ a + b → a ≤ c → d ≤ b
-rest_le a b c d all first = omega (arith, all, first)
-
--- one terminal
-module _ (k : ℕ) (a : Asking) (seat : TerminalView) (place : ClerkPlace) (v : Visit) (step : IsInStep a seat place.view) (finds : FindsAt place v) where
-  finds_it : (ask : Ask) → a.waiting ≡ Some ask → v.found ≡ Some ask
-  finds_it ask w =
-      let waits = subst (λ x. WaitsFor x seat place.view) w step.waits in
-      finds.told ask (waits.0, step.told ∙ waits.1)
-
-  pub finds_one : (w : Option Ask) → a.waiting ≡ w → one_waiting seat ≤ length (command_at k v.found)
-  finds_one None w = omega (arith, counts_none seat (waits_not a seat place.view step w))
-  finds_one (Some ask) w = omega (arith, counts_one seat (waits_so a seat place.view ask step w), ap (λ f. length (command_at k f)) (finds_it ask w))
-
-  pub finds_no_more : length (command_at k v.found) ≤ one_waiting seat → (w f : Option Ask) → a.waiting ≡ w → v.found ≡ f → v.found ≡ a.waiting
-  finds_no_more few (Some ask) f w e = finds_it ask w ∙ sym w
-  finds_no_more few None None w e = e ∙ sym w
-  finds_no_more few None (Some ask) w e = absurd (omega (arith, few, counts_none seat (waits_not a seat place.view step w), ap (λ f. length (command_at k f)) e))
-
-no_fewer : (k : ℕ) (askings : List Asking) (places : List ClerkPlace) (visits : List Visit) (seats : List TerminalSeat)
-    → length visits ≡ length askings → length places ≡ length askings → length seats ≡ length askings → Finds places visits
-    → ((i : ℕ) → i < length askings → IsInStep (asking_at askings i) (seat_at seats i).view (view_at places i))
-    → count_waiting seats ≤ length (commands_of k visits)
-no_fewer k [] places visits [] many count seats_count finds each = omega arith
-no_fewer k [] places visits (s ∷ seats) many count seats_count finds each = absurd (omega (arith, seats_count))
-no_fewer k (a ∷ askings) places visits [] many count seats_count finds each = absurd (omega (arith, seats_count))
-no_fewer k (a ∷ askings) places [] (s ∷ seats) many count seats_count finds each = absurd (omega (arith, many))
-no_fewer k (a ∷ askings) [] (v ∷ visits) (s ∷ seats) many count seats_count finds each = absurd (omega (arith, count))
-no_fewer k (a ∷ askings) (place ∷ places) (v ∷ visits) (s ∷ seats) many count seats_count finds each =
-    let rest = no_fewer (suc k) askings places visits seats (omega (arith, many)) (omega (arith, count)) (omega (arith, seats_count)) finds.1 (λ i below. each (suc i) (omega (arith, below))) in
-    subst (λ n. one_waiting s.view + count_waiting seats ≤ n) (sym (length-append (command_at k v.found) (commands_of (suc k) visits)))
-    (sum_le (one_waiting s.view) (count_waiting seats) _ _ (finds_one k a s.view place v (each 0 (omega arith)) finds.0 a.waiting refl) rest)
-
-pub found_counted : (k : ℕ) (askings : List Asking) (places : List ClerkPlace) (visits : List Visit) (seats : List TerminalSeat)
-    → length visits ≡ length askings → length places ≡ length askings → length seats ≡ length askings → Finds places visits
-    → ((i : ℕ) → i < length askings → IsInStep (asking_at askings i) (seat_at seats i).view (view_at places i))
-    → length (commands_of k visits) ≤ count_waiting seats → AllFound visits askings
-found_counted k [] places [] seats many count seats_count finds each few = tt
-found_counted k [] places (v ∷ visits) seats many count seats_count finds each few = absurd (omega (arith, many))
-found_counted k (a ∷ askings) places visits [] many count seats_count finds each few = absurd (omega (arith, seats_count))
-found_counted k (a ∷ askings) places [] (s ∷ seats) many count seats_count finds each few = absurd (omega (arith, many))
-found_counted k (a ∷ askings) [] (v ∷ visits) (s ∷ seats) many count seats_count finds each few = absurd (omega (arith, count))
-found_counted k (a ∷ askings) (place ∷ places) (v ∷ visits) (s ∷ seats) many count seats_count finds each few =
-    let here = each 0 (omega arith) in
-    let rest = no_fewer (suc k) askings places visits seats (omega (arith, many)) (omega (arith, count)) (omega (arith, seats_count)) finds.1 (λ i below. each (suc i) (omega (arith, below))) in
-    let all : length (command_at k v.found) + length (commands_of (suc k) visits) ≤ one_waiting s.view + count_waiting seats =
-    subst (λ n. n ≤ one_waiting s.view + count_waiting seats) (length-append (command_at k v.found) (commands_of (suc k) visits)) few in (
-      finds_no_more k a s.view place v here finds.0 (first_le (one_waiting s.view) (count_waiting seats) _ _ all rest) a.waiting v.found refl refl,
-      found_counted (suc k) askings places visits seats (omega (arith, many)) (omega (arith, count)) (omega (arith, seats_count)) finds.1 (λ i below. each (suc i) (omega (arith, below)))
-          (rest_le (one_waiting s.view) (count_waiting seats) _ _ all (finds_one k a s.view place v here finds.0 a.waiting refl)),
     )
 
 pub commands_found : (k : ℕ) (visits : List Visit) (askings : List Asking) → AllFound visits askings → commands_of k visits ≡ waiting_from k askings

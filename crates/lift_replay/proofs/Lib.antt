@@ -21,7 +21,5 @@ pub mod Built
 pub mod Digits
 pub mod Spelled
 pub mod Total
-mod FrequentLines
 pub mod Written
 pub mod Taken
-pub mod Ready

@@ -2,17 +2,11 @@
 use Rattle.std.proofs.Common.{◌≡◌, ◌∙◌, ℕ, zero, suc, ◌+◌, List, [], ◌∷◌, length, take, drop, replicate, Option, Some, None, false, inl, inr, refl, sym, ap, subst, arith, length-append}
 use Rattle.std.proofs.lemmas.Bool.{false≢true}
 use Rattle.std.proofs.lemmas.List.{length-map, length-replicate}
-use Rattle.std.proofs.lemmas.List.Elements.{All-nil}
 use Rattle.std.proofs.lemmas.List.Concat.{flat_map-cons}
 use Rattle.atomic_table.specs.Seated.{TableId}
 use Rattle.std.specs.Prelude.{slice_get}
 use Rattle.lift_base.specs.declared.history.Shape.{Shape}
-use Rattle.lift_desk.specs.declared.view.TerminalView.{TerminalView}
-use Rattle.lift_desk.specs.declared.view.ClerkView.{ClerkView}
-use Rattle.lift_desk.specs.Words.{IsAskWord, IsReplyWord}
-use Rattle.lift_desk.specs.Steps.{lists_of}
-use Rattle.lift_desk.specs.lemmas.WordLists.{prefix_refl}
-use Rattle.lift_desk.specs.Rule.{IsInOrder, no_asks, no_answers}
+use Rattle.lift_desk.specs.Rule.{no_asks, no_answers}
 use Rattle.lift_desk.specs.Seats.{TerminalSeat, seats_from, clerk_of, view_at, placed_at}
 use Rattle.lift_decider.specs.Decider.{starting}
 use Rattle.lift_journal.specs.Layout.{Batch, Holds, IsChain, Picks, records_of, used, start_of}
@@ -25,11 +19,10 @@ use Rattle.lift_keeper.specs.Calls.{OpensByCalls, RefusedCalls, FailsBy}
 use Rattle.lift_keeper.specs.Reopening.{Reopens, RefusesReopening}
 use Rattle.lift_replay.specs.Group.{ScriptGroup, Found, FailedBatch, half, left_by, nothing_found, recovered, asking_at, unasked, new_terminals}
 use Rattle.lift_replay.specs.Group.{found_after_cut as left_as}
-use Rattle.lift_replay.specs.Shows.{IsFound, IsInStep, AreInStep, AreReady, Stands, IsKeeperOf, Shows}
+use Rattle.lift_replay.specs.Shows.{IsFound, IsInStep, AreInStep, Stands, IsKeeperOf, Shows}
 use Rattle.lift_replay.specs.Told.{ScriptClerk}
-use Rattle.lift_replay.specs.Terminals.{OthersAreTold, seat_at}
+use Rattle.lift_replay.specs.Terminals.{seat_at}
 use Rattle.lift_replay.proofs.Hearing.{count_from, own_from}
-use Rattle.lift_replay.proofs.Telling.{same_told}
 use Rattle.lift_building.specs.Plan.{Plan, shape_of}
 use Rattle.lift_disk.specs.Disk.{Image, DiskState, IsUnchanged, IsUnarmed, MayLeave, LeavesNow}
 use Rattle.lift_disk.specs.Faults.{FusedDisk, fuse_state_of}
@@ -167,29 +160,6 @@ new_in_step plan desk count =
           (subst (λ v. IsInStep unasked v (view_at (clerk_of desk) t)) (sym (first_seats 0 desk t))
           (subst (λ v. IsInStep unasked no_asks v) (sym (first_places desk t)) (record { turns = refl; told = refl; heard = refl; even = refl; waits = refl })));
     }
-
--- and nothing is to be told of anyone
-new_others_told : (desk : List TableId) → OthersAreTold (seats_from 0 desk) (clerk_of desk)
-new_others_told desk i below rests =
-    let seat = first_seats 0 desk i in
-    let place = first_places desk i in
-    let none : IsInOrder (lists_of no_asks no_answers) = record {
-      turns = tt;
-      taken = prefix_refl [];
-      answered = prefix_refl [];
-      heard = prefix_refl [];
-      one_open = omega arith;
-      asks_spelled = All-nil IsAskWord;
-      answers_spelled = All-nil IsReplyWord;
-    } in
-    same_told (seat_at (seats_from 0 desk) i) (view_at (clerk_of desk) i) (ap (λ (v : TerminalView). v.told) seat ∙ sym (ap (λ (v : ClerkView). v.answered) place))
-    (ap (λ (v : ClerkView). v.told) place ∙ sym (ap (λ (v : TerminalView). v.asked) seat))
-    (subst (λ v. IsInOrder (lists_of v (view_at (clerk_of desk) i))) (sym seat) (subst (λ v. IsInOrder (lists_of no_asks v)) (sym place) none))
-
-pub new_ready : (plan : Plan) (clerk : ScriptClerk) (seats : List TerminalSeat) (desk : List TableId) → clerk.seat ≡ clerk_of desk → seats ≡ seats_from 0 desk → length desk ≡ 16 + length plan.kiosks → AreReady seats clerk.seat
-new_ready plan clerk seats desk clerk_is seats_is count =
-    subst (λ l. AreReady l clerk.seat) (sym seats_is) (subst (λ l. AreReady (seats_from 0 desk) l) (sym clerk_is)
-    (record { terminals = new_terminals plan; in_step = new_in_step plan desk count; others_told = new_others_told desk }))
 
 pub new_shows : (plan : Plan) (g : ScriptGroup) (keeper : KeeperView FusedDisk) (clerk : ScriptClerk) (seats : List TerminalSeat) (desk : List TableId) → IsKeeperOf plan g keeper → g.terminals ≡ new_terminals plan
     → clerk.keeper ≡ keeper → clerk.seat ≡ clerk_of desk → seats ≡ seats_from 0 desk → length desk ≡ 16 + length plan.kiosks → Shows plan g clerk seats

@@ -1,13 +1,12 @@
 -- The first line of a text.
-use Rattle.std.proofs.Common.{◌≡◌, ◌≢◌, ℕ, ◌<◌, ◌==◌, Bool, false, cond, List, [], ◌∷◌, ◌++◌, length, All, refl, sym, ap, ◌∙◌, arith, subst}
+use Rattle.std.proofs.Common.{◌≡◌, ◌≢◌, ℕ, ◌<◌, ◌==◌, Bool, false, cond, List, [], ◌∷◌, ◌++◌, length, All, refl, sym, ap, ◌∙◌, arith}
 use Rattle.std.proofs.lemmas.Bool.{ne_eqb}
-use Rattle.std.proofs.lemmas.List.{append_assoc, append-nil, flat_map_more}
+use Rattle.std.proofs.lemmas.List.{append_assoc, flat_map_more}
 use Rattle.std.proofs.lemmas.List.Elements.{All-append, All-cons, All-nil}
 use Rattle.std.proofs.lemmas.List.Splits.{slice_split_none, slice_split_at, length-slice_split}
 use Rattle.std.specs.List.{slice_split}
-use Rattle.std.specs.Prelude.{codes}
 use Rattle.std.specs.Str.Lines.{lines, lines_of_parts, strip_carriage_return}
-use Rattle.lift_replay.specs.Source.{IsScript, LacksDivider, divider, ended}
+use Rattle.lift_replay.specs.Source.{divider, ended}
 
 abbrev is_end : ℕ → Bool
 is_end b = b == 10
@@ -30,15 +29,6 @@ cut_line text line behind is free =
     ap lines is ∙ ap lines_of_parts (slice_split_at is_end line 10 behind (no_end line free) refl)
     ∙ more_parts line (slice_split is_end behind) (omega (arith, length-slice_split is_end behind))
 
--- a turn that is found at once
-pub turn_line : (text behind : List ℕ) → text ≡ codes "turn\n" ++ behind → lines text ≡ codes "turn" ∷ lines behind
-turn_line text behind is =
-    cut_line text (codes "turn") behind is
-    (All-cons (λ b. b ≢ 10) 116 (117 ∷ 114 ∷ 110 ∷ []) (λ e. omega (arith, e))
-    (All-cons (λ b. b ≢ 10) 117 (114 ∷ 110 ∷ []) (λ e. omega (arith, e))
-    (All-cons (λ b. b ≢ 10) 114 (110 ∷ []) (λ e. omega (arith, e))
-    (All-cons (λ b. b ≢ 10) 110 [] (λ e. omega (arith, e)) (All-nil (λ b. b ≢ 10))))))
-
 -- so far no line is a divider
 abbrev pub Above : (text rest building : List ℕ) → Type 0
 Above text rest building = (above : List (List ℕ)) × (lines text ≡ above ++ lines rest) × All (λ line. line ≢ divider) above × (building ≡ ended above)
@@ -54,10 +44,3 @@ one_above text rest behind line building more before first other is = (
   All-append (λ l. l ≢ divider) before.0 (line ∷ []) before.2 (All-cons (λ l. l ≢ divider) line [] other (All-nil (λ l. l ≢ divider))),
   is ∙ ap (λ so_far. so_far ++ (line ++ 10 ∷ [])) before.3 ∙ flat_map_more (λ (l : List ℕ). l ++ 10 ∷ []) [] before.0 line,
 )
-
-pub script_of : (text rest building behind : List ℕ) → Above text rest building → lines rest ≡ divider ∷ lines behind → IsScript text building (lines behind)
-script_of text rest building behind before first =
-    record { above = before.0; split = before.1 ∙ ap (λ below. before.0 ++ below) first; first = before.2; ends = before.3 }
-
-pub lacks_divider : (text building : List ℕ) → Above text [] building → LacksDivider text
-lacks_divider text building before = subst (All (λ line. line ≢ divider)) (sym (before.1 ∙ append-nil before.0)) before.2

@@ -2,7 +2,7 @@
 use Rattle.std.proofs.Common.{◌≡◌, ℕ, suc, ◌+◌, ◌<◌, ◌≤◌, List, ◌++◌, length, length-append, refl, ap, sym, subst, ◌∙◌, inr, arith}
 use Rattle.std.specs.Prelude.{Option, Some, None, IfSome, Result, Err, IsErrAnd}
 use Rattle.std.specs.Io.KnownBytes.{Consumes, IsAtEnd}
-use Rattle.std.proofs.lemmas.List.{append-nil}
+use Rattle.std.proofs.lemmas.List.{append_assoc, append-nil}
 use Rattle.std.proofs.KnownBytes.{Consumes-trans}
 use Rattle.lift_base.specs.Input.{InputState}
 use Rattle.lift_replay.specs.Reading.{GiveEach, IsInput, IsLastCall, TakesByEach, TakesUpTo}
@@ -44,3 +44,11 @@ pub all_taken : (old new : Option (List ℕ)) (bytes : List ℕ) → Consumes ol
 all_taken None new bytes taken end = tt
 all_taken (Some all) (Some rest) bytes taken end = sym (taken ∙ ap (λ (r : List ℕ). bytes ++ r) end ∙ append-nil bytes)
 all_taken (Some all) None bytes taken end = absurd taken
+
+-- all that came, by one call more
+pub came_more : (first mid last items more new : List ℕ) → mid ≡ first ++ items → last ≡ mid ++ more → new ≡ items ++ more → last ≡ first ++ new
+came_more first mid last items more new before after all = after ∙ ap (λ c. c ++ more) before ∙ append_assoc first items more ∙ ap (λ t. first ++ t) (sym all)
+
+-- and at last
+pub grew_more : (first mid last items : List ℕ) → mid ≡ first ++ items → (more : List ℕ) × (last ≡ mid ++ more) → (bytes : List ℕ) × (last ≡ first ++ bytes)
+grew_more first mid last items before (more, after) = (items ++ more, came_more first mid last items more (items ++ more) before after refl)

@@ -1,11 +1,10 @@
 -- What the words of a script's line spell.
-use Rattle.std.proofs.Common.{◌≡◌, ℕ, List, [], ◌∷◌, refl, sym, subst, ◌∙◌, arith}
-use Rattle.std.specs.Prelude.{codes, Option, Some, None, IfSome, IfNone}
+use Rattle.std.proofs.Common.{◌≡◌, ℕ, List, [], ◌∷◌, sym, subst, ◌∙◌}
+use Rattle.std.specs.Prelude.{Option, Some, None, IfSome, IfNone}
 use Rattle.lift_base.specs.Text.{AreWords}
 use Rattle.lift_base.specs.lemmas.Words.{one_reading}
 use Rattle.lift_replay.specs.Grammar.{AskFor, AreReadAsLine, Spells}
 use Rattle.lift_replay.specs.declared.line.ScriptLine.{ScriptLine}
-use Rattle.lift_replay.specs.declared.line.ScriptLine.TheVariants.{Turn}
 
 -- what is read from a line's words is what the line spells
 pub line_read : (line : List ℕ) (words others : List (List ℕ)) (r : Option ScriptLine) → AreWords line words → words ≡ others → AreReadAsLine others r → IfSome r (Spells line)
@@ -20,16 +19,3 @@ line_unread line words others None are same none =
 
 pub both : {x y u v : List ℕ} → x ≡ y → u ≡ v → x ∷ u ∷ [] ≡ y ∷ v ∷ []
 both first second = cc
-
--- the line of a turn has that one word
-pub turn_line : (line : List ℕ) → line ≡ codes "turn" → Spells line Turn
-turn_line line is = (
-  codes "turn" ∷ [],
-  record {
-    some = omega arith;
-    apart = ((λ e. omega (arith, e), (λ e. omega (arith, e), (λ e. omega (arith, e), (λ e. omega (arith, e), tt)))), tt);
-    joined = is;
-  },
-  refl,
-  tt,
-)

@@ -8,7 +8,7 @@ use Rattle.lift_building.specs.Plan.{Plan}
 use Rattle.lift_replay.specs.declared.lines.Verdict.{Verdict}
 use Rattle.lift_replay.specs.Group.{ScriptGroup}
 use Rattle.lift_replay.specs.Reading.{IsInput}
-use Rattle.lift_replay.specs.Replaying.{IsTextReport, WritesPrefix, ReportsPrefix}
+use Rattle.lift_replay.specs.Replaying.{IsReport, IsTextReport, WritesPrefix, ReportsPrefix}
 use Rattle.lift_replay.specs.Report.{AppendsPrefix, Reports, ReportsPart}
 use Rattle.lift_replay.specs.Running.{TellsLines, TellsPart, TellsPartAfter, Continues}
 use Rattle.lift_replay.proofs.Total.{lines_total, text_total, report_total}
@@ -91,16 +91,6 @@ pub tells_more : (plan : Plan) (count later : ℕ) (g next : ScriptGroup) (scrip
     → Continues plan count g script text later next rest → Reports old mid piece kept text → TellsPart plan later next rest mid new kept after → TellsPart plan count g script old new piece after
 tells_more plan count later g next script rest old mid new piece kept after text leads reports (more, verdict, tells, part) =
     (text ++ more, verdict, leads more verdict tells, more_part old mid new piece kept after text more reports part)
-
--- they told nothing more
-pub tells_so_far : (plan : Plan) (count later : ℕ) (g next : ScriptGroup) (script rest : List (List ℕ)) (old new : Option (List ℕ)) (piece after text : List ℕ)
-    → Continues plan count g script text later next rest → Reports old new piece after text → TellsPart plan count g script old new piece after
-tells_so_far plan count later g next script rest old new piece after text leads reports =
-    tells_more plan count later g next script rest old new new piece after after text leads reports (tells_none plan later next rest new after)
-
--- the piece has stayed as it was
-pub tells_kept : (plan : Plan) (count : ℕ) (g : ScriptGroup) (script : List (List ℕ)) (old new : Option (List ℕ)) (piece kept after : List ℕ) → after ≡ kept → TellsPart plan count g script old new piece kept → TellsPart plan count g script old new piece after
-tells_kept plan count g script old new piece kept after is part = subst (TellsPart plan count g script old new piece) (sym is) part
 
 -- what was kept back was written, or a prefix of it
 pub tells_put : (plan : Plan) (count : ℕ) (g : ScriptGroup) (script : List (List ℕ)) (old mid new : Option (List ℕ)) (piece after : List ℕ) → piece ≡ [] → TellsPart plan count g script old mid piece after
@@ -185,3 +175,7 @@ tells_after start plan count later g next script rest old mid new piece kept aft
 -- all of it was written
 pub whole_front : (old new : Option (List ℕ)) (text : List ℕ) → Appends old new text → AppendsPrefix old new text
 whole_front old new text whole = (text, ([], append-nil text), whole)
+
+-- what came has some report, of which nothing was written
+pub came_unwritten : (came : List ℕ) (old : Option (List ℕ)) → WritesPrefix (IsReport came) old old
+came_unwritten came old = let told = report_total came in (told.0, told.1, told.2, no_front old told.0)

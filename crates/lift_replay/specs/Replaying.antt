@@ -1,5 +1,5 @@
 -- The report of a script, and its verdict, as a function of its bytes.
-use Rattle.std.specs.Prelude.{ℕ, ◌≡◌, ◌⊎◌, ◌<◌, ◌≤◌, List, codes, length, Option}
+use Rattle.std.specs.Prelude.{ℕ, ◌≡◌, ◌⊎◌, ◌<◌, ◌≤◌, List, ◌++◌, codes, length, Option}
 use Rattle.std.specs.Str.{IsUtf8}
 use Rattle.std.specs.Io.KnownBytes.{Appends}
 use Rattle.lift_building.specs.Plan.{Plan}
@@ -52,4 +52,16 @@ ReportsInput input before after verdict = (bytes : List ℕ) × IsInput input by
 -- or a prefix of it
 abbrev pub ReportsPrefix : (input before after : Option (List ℕ)) → Type 0
 ReportsPrefix input before after = (bytes : List ℕ) × IsInput input bytes
+    × WritesPrefix (IsReport bytes) before after
+
+-- What was written is the report of the bytes that came of a reader, and the verdict is that of it.
+abbrev pub ReportsWhatCame : (came came' : List ℕ) → (before after : Option (List ℕ)) → Verdict
+    → Type 0
+ReportsWhatCame came came' before after verdict = (bytes : List ℕ) × (came' ≡ came ++ bytes)
+    × WritesReport (IsReport bytes) before after verdict
+
+-- or a prefix of it
+abbrev pub ReportsPrefixOfWhatCame : (came came' : List ℕ) → (before after : Option (List ℕ))
+    → Type 0
+ReportsPrefixOfWhatCame came came' before after = (bytes : List ℕ) × (came' ≡ came ++ bytes)
     × WritesPrefix (IsReport bytes) before after

@@ -16,7 +16,7 @@ use Rattle.lift_keeper.specs.Images.{IsImageIn}
 use Rattle.lift_keeper.specs.Keeper.{KeeperView}
 use Rattle.lift_replay.specs.Group.{Asking, ScriptGroup, FailedBatch, Found, asking_at}
 use Rattle.lift_replay.specs.Group.{state_to_decide_on, half, left_by}
-use Rattle.lift_replay.specs.Terminals.{seat_at, OthersAreTold}
+use Rattle.lift_replay.specs.Terminals.{seat_at}
 use Rattle.lift_replay.specs.Told.{ScriptClerk}
 
 -- all that the terminal asked is taken, or all but the ask that waits
@@ -43,12 +43,6 @@ pub record AreInStep (terminals : List Asking) (seats : List TerminalSeat)
   pub own : (t : ℕ) → t < length terminals → (seat_at seats t).terminal ≡ t
   pub each : (t : ℕ) → t < length terminals
       → IsInStep (asking_at terminals t) (seat_at seats t).view (view_at places t)
-
--- Between two lines they are in step, and to tell a terminal that doesn't wait would change nothing.
-pub record AreReady (seats : List TerminalSeat) (places : List ClerkPlace) : Type 0 where
-  pub terminals : List Asking
-  pub in_step : AreInStep terminals seats places
-  pub others_told : OthersAreTold seats places
 
 -- the image is a journal of the building, in a half of a script's disk, with what was found
 abbrev pub IsFound : Plan → Found → Image → Type 0

@@ -1,12 +1,11 @@
 -- The seats of a desk's terminals, what they ask, and what they hear.
-use Rattle.std.specs.Prelude.{ℕ, suc, ◌≡◌, ◌+◌, ◌<◌, ◌≤◌, ◌⊎◌, List, [], ◌∷◌, ◌++◌, length}
-use Rattle.std.specs.Prelude.{slice_index_or, Option, Some, None, nat_lt, if◌then◌else◌}
+use Rattle.std.specs.Prelude.{ℕ, suc, ◌≡◌, ◌<◌, ◌⊎◌, List, [], ◌∷◌, ◌++◌, length}
+use Rattle.std.specs.Prelude.{slice_index_or, Option, Some, None}
 use Rattle.atomic_table.specs.Seated.{TableId}
 use Rattle.lift_base.specs.declared.command.Body.{Body}
 use Rattle.lift_base.specs.declared.command.Reply.{Reply}
 use Rattle.lift_desk.specs.Words.{ask_word, number_of, last_of}
 use Rattle.lift_desk.specs.declared.view.ClerkView.{ClerkView}
-use Rattle.lift_desk.specs.declared.view.TerminalView.{TerminalView}
 use Rattle.lift_desk.specs.Rule.{no_asks, IsInOrder}
 use Rattle.lift_desk.specs.Steps.{with_ask, with_hearing, with_told_answers, with_told_asks}
 use Rattle.lift_desk.specs.Steps.{lists_of}
@@ -27,12 +26,6 @@ pub record AreTerminalsOf (desk : List TableId) (seats : List TerminalSeat) : Ty
   pub seated : AreSeatsOf desk seats
   pub own : (i : ℕ) → i < length seats → (seat_at seats i).terminal ≡ i
 
--- no terminal before the first one waits for an answer, and none from the end on
-pub record IsSpanned (seats : List TerminalSeat) (first end : ℕ) : Type 0 where
-  pub bound : end ≤ length seats
-  pub before : (i : ℕ) → i < first → ¬ Waits (seat_at seats i).view
-  pub behind : (i : ℕ) → end ≤ i → ¬ Waits (seat_at seats i).view
-
 -- the terminal's seat once it has asked this, with its next turn
 abbrev pub having_asked : TerminalSeat → ℕ → Body → TerminalSeat
 having_asked seat number body =
@@ -41,15 +34,6 @@ having_asked seat number body =
 -- the terminal's seat once it was told what the clerk has answered there
 abbrev pub told_seat : TerminalSeat → ClerkView → TerminalSeat
 told_seat seat view = seat_with seat (with_told_answers seat.view view.answered)
-
--- one that waits counts as one
-abbrev pub one_waiting : TerminalView → ℕ
-one_waiting v = if nat_lt (length v.heard) (length v.asked) then 1 else 0
-
--- how many of these terminals wait for an answer
-abbrev pub count_waiting : List TerminalSeat → ℕ
-count_waiting [] = 0
-count_waiting (seat ∷ seats) = one_waiting seat.view + count_waiting seats
 
 -- The clerk was told what a terminal asked, and the terminal what was answered there; what they have
 -- stored fits together.
@@ -64,12 +48,6 @@ pub record AreTold (seats told : List TerminalSeat) (places known : List ClerkPl
   pub place_count : length known ≡ length places
   pub each : (i : ℕ) → i < length seats
       → BothTold (seat_at seats i) (seat_at told i) (view_at places i) (view_at known i)
-
--- to tell a terminal that doesn't wait would change nothing
-abbrev pub OthersAreTold : List TerminalSeat → List ClerkPlace → Type 0
-OthersAreTold seats places =
-    (i : ℕ) → i < length seats → ¬ Waits (seat_at seats i).view
-    → BothTold (seat_at seats i) (seat_at seats i) (view_at places i) (view_at places i)
 
 -- what the report shows of what a terminal hears
 abbrev pub heard_line : TerminalSeat → Option Reply → List ℕ

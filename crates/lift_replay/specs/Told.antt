@@ -2,7 +2,6 @@
 use Rattle.std.specs.Prelude.{ℕ, ◌≡◌, ◌⊎◌, ◌↔◌, ◌+◌, ◌<◌, ◌≤◌, true, false, List, [], ◌++◌, codes}
 use Rattle.std.specs.Prelude.{length, slice_set}
 use Rattle.lift_base.specs.declared.command.Body.{Body}
-use Rattle.lift_base.specs.declared.command.Reply.{Reply}
 use Rattle.lift_disk.specs.Disk.{DiskState}
 use Rattle.lift_disk.specs.Faults.{FusedDisk, fuse_state_of}
 use Rattle.lift_policy.specs.Choices.{IsEtdChoice}
@@ -14,7 +13,6 @@ use Rattle.lift_journal.specs.Told.{NoneFails, LastFails}
 use Rattle.lift_keeper.specs.Writer.{IsFailedCommit, commit_call_count, commit_used, commit_second}
 use Rattle.lift_clerk.specs.Clerk.{ClerkState}
 use Rattle.lift_clerk.specs.Turn.{IsTurn, IsFailedTurn, IsBrokenTurn}
-use Rattle.lift_clerk.specs.Visits.{Visit, LooksAndAnswers, commands_of}
 use Rattle.lift_clerk.specs.declared.counts.Counts.{Counts}
 use Rattle.lift_replay.specs.Report.{waiting_text, spent_text, turn_text, fault_text}
 use Rattle.lift_replay.specs.Terminals.{seat_at, having_asked, told_seat, AreTold, AllHear}
@@ -99,11 +97,6 @@ TurnTells old new text =
     × (text ≡ fault_text (codes "turn") 1))
     ⊎ ((old.keeper.writer.is_broken ≡ true) × IsBrokenTurn old new
     × (text ≡ fault_text (codes "turn") 5)))
-
--- The clerk's looks at its terminals have taken so many commands.
-abbrev pub HasTaken : (old new : List ClerkPlace) → ℕ → Type 0
-HasTaken old new count = (visits : List Visit) × (replies : List Reply)
-    × LooksAndAnswers old new visits replies × (count ≡ length (commands_of 0 visits))
 
 -- what a turn leaves as it was
 pub record KeepsPlace (old new : ScriptClerk) : Type 0 where

@@ -1,6 +1,8 @@
--- How the writer of a report was called.
-use Rattle.std.specs.Prelude.{ℕ, zero, suc, ◌≡◌, ◌≢◌, ◌<◌, ◌⊎◌, Option, Some, None, List, []}
+-- How the writer of a report was called, and what it took.
+use Rattle.std.specs.Prelude.{ℕ, zero, suc, ◌≡◌, ◌≢◌, ◌<◌, ◌+◌, ◌⊎◌, Option, Some, None, List, []}
 use Rattle.std.specs.Prelude.{length, Result, Ok, Err}
+use Rattle.std.specs.Io.KnownBytes.{Appends}
+use Rattle.lift_base.specs.Output.{OutputTally}
 use Rattle.lift_replay.specs.declared.input.InputFault.{InputFault}
 use Rattle.lift_replay.specs.declared.input.InputFault.TheVariants.{Memory as NoRoom, Read as Unread}
 use Rattle.lift_replay.specs.declared.script.ReplayFault.{ReplayFault}
@@ -52,3 +54,22 @@ pub record WritesPieces {W T : Type 0} (gives : W → List ℕ → Option ℕ �
   pub output : result ≢ Err Read
   pub calls : IsCalled gives before after result
   pub emptied : result ≡ Err Write → piece ≡ []
+
+-- how many calls of the writer have failed, or taken nothing, after a run that ended so, by how many
+-- had before it
+abbrev pub failures_after : {T : Type 0} → Result T ReplayFault → ℕ → ℕ
+failures_after (Ok value) before = before
+failures_after (Err (Memory no_memory)) before = before
+failures_after (Err Read) before = before
+failures_after (Err Write) before = before + 1
+
+-- the bytes that the calls of a writer took, which each of them tells
+unfoldable pub gone_in : {W : Type 0} → (sent : W → OutputTally) → W → Option (List ℕ)
+gone_in sent writer = Some (sent writer).gone
+
+-- Bytes were taken by a writer, and these are what was added to it, where it tells what is in it.
+abbrev pub GoesInto : {W : Type 0} → (sent : W → OutputTally) → (contents : W → Option (List ℕ))
+    → (before after : W) → Type 0
+GoesInto sent contents before after = (bytes : List ℕ)
+    × Appends (gone_in sent before) (gone_in sent after) bytes
+    × Appends (contents before) (contents after) bytes

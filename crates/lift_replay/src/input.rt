@@ -11,7 +11,7 @@ use lift_base::text::{Counted, Inlet, ReadFault};
 use std::alloc::Global;
 
 /// Why the bytes were not read.
-#[derive(Clone, Copy, PartialEq, Eq)]
+#[derive(Drop, PartialEq, Eq)]
 pub enum InputFault {
     /// A call of the reader failed, or all calls were used and the end was not found.
     Read,
@@ -35,6 +35,9 @@ fn read_some<R: Inlet + Drop>(
     ensures one_call { IsLastCall most R.remaining bytes.old.items input.old input.new }
     ensures gave { OnOk result ((more : List ℕ) × (bytes.new.items ≡ bytes.old.items ++ more)
         × Consumes (R.remaining input.old.reader) (R.remaining input.new.reader) more) }
+    ensures came { OnOk result ((more : List ℕ) × (bytes.new.items ≡ bytes.old.items ++ more)
+        × (input.new.came ≡ input.old.came ++ more)) }
+    ensures grew { (more : List ℕ) × (input.new.came ≡ input.old.came ++ more) }
     ensures some { result ≡ Ok true → (vec_len bytes.old < vec_len bytes.new)
         × (input.new.ended ≡ input.old.ended) }
     ensures end { result ≡ Ok false → (input.new.ended ≡ true)
@@ -76,6 +79,8 @@ pub fn read_all<R: Inlet + Drop>(
     requires before_end { input.old.ended ≡ false }
     ensures gives { IfOk result (λ bytes.
         GivesInput most R.remaining input.old input.new bytes.items) }
+    ensures came { IfOk result (λ bytes. input.new.came ≡ input.old.came ++ bytes.items) }
+    ensures grew { (bytes : List ℕ) × (input.new.came ≡ input.old.came ++ bytes) }
     ensures reads { ReadsUpTo most calls R.remaining input.old input.new }
     ensures unread { result ≡ Err InputFault.Read
         → LeavesUnread most calls R.remaining input.old input.new }

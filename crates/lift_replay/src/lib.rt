@@ -4,7 +4,6 @@
 
 mod ask;
 mod device_action;
-mod frequent;
 mod input;
 mod law;
 mod line;

@@ -7,8 +7,6 @@ ghost use Rattle.lift_desk.specs.Seats.{IsClerkOf};
 ghost use Rattle.lift_replay.specs.DeviceAction.{DoesToDevice};
 ghost use Rattle.lift_replay.specs.Lines.{Tells, LineTells, end_of};
 ghost use Rattle.lift_replay.specs.Told.{Asks, KeepsKeeper, KeepsPlace, TurnTells, OutcomeTells};
-ghost use Rattle.lift_replay.specs.Shows.{AreReady};
-ghost use Rattle.lift_replay.specs.Told.{HasTaken};
 ghost use Rattle.lift_replay.specs.declared.line.ScriptLine.TheVariants.{Device};
 ghost use Rattle.lift_replay.specs.declared.device_action.DeviceAction.{DeviceAction};
 
@@ -65,44 +63,31 @@ fn push_ask(
     }
 }
 
-/// One turn, and what it took and added, or its fault. The answer is how many commands it took, if
-/// it didn't fail.
-fn push_taken(
-    report: &mut String,
-    clerk: &mut Clerk<'_, '_, FuseDisk, Etd>,
-) -> Result<Option<usize>, NoMemory>
+/// One turn, and what it took and added, or its fault.
+fn push_taken(report: &mut String, clerk: &mut Clerk<'_, '_, FuseDisk, Etd>) -> Result<(), NoMemory>
     ensures tells { OnOk result ((told : List ℕ) × TurnTells clerk.old clerk.new told
         × (string_bytes report.new ≡ string_bytes report.old ++ told)) }
-    ensures took { IfOk result (λ taken.
-        IfSome taken (λ count. HasTaken clerk.old.seat clerk.new.seat count)) }
     ensures desk { clerk.new.desk ≡ clerk.old.desk }
     ensures plan { clerk.new.keeper.writer.plan ≡ clerk.old.keeper.writer.plan }
     ensures place { KeepsPlace clerk.old clerk.new }
     ensures seated { IsClerkOf clerk.new.desk clerk.new.seat }
 {
     match clerk.turn() {
-        Ok(counts) => {
-            push_turn(report, counts.taken, counts.accepted)?;
-            Ok(Some(counts.taken))
-        }
-        Err(fault) => {
-            push_fault(report, "turn", fault.number())?;
-            Ok(None)
-        }
+        Ok(counts) => push_turn(report, counts.taken, counts.accepted),
+        Err(fault) => push_fault(report, "turn", fault.number()),
     }
 }
 
 /// One turn, and then what each terminal hears.
 fn push_turn_of(report: &mut String, station: &mut Station) -> Result<(), NoMemory>
-    requires ready { AreReady station.old.terminals.seats.items station.old.clerk.seat }
     ensures outcome { OnOk result ((told : List ℕ)
         × OutcomeTells station.old.clerk station.new.clerk station.old.terminals.seats.items
         station.new.terminals.seats.items told
         × (string_bytes report.new ≡ string_bytes report.old ++ told)) }
     ensures building { station.new.building ≡ station.old.building }
 {
-    let taken = push_taken(report, &mut station.clerk)?;
-    station.terminals.tell_after(&mut station.clerk, taken);
+    push_taken(report, &mut station.clerk)?;
+    station.terminals.tell_all(&mut station.clerk);
     station.terminals.push_all_heard(report)
 }
 
@@ -113,7 +98,6 @@ fn carry_out(
     line: &ScriptLine,
 ) -> Result<Option<End>, NoMemory>
     requires known { IsKnown station.old.building.now line.now }
-    requires ready { AreReady station.old.terminals.seats.items station.old.clerk.seat }
     ensures tells { OnOk result ((told : List ℕ)
         × Tells station.old.building.now station.old.clerk station.new.clerk
         station.old.terminals.seats.items station.new.terminals.seats.items line.now told
@@ -159,7 +143,6 @@ pub fn push_line(
     text: &str,
     number: usize,
 ) -> Result<Option<End>, NoMemory>
-    requires ready { AreReady station.old.terminals.seats.items station.old.clerk.seat }
     ensures tells { IfOk result (λ end. (told : List ℕ)
         × LineTells station.old.building.now station.old.clerk station.new.clerk
         station.old.terminals.seats.items station.new.terminals.seats.items text.now number end

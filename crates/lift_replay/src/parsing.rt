@@ -1,7 +1,7 @@
 //! From a script's line to what it asks for.
 
 ghost use Rattle.std.specs.Prelude.{◌≡◌, ◌≢◌, ◌<◌, ◌⊎◌, ◌∷◌, ℕ, IfSome, IfNone};
-ghost use Rattle.std.specs.Prelude.{codes, IsTrue, false};
+ghost use Rattle.std.specs.Prelude.{codes};
 ghost use Rattle.std.specs.Fmt.{decimal};
 ghost use Rattle.lift_base.specs.Text.{dir_text};
 ghost use Rattle.lift_base.specs.declared.travel.Dir.{Dir as Direction};
@@ -11,7 +11,6 @@ ghost use Rattle.lift_replay.specs.declared.line.ScriptLine.{ScriptLine as Wante
 
 use crate::ask::ask_of;
 use crate::device_action::device_action_of;
-use crate::frequent::frequent;
 use crate::line::ScriptLine;
 use crate::query::query_of;
 use lift_base::text::{dir_of_word, number_up_to, words_of};
@@ -62,23 +61,6 @@ fn turn_of(words: &[&str]) -> Option<ScriptLine>
     }
 }
 
-/// Whether a text is this word of four letters. It is told without a call.
-fn is_four(text: &str, word: &[u8; 4]) -> bool
-    ensures same { IsTrue result → text.now ≡ word.now }
-    ensures other { result ≡ false → text.now ≢ word.now }
-{
-    let bytes = text.as_bytes();
-    if bytes.len() != 4 {
-        return false;
-    }
-    for i in 0..4 {
-        if bytes[i] != word[i] {
-            return false;
-        }
-    }
-    true
-}
-
 /// What a line's words ask for, by the first one.
 fn asked_by(first: &str, others: &[&str]) -> Option<ScriptLine>
     ensures { AreReadAsLine (first.now ∷ texts others.now) result }
@@ -96,10 +78,8 @@ fn asked_by(first: &str, others: &[&str]) -> Option<ScriptLine>
     Some(ScriptLine::Show(query))
 }
 
-/// What a line asks for by its words, none where it is malformed.
-// (in a frame of its own, so that no room for words is made for the most frequent lines)
-#[inline(never)]
-fn parse_words(line: &str) -> Option<ScriptLine>
+/// What a line asks for, none where it is malformed.
+pub fn parse(line: &str) -> Option<ScriptLine>
     ensures some { IfSome result (λ wanted. Spells line.now wanted) }
     ensures none { IfNone result ((wanted : Wanted) → Spells line.now wanted → ⊥) }
 {
@@ -108,19 +88,4 @@ fn parse_words(line: &str) -> Option<ScriptLine>
         [first, others @ ..] => asked_by(first, others),
         [] => None,
     }
-}
-
-/// What a line asks for, none where it is malformed.
-pub fn parse(line: &str) -> Option<ScriptLine>
-    ensures some { IfSome result (λ wanted. Spells line.now wanted) }
-    ensures none { IfNone result ((wanted : Wanted) → Spells line.now wanted → ⊥) }
-{
-    // The most frequent lines are not cut into words.
-    if is_four(line, b"turn") {
-        return Some(ScriptLine::Turn);
-    }
-    if let Some(wanted) = frequent(line.as_bytes()) {
-        return Some(wanted);
-    }
-    parse_words(line)
 }

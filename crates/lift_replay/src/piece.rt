@@ -3,19 +3,19 @@
 ghost use Rattle.std.specs.Prelude.{◌≡◌, ◌<◌, ◌++◌, List, ℕ, [], length, take, string_bytes};
 ghost use Rattle.std.specs.Prelude.{OnOk, OnErr, IfErr};
 ghost use Rattle.std.specs.Io.KnownBytes.{Appends};
-ghost use Rattle.lift_replay.specs.Writing.{FailsAtLast, TakesSomeEachCall};
+ghost use Rattle.lift_replay.specs.Writing.{FailsAtLast, TakesSomeEachCall, gone_in};
 
-use lift_base::text::{Outlet, WriteFault, put_all};
+use lift_base::text::{Outflow, WriteFault, put_all};
 
 /// A piece is written once it has this many bytes.
 const PIECE_BYTES: usize = 32_768;
 
 /// Writes a piece of whole lines, and empties it, also where the writer doesn't take all of it.
-pub fn put_piece<W: Outlet>(writer: &mut W, piece: &mut String) -> Result<(), WriteFault>
+pub fn put_piece<W: Outflow>(writer: &mut W, piece: &mut String) -> Result<(), WriteFault>
     ensures ok { OnOk result
-        (Appends (W.contents writer.old) (W.contents writer.new) (string_bytes piece.old)) }
+        (Appends (gone_in W.sent writer.old) (gone_in W.sent writer.new) (string_bytes piece.old)) }
     ensures front { IfErr result (λ fault.
-        Appends (W.contents writer.old) (W.contents writer.new)
+        Appends (gone_in W.sent writer.old) (gone_in W.sent writer.new)
         (take fault.written (string_bytes piece.old))) }
     ensures emptied { string_bytes piece.new ≡ [] }
     ensures each_call { OnOk result (TakesSomeEachCall W.gives writer.old writer.new) }
@@ -28,12 +28,12 @@ pub fn put_piece<W: Outlet>(writer: &mut W, piece: &mut String) -> Result<(), Wr
 }
 
 /// Writes a piece of whole lines, and empties it, if it is large enough.
-pub fn put_large_piece<W: Outlet>(writer: &mut W, piece: &mut String) -> Result<(), WriteFault>
+pub fn put_large_piece<W: Outflow>(writer: &mut W, piece: &mut String) -> Result<(), WriteFault>
     ensures ok { OnOk result ((written : List ℕ)
-        × Appends (W.contents writer.old) (W.contents writer.new) written
+        × Appends (gone_in W.sent writer.old) (gone_in W.sent writer.new) written
         × (string_bytes piece.old ≡ written ++ string_bytes piece.new)) }
     ensures front { IfErr result (λ fault.
-        Appends (W.contents writer.old) (W.contents writer.new)
+        Appends (gone_in W.sent writer.old) (gone_in W.sent writer.new)
         (take fault.written (string_bytes piece.old))) }
     ensures small { OnOk result (length (string_bytes piece.new) < 32768) }
     ensures emptied { OnErr result (string_bytes piece.new ≡ []) }

@@ -13,8 +13,8 @@ use std::alloc::Global;
 use std::marker::Model;
 
 /// Evidence that no memory was left. Only the calls below make one, each where a growth was refused
-/// it.
-#[derive(Clone, Copy, PartialEq, Eq)]
+/// it. Nobody can copy it: so each answer uses up a refusal.
+#[derive(Drop, PartialEq, Eq)]
 pub struct NoMemory {
     made: (),
 }

@@ -268,18 +268,11 @@ pub fn push_turn(report: &mut String, taken: usize, accepted: usize) -> Result<(
     ensures { OnOk result (string_bytes report.new ≡ string_bytes report.old
         ++ turn_text taken accepted) }
 {
-    // The most frequent lines are one piece.
-    match (taken, accepted) {
-        (1, 1) => add(report, "turn 1 1\n"),
-        (1, 0) => add(report, "turn 1 0\n"),
-        _ => {
-            add(report, "turn ")?;
-            push_number(report, taken as u64)?;
-            add_char(report, ' ')?;
-            push_number(report, accepted as u64)?;
-            add_char(report, '\n')
-        }
-    }
+    add(report, "turn ")?;
+    push_number(report, taken as u64)?;
+    add_char(report, ' ')?;
+    push_number(report, accepted as u64)?;
+    add_char(report, '\n')
 }
 
 /// Adds what a call would cost a car to the line of costs.

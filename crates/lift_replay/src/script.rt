@@ -9,9 +9,11 @@ ghost use Rattle.lift_replay.specs.Report.{AppendsPrefix, Reports, building_text
 ghost use Rattle.lift_replay.specs.Group.{first_group};
 ghost use Rattle.lift_replay.specs.Running.{TellsLines, TellsPart};
 ghost use Rattle.lift_replay.specs.Replaying.{IsTextReport, ReportsPrefix, ReportsInput};
+ghost use Rattle.lift_replay.specs.Replaying.{ReportsPrefixOfWhatCame, ReportsWhatCame};
 ghost use Rattle.lift_replay.specs.Replaying.{WritesReport, WritesPrefix};
 ghost use Rattle.lift_replay.specs.Source.{lines_in};
-ghost use Rattle.lift_replay.specs.Writing.{IsCalled, WritesPieces, of_input};
+ghost use Rattle.lift_replay.specs.Writing.{GoesInto, IsCalled, WritesPieces, failures_after};
+ghost use Rattle.lift_replay.specs.Writing.{gone_in, of_input};
 ghost use Rattle.lift_replay.specs.declared.script.ReplayFault.TheVariants.{Memory as Wanting};
 ghost use Rattle.lift_replay.specs.declared.script.ReplayFault.TheVariants.{Write as NoOutput};
 
@@ -23,13 +25,13 @@ use crate::report::push_building_fault;
 use crate::segment::{SegmentEnd, add_segment};
 use crate::source::{Lines, split_script};
 use crate::station::first_disk;
-use lift_base::text::{Counted, Outlet, WriteFault, put_all};
+use lift_base::text::{Counted, Outflow, WriteFault, put_all};
 use lift_building::{Building, BuildingFault};
 use std::alloc::Global;
 use std::io::Read;
 
 /// Why a script was not carried out to its end.
-#[derive(Clone, Copy, PartialEq, Eq)]
+#[derive(Drop, PartialEq, Eq)]
 pub enum ReplayFault {
     /// A growth was refused.
     Memory(NoMemory),
@@ -73,21 +75,21 @@ pub const MOST_BYTES: usize = 1_048_576;
 pub const MOST_CALLS: u32 = 2_097_152;
 
 /// A report of one line, for a script of which nothing is carried out.
-fn refuse<W: Outlet>(writer: &mut W, report: &str) -> Result<Verdict, ReplayFault>
+fn refuse<W: Outflow>(writer: &mut W, report: &str) -> Result<Verdict, ReplayFault>
     ensures output { result ≢ Err ReplayFault.Read }
     ensures calls { IsCalled W.gives writer.old writer.new result }
     ensures cause { result ≢ Err (ReplayFault.Memory tt) }
     ensures not_good { result ≢ Ok Verdict.Good }
-    ensures bad { OnOk result (Appends (W.contents writer.old) (W.contents writer.new) report.now) }
+    ensures bad { OnOk result (Appends (gone_in W.sent writer.old) (gone_in W.sent writer.new) report.now) }
     ensures front { OnErr result
-        (AppendsPrefix (W.contents writer.old) (W.contents writer.new) report.now) }
+        (AppendsPrefix (gone_in W.sent writer.old) (gone_in W.sent writer.new) report.now) }
 {
     put_all(writer, report.as_bytes())?;
     Ok(Verdict::Bad)
 }
 
 /// Why the building is refused, as the report says it.
-fn refuse_building<W: Outlet>(
+fn refuse_building<W: Outflow>(
     alloc: Global,
     writer: &mut W,
     fault: BuildingFault,
@@ -97,12 +99,12 @@ fn refuse_building<W: Outlet>(
     ensures not_good { result ≢ Ok Verdict.Good }
     ensures memory { fault ≡ BuildingFault.Memory tt → result ≡ Err (ReplayFault.Memory tt) }
     ensures silent { result ≡ Err (ReplayFault.Memory tt)
-        → W.contents writer.new ≡ W.contents writer.old }
+        → gone_in W.sent writer.new ≡ gone_in W.sent writer.old }
     ensures bad { OnOk result ((fault ≢ BuildingFault.Memory tt)
-        × Appends (W.contents writer.old) (W.contents writer.new) (building_text fault)) }
-    ensures front { OnErr result ((W.contents writer.new ≡ W.contents writer.old)
+        × Appends (gone_in W.sent writer.old) (gone_in W.sent writer.new) (building_text fault)) }
+    ensures front { OnErr result ((gone_in W.sent writer.new ≡ gone_in W.sent writer.old)
         ⊎ ((fault ≢ BuildingFault.Memory tt)
-        × AppendsPrefix (W.contents writer.old) (W.contents writer.new) (building_text fault))) }
+        × AppendsPrefix (gone_in W.sent writer.old) (gone_in W.sent writer.new) (building_text fault))) }
 {
     if let BuildingFault::Memory(no_memory) = fault {
         return Err(ReplayFault::Memory(NoMemory::for_building(no_memory)));
@@ -114,7 +116,7 @@ fn refuse_building<W: Outlet>(
 
 /// Carries out the lines, segment by segment: over a formatted device up to the first power cut,
 /// and then over what each cut left.
-fn add_segments<W: Outlet>(
+fn add_segments<W: Outflow>(
     alloc: Global,
     building: &Building,
     text: &str,
@@ -126,11 +128,11 @@ fn add_segments<W: Outlet>(
     ensures tells { IfOk result (λ verdict.
         (added : List ℕ) × TellsLines building.now 0 (first_group building.now)
         (lines_in text.now) added verdict
-        × Reports (W.contents writer.old) (W.contents writer.new) (string_bytes piece.old)
+        × Reports (gone_in W.sent writer.old) (gone_in W.sent writer.new) (string_bytes piece.old)
         (string_bytes piece.new) added) }
     ensures front { OnErr result
         (TellsPart building.now 0 (first_group building.now) (lines_in text.now)
-        (W.contents writer.old) (W.contents writer.new) (string_bytes piece.old)
+        (gone_in W.sent writer.old) (gone_in W.sent writer.new) (string_bytes piece.old)
         (string_bytes piece.new)) }
 {
     let mut lines = Lines::new(text);
@@ -156,7 +158,7 @@ fn add_segments<W: Outlet>(
 
 /// Carries out the lines, and writes what they report, up to the end or to the line that ended the
 /// run.
-fn run_lines<W: Outlet>(
+fn run_lines<W: Outflow>(
     alloc: Global,
     building: &Building,
     lines: &str,
@@ -166,10 +168,10 @@ fn run_lines<W: Outlet>(
     ensures calls { IsCalled W.gives writer.old writer.new result }
     ensures tells { IfOk result (λ verdict.
         WritesReport (TellsLines building.now 0 (first_group building.now) (lines_in lines.now))
-        (W.contents writer.old) (W.contents writer.new) verdict) }
+        (gone_in W.sent writer.old) (gone_in W.sent writer.new) verdict) }
     ensures front { OnErr result
         (WritesPrefix (TellsLines building.now 0 (first_group building.now) (lines_in lines.now))
-        (W.contents writer.old) (W.contents writer.new)) }
+        (gone_in W.sent writer.old) (gone_in W.sent writer.new)) }
 {
     let mut piece = empty_piece(alloc)?;
     let end = add_segments(alloc, building, lines, &mut piece, writer);
@@ -178,14 +180,14 @@ fn run_lines<W: Outlet>(
 }
 
 /// Carries out a script that has come whole.
-fn run_text<W: Outlet>(alloc: Global, text: &str, writer: &mut W) -> Result<Verdict, ReplayFault>
+fn run_text<W: Outflow>(alloc: Global, text: &str, writer: &mut W) -> Result<Verdict, ReplayFault>
     ensures output { result ≢ Err ReplayFault.Read }
     ensures calls { IsCalled W.gives writer.old writer.new result }
     ensures tells { IfOk result (λ verdict.
-        WritesReport (IsTextReport text.now) (W.contents writer.old) (W.contents writer.new)
+        WritesReport (IsTextReport text.now) (gone_in W.sent writer.old) (gone_in W.sent writer.new)
         verdict) }
     ensures front { OnErr result
-        (WritesPrefix (IsTextReport text.now) (W.contents writer.old) (W.contents writer.new)) }
+        (WritesPrefix (IsTextReport text.now) (gone_in W.sent writer.old) (gone_in W.sent writer.new)) }
 {
     let Some((building, lines)) = split_script(alloc, text)? else {
         return refuse(writer, "NO SCRIPT\n");
@@ -201,7 +203,7 @@ fn run_text<W: Outlet>(alloc: Global, text: &str, writer: &mut W) -> Result<Verd
 /// nothing was written, and after `Memory` or `Write` a prefix of the report.
 // (not inlined, so that a program's other commands have no frame of its locals)
 #[inline(never)]
-pub fn run<R: Read + Drop, W: Outlet>(
+pub fn run<R: Read + Drop, W: Outflow>(
     alloc: Global,
     input: &mut Counted<R>,
     writer: &mut W,
@@ -217,11 +219,21 @@ pub fn run<R: Read + Drop, W: Outlet>(
     ensures front { OnErr result
         (ReportsPrefix (R.remaining input.old.reader) (W.contents writer.old)
         (W.contents writer.new)) }
+    // Of every reader and writer that is the report of the bytes which came, in those that were taken.
+    ensures came { IfOk result (λ verdict.
+        ReportsWhatCame input.old.came input.new.came (gone_in W.sent writer.old)
+        (gone_in W.sent writer.new) verdict) }
+    ensures came_front { OnErr result
+        (ReportsPrefixOfWhatCame input.old.came input.new.came (gone_in W.sent writer.old)
+        (gone_in W.sent writer.new)) }
+    ensures goes { GoesInto W.sent W.contents writer.old writer.new }
     ensures unwritten { result ≡ Err ReplayFault.Read
         → W.contents writer.new ≡ W.contents writer.old }
     // The writer is the fault where one of its calls failed, and nowhere else; that call was the
     // last.
     ensures writes { IsCalled W.gives writer.old writer.new result }
+    ensures failures { (W.sent writer.new).failures
+        ≡ failures_after result (W.sent writer.old).failures }
     ensures unread { result ≡ Err ReplayFault.Read
         → LeavesUnread most_bytes most_calls R.remaining input.old input.new }
     ensures failed { input.new.failed ≡ true → result ≡ Err ReplayFault.Read }

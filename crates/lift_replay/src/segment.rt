@@ -9,9 +9,9 @@ ghost use Rattle.lift_replay.specs.Lines.{LineTells};
 ghost use Rattle.lift_replay.specs.Report.{Reports, ReportsPart, start_text};
 ghost use Rattle.lift_replay.specs.Running.{LinesEnd, SegmentEnds, TellsPart, TellsPartAfter};
 ghost use Rattle.lift_replay.specs.Segment.{IfCut, IsPowerCut};
-ghost use Rattle.lift_replay.specs.Shows.{AreReady, IsFound, Shows};
+ghost use Rattle.lift_replay.specs.Shows.{IsFound, Shows};
 ghost use Rattle.lift_replay.specs.Source.{lines_in};
-ghost use Rattle.lift_replay.specs.Writing.{WritesPieces};
+ghost use Rattle.lift_replay.specs.Writing.{WritesPieces, gone_in};
 
 use crate::lines::{End, Verdict, push_line};
 use crate::piece::put_large_piece;
@@ -20,7 +20,7 @@ use crate::report::push_cut;
 use crate::script::ReplayFault;
 use crate::source::Lines;
 use crate::station::{Station, keeper_over};
-use lift_base::text::Outlet;
+use lift_base::text::Outflow;
 use lift_building::Building;
 use lift_desk::DeskParts;
 use lift_disk::{FuseDisk, MemDisk};
@@ -44,7 +44,6 @@ fn add_line(
     line: &str,
     number: usize,
 ) -> Result<Option<End>, NoMemory>
-    requires ready { AreReady station.old.terminals.seats.items station.old.clerk.seat }
     ensures tells { IfOk result (λ end. (told : List ℕ)
         × LineTells station.old.building.now station.old.clerk station.new.clerk
         station.old.terminals.seats.items station.new.terminals.seats.items line.now number end
@@ -63,13 +62,12 @@ fn add_line(
 /// Carries out lines up to a power cut or to the end of the run, and adds what each reports to a
 /// piece of the report, which is written once it is large enough. What is left in the piece is of
 /// whole lines.
-fn add_lines<W: Outlet>(
+fn add_lines<W: Outflow>(
     station: &mut Station,
     lines: &mut Lines,
     piece: &mut String,
     writer: &mut W,
 ) -> Result<End, ReplayFault>
-    requires ready { AreReady station.old.terminals.seats.items station.old.clerk.seat }
     requires small { length (string_bytes piece.old) < 32768 }
     ensures writes { WritesPieces W.gives writer.old writer.new (string_bytes piece.new) result }
     // No more is held back than that, but for the line that ends a bad script.
@@ -81,12 +79,12 @@ fn add_lines<W: Outlet>(
         → (added : List ℕ) × LinesEnd station.old.building.now lines.old.count g
         (lines_in lines.old.rest.now) added lines.new.count (lines_in lines.new.rest.now)
         station.new.clerk station.new.terminals.seats.items end
-        × Reports (W.contents writer.old) (W.contents writer.new) (string_bytes piece.old)
+        × Reports (gone_in W.sent writer.old) (gone_in W.sent writer.new) (string_bytes piece.old)
         (string_bytes piece.new) added) }
     ensures front { OnErr result ((g : ScriptGroup)
         → Shows station.old.building.now g station.old.clerk station.old.terminals.seats.items
         → TellsPart station.old.building.now lines.old.count g (lines_in lines.old.rest.now)
-        (W.contents writer.old) (W.contents writer.new) (string_bytes piece.old)
+        (gone_in W.sent writer.old) (gone_in W.sent writer.new) (string_bytes piece.old)
         (string_bytes piece.new)) }
     ensures shorter { OnOk result (length lines.new.rest.now ≤ length lines.old.rest.now) }
     ensures cut { IfOk result (λ end. IsPowerCut end
@@ -108,7 +106,7 @@ fn add_lines<W: Outlet>(
 }
 
 /// Adds to the piece, after a power cut, how many calls are open.
-fn add_cut<W: Outlet>(
+fn add_cut<W: Outflow>(
     alloc: Global,
     is_after_cut: bool,
     calls: u32,
@@ -119,10 +117,10 @@ fn add_cut<W: Outlet>(
     ensures writes { WritesPieces W.gives writer.old writer.new (string_bytes piece.new) result }
     ensures small { OnOk result (length (string_bytes piece.new) < 32768) }
     ensures reports { OnOk result
-        (Reports (W.contents writer.old) (W.contents writer.new) (string_bytes piece.old)
+        (Reports (gone_in W.sent writer.old) (gone_in W.sent writer.new) (string_bytes piece.old)
         (string_bytes piece.new) (start_text is_after_cut calls)) }
     ensures front { OnErr result
-        (ReportsPart (W.contents writer.old) (W.contents writer.new) (string_bytes piece.old)
+        (ReportsPart (gone_in W.sent writer.old) (gone_in W.sent writer.new) (string_bytes piece.old)
         (string_bytes piece.new) (start_text is_after_cut calls)) }
 {
     if !is_after_cut {
@@ -139,7 +137,7 @@ fn add_cut<W: Outlet>(
 /// first reports how many calls are open.
 // (not inlined: its frame then lies where that of the station's making was)
 #[inline(never)]
-fn run_station<W: Outlet>(
+fn run_station<W: Outflow>(
     alloc: Global,
     station: Station,
     is_after_cut: bool,
@@ -147,7 +145,6 @@ fn run_station<W: Outlet>(
     piece: &mut String,
     writer: &mut W,
 ) -> Result<SegmentEnd, ReplayFault>
-    requires ready { AreReady station.terminals.seats.items station.clerk.seat }
     requires small { length (string_bytes piece.old) < 32768 }
     ensures writes { WritesPieces W.gives writer.old writer.new (string_bytes piece.new) result }
     // What they report is what is computed, of whichever group the station shows.
@@ -155,7 +152,7 @@ fn run_station<W: Outlet>(
         → Shows station.entry.building.now g station.entry.clerk station.entry.terminals.seats.items
         → (added : List ℕ) × SegmentEnds station.entry.building.now lines.old.count g
         (lines_in lines.old.rest.now) added lines.new.count (lines_in lines.new.rest.now) end
-        × Reports (W.contents writer.old) (W.contents writer.new) (string_bytes piece.old)
+        × Reports (gone_in W.sent writer.old) (gone_in W.sent writer.new) (string_bytes piece.old)
         (string_bytes piece.new)
         (start_text is_after_cut (open_count station.entry.clerk.keeper.state.register) ++ added)) }
     ensures front { OnErr result ((g : ScriptGroup)
@@ -163,7 +160,7 @@ fn run_station<W: Outlet>(
         → TellsPartAfter
         (start_text is_after_cut (open_count station.entry.clerk.keeper.state.register))
         station.entry.building.now lines.old.count g (lines_in lines.old.rest.now)
-        (W.contents writer.old) (W.contents writer.new) (string_bytes piece.old)
+        (gone_in W.sent writer.old) (gone_in W.sent writer.new) (string_bytes piece.old)
         (string_bytes piece.new)) }
     ensures cut { IfOk result (λ end.
         IfCut end (length lines.new.rest.now < length lines.old.rest.now)) }
@@ -183,7 +180,7 @@ fn run_station<W: Outlet>(
 /// calls are open.
 // (not inlined: its frame then lies where that of the building's reading was)
 #[inline(never)]
-pub fn add_segment<W: Outlet>(
+pub fn add_segment<W: Outflow>(
     alloc: Global,
     building: &Building,
     disk: MemDisk,
@@ -201,13 +198,13 @@ pub fn add_segment<W: Outlet>(
         → (added : List ℕ) × SegmentEnds building.now lines.old.count
         (recovered building.now found) (lines_in lines.old.rest.now) added lines.new.count
         (lines_in lines.new.rest.now) end
-        × Reports (W.contents writer.old) (W.contents writer.new) (string_bytes piece.old)
+        × Reports (gone_in W.sent writer.old) (gone_in W.sent writer.new) (string_bytes piece.old)
         (string_bytes piece.new) (start_text is_after_cut (open_count found.register) ++ added)) }
     ensures front { OnErr result ((found : Found)
         → IsFound building.now found (state_of disk).image
         → TellsPartAfter (start_text is_after_cut (open_count found.register)) building.now
         lines.old.count (recovered building.now found) (lines_in lines.old.rest.now)
-        (W.contents writer.old) (W.contents writer.new) (string_bytes piece.old)
+        (gone_in W.sent writer.old) (gone_in W.sent writer.new) (string_bytes piece.old)
         (string_bytes piece.new)) }
     ensures cut { IfOk result (λ end.
         IfCut end (length lines.new.rest.now < length lines.old.rest.now)) }

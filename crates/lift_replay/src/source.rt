@@ -1,11 +1,10 @@
 //! The text of a script: its building, and its lines.
 
 ghost use Rattle.std.specs.Prelude.{◌≡◌, ◌≢◌, ◌<◌, ◌≤◌, ◌+◌, ◌^◌, ◌∷◌, ◌++◌, [], All, length};
-ghost use Rattle.std.specs.Prelude.{string_bytes, codes, IfSome, IfNone, IfOk};
+ghost use Rattle.std.specs.Prelude.{string_bytes, IfSome, IfNone, IfOk};
 ghost use Rattle.std.specs.Str.Lines.{lines, strip_carriage_return};
 ghost use Rattle.lift_replay.specs.Source.{IsScript, LacksDivider};
 
-use crate::frequent::after_prefix;
 use crate::refused::{NoMemory, add, add_char};
 use memchr::memchr;
 use std::alloc::Global;
@@ -19,14 +18,6 @@ fn split_at_end(text: &str) -> Option<(&str, &str)>
 {
     let place = memchr(b'\n', text.as_bytes())?;
     Some((&text[..place], &text[place + 1..]))
-}
-
-/// What stands after a turn, none where the text doesn't begin with one.
-fn text_after_turn(text: &str) -> Option<&str>
-    ensures { IfSome result (λ rest. text.now ≡ codes "turn\n" ++ rest.now) }
-{
-    after_prefix(text.as_bytes(), b"turn\n")?;
-    Some(&text[5..])
 }
 
 /// The line without the carriage return that it may end with.
@@ -50,10 +41,6 @@ fn next_line(text: &str) -> Option<(&str, &str)>
 {
     if text.is_empty() {
         return None;
-    }
-    // The most frequent line is found without a search.
-    if let Some(later) = text_after_turn(text) {
-        return Some(("turn", later));
     }
     match split_at_end(text) {
         None => Some((text, "")),

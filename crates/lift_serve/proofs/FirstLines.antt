@@ -38,15 +38,6 @@ kiosk_words cars kiosks words word is terminal (inl (other, said, names)) =
 kiosk_words cars kiosks words word is terminal (inr (other, said, names)) =
     absurd (let both : codes "CAR" ∷ other ∷ [] ≡ codes "KIOSK" ∷ word ∷ [] = sym said ∙ is in cc)
 
-car_words : (cars kiosks : ℕ) (words : List (List ℕ)) (word : List ℕ) → words ≡ codes "CAR" ∷ word ∷ [] → (terminal : ℕ)
-    → AreTerminalWords cars kiosks words terminal → IsCarWord cars word terminal
-car_words cars kiosks words word is terminal (inr (other, said, names)) =
-    let both : codes "CAR" ∷ other ∷ [] ≡ codes "CAR" ∷ word ∷ [] = sym said ∙ is in
-    let same : other ≡ word = cc in
-    subst (λ w. IsCarWord cars w terminal) same names
-car_words cars kiosks words word is terminal (inl (other, said, names)) =
-    absurd (let both : codes "KIOSK" ∷ other ∷ [] ≡ codes "CAR" ∷ word ∷ [] = sym said ∙ is in cc)
-
 pub kiosk_some : (r : Option ℕ) (cars kiosks : ℕ) (words : List (List ℕ)) (word : List ℕ) → words ≡ codes "KIOSK" ∷ word ∷ []
     → IfSome r (λ terminal. IsKioskWord kiosks word terminal) → IfSome r (λ terminal. AreTerminalWords cars kiosks words terminal)
 kiosk_some None cars kiosks words word is some = tt
@@ -61,11 +52,6 @@ pub car_some : (r : Option ℕ) (cars kiosks : ℕ) (words : List (List ℕ)) (w
     → IfSome r (λ terminal. IsCarWord cars word terminal) → IfSome r (λ terminal. AreTerminalWords cars kiosks words terminal)
 car_some None cars kiosks words word is some = tt
 car_some (Some terminal) cars kiosks words word is some = inr (word, is, some)
-
-pub car_none : (r : Option ℕ) (cars kiosks : ℕ) (words : List (List ℕ)) (word : List ℕ) → words ≡ codes "CAR" ∷ word ∷ []
-    → IfNone r ((terminal : ℕ) → IsCarWord cars word terminal → ⊥) → IfNone r ((terminal : ℕ) → AreTerminalWords cars kiosks words terminal → ⊥)
-car_none r cars kiosks words word is none =
-    none_weaker r _ _ (λ refuses terminal names. refuses terminal (car_words cars kiosks words word is terminal names)) none
 
 pub line_some : (r : Option ℕ) (cars kiosks : ℕ) (line : List ℕ) (words : List (List ℕ)) → AreWords line words → length line ≤ 64
     → IfSome r (λ terminal. AreTerminalWords cars kiosks words terminal) → IfSome r (λ terminal. SpeaksFor cars kiosks line terminal)

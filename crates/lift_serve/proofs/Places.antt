@@ -1,5 +1,5 @@
 -- Places of which nobody's seat is taken.
-use Rattle.std.proofs.Common.{◌≡◌, ℕ, suc, zero, List, [], ◌∷◌, ◌++◌, ap, ap₂, sym, refl, ◌∙◌, inl, inr, length, length-set, subst, arith}
+use Rattle.std.proofs.Common.{◌≡◌, ℕ, suc, zero, List, [], ◌∷◌, ◌++◌, ap, sym, refl, ◌∙◌, inl, inr, length, length-set, subst, arith}
 use Rattle.std.specs.Prelude.{Option, Some, None, slice_get, slice_set, ◌⊎◌, ◌+◌, ◌≤◌}
 use Rattle.std.proofs.lemmas.List.{append-nil}
 use Rattle.atomic_table.specs.Seated.{TableId}
@@ -75,17 +75,6 @@ next_terminal first (table ∷ desk) [] seat rest is =
 next_terminal first (table ∷ desk) (one ∷ before) seat rest is =
     let behind : before ++ seat ∷ rest ≡ seats_from (suc first) desk = cc in
     next_terminal (suc first) desk before seat rest behind ∙ omega arith
-
-all_found_more : (register : RegisterState) (desk : List TableId) (before : List TerminalSeat) (seat : TerminalSeat)
-    → found_seats register desk before ++ Some (found_at register desk seat) ∷ [] ≡ found_seats register desk (before ++ seat ∷ [])
-all_found_more register desk [] seat = refl
-all_found_more register desk (one ∷ before) seat = ap (λ (l : List (Option HeldState)). Some (found_at register desk one) ∷ l) (all_found_more register desk before seat)
-
--- one seat more was received
-pub one_found_more : (register : RegisterState) (desk : List TableId) (before : List TerminalSeat) (seat : TerminalSeat) (held : HeldState) (places places' : List (Option HeldState))
-    → places ≡ found_seats register desk before → held ≡ found_at register desk seat → places' ≡ places ++ Some held ∷ [] → places' ≡ found_seats register desk (before ++ seat ∷ [])
-one_found_more register desk before seat held places places' are is more =
-    more ∙ (ap₂ (λ (l : List (Option HeldState)) (h : HeldState). l ++ Some h ∷ []) are is ∙ all_found_more register desk before seat)
 
 so_many : (register : RegisterState) (desk : List TableId) (seats : List TerminalSeat) → length (found_seats register desk seats) ≡ length seats
 so_many register desk [] = refl

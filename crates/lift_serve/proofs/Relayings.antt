@@ -1,37 +1,39 @@
 -- What a run of both parts leaves for the clerk of them.
-use Rattle.std.proofs.Common.{◌≡◌, ◌≢◌, ℕ, ◌||◌, true, false, List, [], Option, Some, None, refl, sym, ap, subst, ◌∙◌}
+use Rattle.std.proofs.Common.{◌≡◌, ◌≢◌, ℕ, ◌||◌, Bool, true, false, List, [], Option, Some, None, option_map, refl, sym, ap, subst, ◌∙◌, inl}
 use Rattle.std.specs.Prelude.{is_ok, is_err, Result, Ok, Err, IfSome, IsErr, IsSome}
 use Rattle.std.proofs.Math.Logic.{∥∥₁_map}
 use Rattle.lift_base.specs.declared.history.Entry.{Entry}
-use Rattle.lift_disk.specs.Disk.{DiskState}
+use Rattle.lift_disk.specs.Disk.{DiskState, LeavesNow}
 use Rattle.lift_register.specs.Register.{RegisterState}
 use Rattle.lift_policy.specs.Eligible.{Choice}
 use Rattle.lift_desk.specs.Seats.{clerk_of}
 use Rattle.lift_keeper.specs.declared.fault.KeeperFault.{KeeperFault}
+use Rattle.lift_keeper.specs.Images.{IsImageOf, IsInDoubt}
+use Rattle.lift_keeper.specs.Keeper.{KeeperView}
 use Rattle.lift_keeper.specs.Writer.{WriterView}
 use Rattle.lift_world.specs.declared.event.Taken.{Taken}
-use Rattle.lift_clerk.specs.declared.counts.Counts.{Counts}
 use Rattle.lift_clerk.specs.Clerk.{ClerkState}
 use Rattle.lift_clerk.specs.History.{History}
-use Rattle.lift_clerk.specs.Once.{TurnsOnce}
+use Rattle.lift_clerk.specs.Keeping.{LeavesSafe}
 use Rattle.lift_clerk.specs.Steps.{group_of}
 use Rattle.lift_relay.specs.declared.pair.RunFault.{RunFault}
 use Rattle.lift_relay.specs.declared.pair.RunFault.TheVariants.{Keeper, Spawn}
 use Rattle.lift_parts.specs.Allocator.{AllocatorState}
 use Rattle.lift_relay.specs.Heard.{FailureHeard}
 use Rattle.lift_relay.specs.Pair.{HaveRun}
-use Rattle.lift_relay.specs.lemmas.Heard.{heard_on, turns_stay}
+use Rattle.lift_relay.specs.lemmas.Heard.{turns_stay}
+use Rattle.lift_parts.specs.declared.counts.FlushCounts.{FlushCounts}
 use Rattle.lift_parts.specs.Flusher.{FlusherState, IsFlusher}
 use Rattle.lift_parts.specs.Keeping.{HaveKept, TurnsKeep}
-use Rattle.lift_parts.specs.History.{JoinedGoOn, group_after}
-use Rattle.lift_parts.specs.Parts.{AreParts, AreOfOne}
-use Rattle.lift_parts.specs.Turns.{AllocatorTurns, NoMore, FlusherTurns, NoFlush, OneFlush, first_of}
+use Rattle.lift_parts.specs.History.{group_after}
+use Rattle.lift_parts.specs.Parts.{AreParts, AreOfOne, IsRejoined}
+use Rattle.lift_parts.specs.Turns.{AllocatorTurns, NoMore, FlusherTurns, IsFlush, NoFlush, OneFlush, first_of}
 use Rattle.lift_parts.specs.lemmas.Paired.{same_allocator, turns_joined, flushes_joined}
 use Rattle.lift_serve.specs.declared.serving.ServeFault.{ServeFault}
 use Rattle.lift_serve.specs.declared.serving.ServeFault.TheVariants.{Thread}
 use Rattle.std.specs.declared.net.tcp.TcpListener.{TcpListener as Listener}
 use Rattle.lift_serve.specs.Open.{AreEndedAt, EndedState, IsEndAt, ended_in, told_after}
-use Rattle.lift_serve.specs.Relaying.{ComeOf, HaveRunOrNot, IsLastTurn, KeptInParts, RanInParts, has_failed}
+use Rattle.lift_serve.specs.Relaying.{ComeOf, HaveRunOrNot, RanInParts, has_failed}
 
 abbrev is_spawn : Option RunFault → Type 0
 is_spawn None = ⊥
@@ -60,26 +62,39 @@ module _ {D P : Type 0} (choice : Choice) (state : D → DiskState) (before : Cl
       ap (λ (x : AllocatorState P). x.end.sent) (run.refused refl).0 ∙ parts.nothing_sent.0
       ∙ sym (ap (λ (x : FlusherState D). x.end.received) (run.refused refl).1 ∙ parts.nothing_sent.2)
 
-  -- a flusher that failed is broken, and so is its clerk, whose turn fails
-  ends_broken : (old : ClerkState D P) (after : ClerkState D P) (of : Choice) (result : Result Counts KeeperFault) → TurnsOnce state of old after result → after.keeper.writer.is_broken ≡ is_err result
-  ends_broken old after of (Ok counts) once = once.commits.is.stays.0
-  ends_broken old after of (Err fault) once = once.commits.is.breaks
+-- A flusher without a fault is broken where it was.
+of_answer : (first : Option KeeperFault) (answer : Result FlushCounts KeeperFault) → first_of first answer ≡ None → (first ≡ None) × (is_err answer ≡ false)
+of_answer None (Ok counts) none = (refl, refl)
+of_answer None (Err fault) none = absurd (let other : Some fault ≡ None = none in cc)
+of_answer (Some fault) answer none = absurd (let other : Some fault ≡ None = none in cc)
 
-  stays_broken : (old : ClerkState D P) (after : ClerkState D P) (of : Choice) (result : Result Counts KeeperFault) → TurnsOnce state of old after result → old.keeper.writer.is_broken ≡ true → is_err result ≡ true
-  stays_broken old after of (Ok counts) once broken = absurd (let other = once.commits.is.broken.1 broken in cc)
-  stays_broken old after of (Err fault) once broken = refl
+stays_whole : (a b : Bool) → (a ≡ true → b ≡ true) → b ≡ false → b ≡ a
+stays_whole false b stays whole = whole
+stays_whole true b stays whole = stays refl
 
-  breaks : (chooses : P → Choice) (fault : Option RunFault) (after : ClerkState D P) → HaveRunOrNot choice state a b f g fault → (last : IsLastTurn chooses state b g after)
-      → after.keeper.writer.is_broken ≡ (has_failed fault || is_err last.result)
-  breaks chooses None after run last = ends_broken last.joined after (chooses last.joined.policy) last.result last.turn
-  breaks chooses (Some (Spawn no_thread)) after run last = ends_broken last.joined after (chooses last.joined.policy) last.result last.turn
-  breaks chooses (Some (Keeper of)) after run last =
-      ends_broken last.joined after (chooses last.joined.policy) last.result last.turn
-      ∙ stays_broken last.joined after (chooses last.joined.policy) last.result last.turn
-      (ap (λ (w : WriterView D). w.is_broken) last.rejoined.writer ∙ run.broken of refl)
+module _ {D : Type 0} (state : D → DiskState) where
+  is_whole : (f g : FlusherState D) (answer : Result FlushCounts KeeperFault) → IsFlush state f g answer → is_err answer ≡ false → g.writer.is_broken ≡ false
+  is_whole f g (Ok counts) flush good = flush.commits.stays.0
+  is_whole f g (Err fault) flush good = absurd (let other : true ≡ false = good in cc)
+
+  breaks_nothing : (f g : FlusherState D) (first last : Option KeeperFault) → FlusherTurns state f first g last → last ≡ None → g.writer.is_broken ≡ f.writer.is_broken
+  breaks_nothing f g first last NoFlush none = refl
+  breaks_nothing f h before last (OneFlush {g = g} {first = first} {answer = answer} more flush is) none =
+      let good = of_answer first answer (sym is ∙ none) in
+      stays_whole f.writer.is_broken h.writer.is_broken (turns_stay state f h before last (OneFlush more flush is)) (is_whole g h answer flush good.1)
+
+none_first : (first : Option KeeperFault) → nothing ≡ option_map (λ (of : KeeperFault). Keeper of) first → first ≡ None
+none_first None is = refl
+none_first (Some of) is = absurd (let other : nothing ≡ Some (Keeper of) = is in cc)
+
+module _ {D P : Type 0} (choice : Choice) (state : D → DiskState) (a b : AllocatorState P) (f g : FlusherState D) where
+  breaks : (fault : Option RunFault) → HaveRunOrNot choice state a b f g fault → g.writer.is_broken ≡ (has_failed fault || f.writer.is_broken)
+  breaks None run = let ran = run.ran no_fault in breaks_nothing state f g None ran.first ran.flusher (none_first ran.first ran.is_first)
+  breaks (Some (Spawn no_thread)) run = ap (λ (x : FlusherState D). x.writer.is_broken) (run.refused refl).1
+  breaks (Some (Keeper of)) run = run.broken of refl
 
 -- What was answered before is kept by the turns that both parts had, if they had any.
-module _ {D P : Type 0} (chooses : P → Choice) (state : D → DiskState) (law : TurnsKeep D state) (joins : JoinedGoOn D P) (before : ClerkState D P) (a b : AllocatorState P) (f g : FlusherState D)
+module _ {D P : Type 0} (chooses : P → Choice) (state : D → DiskState) (law : TurnsKeep D state) (a b : AllocatorState P) (f g : FlusherState D)
     (base : RegisterState) (safe : List Entry) (given : List Taken) (history : History base (group_after f) safe given) where
   kept_run : (fault : Option RunFault) → HaveRun (chooses a.policy) state a b f g fault → HaveKept state base f g safe given
   kept_run fault run = law f g None run.first base safe given history run.flusher
@@ -88,22 +103,6 @@ module _ {D P : Type 0} (chooses : P → Choice) (state : D → DiskState) (law 
   kept_on None run = kept_run None (run.ran no_fault)
   kept_on (Some (Keeper of)) run = kept_run (Some (Keeper of)) (run.ran (not_spawn of))
   kept_on (Some (Spawn no_thread)) run = subst (λ (x : FlusherState D). HaveKept state base f x safe given) (sym (run.refused refl).1) (law f f None None base safe given history NoFlush)
-
-  kept_relay : (fault : Option RunFault) (after : ClerkState D P) → HaveRunOrNot (chooses a.policy) state a b f g fault → (last : IsLastTurn chooses state b g after)
-      → KeptInParts chooses state b f g after last base safe given
-  kept_relay fault after run last =
-      let k = kept_on fault run in
-      let r = last.rejoined in
-      let x = last.advances.adds in
-      record {
-        turns = k;
-        batch = x.0;
-        more = x.1;
-        told = x.2;
-        adds = x.3;
-        advances = last.advances.goes_on x.0 x.1 x.2 x.3 base k.now_safe k.now_given
-            (joins last.joined g base k.now_safe k.now_given (r.desk ∙ sym run.stay.of_one.desk) r.seat r.writer (r.state ∙ r.same_state) k.history);
-      }
 
 -- the parts of a clerk are of one
 pub of_one : {D P : Type 0} (before : ClerkState D P) (a : AllocatorState P) (f : FlusherState D) → AreParts before a f → AreOfOne a f
@@ -114,21 +113,21 @@ of_one {D} before a f parts = record {
 }
 
 -- the choice is that of the clerk's policy, which stays
-pub relayed_on : {D P : Type 0} (chooses : P → Choice) (state : D → DiskState) → TurnsKeep D state → JoinedGoOn D P → (before after : ClerkState D P) (a b : AllocatorState P) (f g : FlusherState D)
+pub relayed_on : {D P : Type 0} (chooses : P → Choice) (state : D → DiskState) → TurnsKeep D state → (before after : ClerkState D P) (a b : AllocatorState P) (f g : FlusherState D)
     (fault : Option RunFault) → AreParts before a f
-    → ((base : RegisterState) (safe : List Entry) (given : List Taken) → History base (group_of before) safe given → History base (group_after f) safe given) → HaveRunOrNot (chooses a.policy) state a b f g fault → IsLastTurn chooses state b g after → RanInParts chooses state before after fault
-relayed_on {D} {P} chooses state law joins before after a b f g fault parts split run last = record {
+    → ((base : RegisterState) (safe : List Entry) (given : List Taken) → History base (group_of before) safe given → History base (group_after f) safe given) → HaveRunOrNot (chooses a.policy) state a b f g fault → IsRejoined b g after → RanInParts chooses state before after fault
+relayed_on {D} {P} chooses state law before after a b f g fault parts split run joined = record {
   allocator = a;
   flusher = f;
   parts = parts;
   allocator' = b;
   flusher' = g;
   ran = subst (λ (p : P). HaveRunOrNot (chooses p) state a b f g fault) parts.policy run;
-  last = last;
-  broken = breaks (chooses a.policy) state before a b f g chooses fault after run last;
-  desk = last.turn.kept.0 ∙ last.rejoined.desk ∙ run.stay.same_allocator.desk ∙ parts.desks.0;
-  policy = last.turn.kept.1 ∙ last.rejoined.policy ∙ run.stay.same_allocator.policy ∙ parts.policy;
-  keeps = λ base safe given history. kept_relay chooses state law joins before a b f g base safe given (split base safe given history) fault after run last;
+  rejoined = joined;
+  broken = subst (λ (w : WriterView D × WriterView D). w.0.is_broken ≡ (has_failed fault || w.1.is_broken)) (λ i. (sym joined.writer i, parts.writer i)) (breaks (chooses a.policy) state a b f g fault run);
+  desk = joined.desk ∙ run.stay.same_allocator.desk ∙ parts.desks.0;
+  policy = joined.policy ∙ run.stay.same_allocator.policy ∙ parts.policy;
+  keeps = λ base safe given history. kept_on chooses state law a b f g base safe given (split base safe given history) fault run;
 }
 
 -- parts that no thread could be made for are as they were
@@ -146,24 +145,22 @@ not_run choice state a f of_one = record {
 }
 
 -- ---- who is notified that the device fails
-module _ {D P : Type 0} (chooses : P → Choice) (choice : Choice) (state : D → DiskState) (a b : AllocatorState P) (f g : FlusherState D) where
-  run_stays : (fault : Option RunFault) → HaveRunOrNot choice state a b f g fault → f.writer.is_broken ≡ true → g.writer.is_broken ≡ true
-  run_stays None run = let ran = run.ran no_fault in turns_stay state f g None ran.first ran.flusher
-  run_stays (Some (Keeper of)) run = let ran = run.ran (not_spawn of) in turns_stay state f g None ran.first ran.flusher
-  run_stays (Some (Spawn no_thread)) run = λ was. ap (λ (x : FlusherState D). x.writer.is_broken) (run.refused refl).1 ∙ was
+pub heard_joined : {D P V : Type 0} (hears : V → V → Type 0) (before after : ClerkState D P) (a b : AllocatorState P) (f g : FlusherState D) (u v : V) → AreParts before a f → IsRejoined b g after
+    → FailureHeard hears f.writer.is_broken g.writer.is_broken u v → FailureHeard hears before.keeper.writer.is_broken after.keeper.writer.is_broken u v
+heard_joined {D} hears before after a b f g u v parts joined heard =
+    subst (λ (w : WriterView D × WriterView D). FailureHeard hears w.0.is_broken w.1.is_broken u v) (λ i. (parts.writer i, sym joined.writer i)) heard
 
-  last_stays : (after : ClerkState D P) → IsLastTurn chooses state b g after → g.writer.is_broken ≡ true → after.keeper.writer.is_broken ≡ true
-  last_stays after last was =
-      let joined : last.joined.keeper.writer.is_broken ≡ true = ap (λ (w : WriterView D). w.is_broken) last.rejoined.writer ∙ was in
-      ap (λ (w : WriterView D). w.is_broken) (last.turn.commits.is.rests joined) ∙ joined
-
-  -- of a run and of the last turn after it
-  pub heard_after : {V : Type 0} (hears : V → V → Type 0) (before after : ClerkState D P) (fault : Option RunFault) (u v w : V) → AreParts before a f → HaveRunOrNot choice state a b f g fault
-      → IsLastTurn chooses state b g after → FailureHeard hears f.writer.is_broken g.writer.is_broken u v → FailureHeard hears g.writer.is_broken after.keeper.writer.is_broken v w
-      → FailureHeard hears before.keeper.writer.is_broken after.keeper.writer.is_broken u w
-  heard_after hears before after fault u v w parts run last first then =
-      subst (λ (x : WriterView D). FailureHeard hears x.is_broken after.keeper.writer.is_broken u w) parts.writer
-      (heard_on hears f.writer.is_broken g.writer.is_broken after.keeper.writer.is_broken u v w (run_stays fault run) (last_stays after last) first then)
+-- a crash leaves what a keeper says is safe, or that with what is in doubt
+pub leaves_safe : {D : Type 0} (state : D → DiskState) (keeper own : KeeperView D) (shown : RegisterState) → keeper ≡ own → shown ≡ keeper.writer.register
+    → (keeper.writer.is_broken ≡ false → LeavesNow (state keeper.writer.device) (IsImageOf keeper.writer.plan shown))
+    → (keeper.writer.is_broken ≡ true → LeavesNow (state keeper.writer.device) (IsInDoubt keeper.writer.plan shown keeper.writer.doubt)) → LeavesSafe own.writer (state own.writer.device)
+leaves_safe {D} state keeper own shown same is whole broken =
+    subst (λ (k : KeeperView D). LeavesSafe k.writer (state k.writer.device)) same
+    (subst (λ (r : RegisterState). LeavesNow (state keeper.writer.device) (IsInDoubt keeper.writer.plan r keeper.writer.doubt)) is (by_state keeper.writer.is_broken refl))
+  where
+    by_state : (is_broken : Bool) → keeper.writer.is_broken ≡ is_broken → LeavesNow (state keeper.writer.device) (IsInDoubt keeper.writer.plan shown keeper.writer.doubt)
+    by_state false so = λ honest left may. inl (whole so honest left may)
+    by_state true so = broken so
 
 -- ---- turns of both parts, from a clerk that was split
 pub come_first : {D P : Type 0} (chooses : P → Choice) (state : D → DiskState) (clerk : ClerkState D P) (a : AllocatorState P) (f : FlusherState D) → clerk.seat ≡ clerk_of clerk.desk → AreParts clerk a f → IsFlusher f

@@ -63,19 +63,17 @@ served_on held held' end source source' sink sink' served visits seated =
     }
 
 -- A session over a new port, whose seat is kept.
-pub made_visit : (held : HeldState) (last' : LastLetter) (seat' : TerminalSeat) (end : End) (source source' : Source) (sink sink' : Sink) (first mid : DeskPortState) (begun rests : ℕ)
-    → first ≡ record { desk = held.desk; seat = held.seat; rests = 0 } → begun ≡ 0 → place_of mid ≡ place_of first → seat' ≡ mid.seat
-    → IsVisit held.seat.terminal end (standing held.last (port_view first.seat.view begun) source sink) (standing last' (port_view mid.seat.view rests) source' sink')
+pub made_visit : (held : HeldState) (last' : LastLetter) (seat' : TerminalSeat) (end : End) (source source' : Source) (sink sink' : Sink) (first mid : DeskPortState)
+    → first ≡ record { desk = held.desk; seat = held.seat; rests = 0 } → place_of mid ≡ place_of first → seat' ≡ mid.seat
+    → IsVisit held.seat.terminal end (standing held.last (port_view first.seat.view first.rests) source sink) (standing last' (port_view mid.seat.view mid.rests) source' sink')
     → Visits held end (record { desk = held.desk; seat = seat'; last = last'; found = held.found }) source source' sink sink'
-made_visit held last' seat' end source source' sink sink' first mid begun rests new unrested stays is visit =
+made_visit held last' seat' end source source' sink sink' first mid new stays is visit =
     let place : place_of mid ≡ place_of (record { desk = held.desk; seat = held.seat; rests = 0 }) = stays ∙ ap place_of new in
-    let at_seat : IsVisit held.seat.terminal end (standing held.last (port_view held.seat.view begun) source sink) (standing last' (port_view mid.seat.view rests) source' sink') =
-    subst (λ (p : DeskPortState). IsVisit held.seat.terminal end (standing held.last (port_view p.seat.view begun) source sink) (standing last' (port_view mid.seat.view rests) source' sink')) new visit in
-    let begins : IsVisit held.seat.terminal end (standing held.last (view_of held.seat) source sink) (standing last' (port_view mid.seat.view rests) source' sink') =
-    subst (λ (n : ℕ). IsVisit held.seat.terminal end (standing held.last (port_view held.seat.view n) source sink) (standing last' (port_view mid.seat.view rests) source' sink')) unrested at_seat in
+    let begins : IsVisit held.seat.terminal end (standing held.last (view_of held.seat) source sink) (standing last' (port_view mid.seat.view mid.rests) source' sink') =
+    subst (λ (p : DeskPortState). IsVisit held.seat.terminal end (standing held.last (port_view p.seat.view p.rests) source sink) (standing last' (port_view mid.seat.view mid.rests) source' sink')) new visit in
     record {
-      rests = rests;
-      visit = subst (λ (s : TerminalSeat). IsVisit held.seat.terminal end (standing held.last (view_of held.seat) source sink) (standing last' (port_view s.view rests) source' sink')) (sym is) begins;
+      rests = mid.rests;
+      visit = subst (λ (s : TerminalSeat). IsVisit held.seat.terminal end (standing held.last (view_of held.seat) source sink) (standing last' (port_view s.view mid.rests) source' sink')) (sym is) begins;
       desk = refl;
       table = ap (λ (s : TerminalSeat). s.table) is ∙ ap (λ (p : PortPlace). p.table) place;
       terminal = ap (λ (s : TerminalSeat). s.terminal) is ∙ ap (λ (p : PortPlace). p.terminal) place;
@@ -83,7 +81,7 @@ made_visit held last' seat' end source source' sink sink' first mid begun rests 
     }
 
 -- the seat that a port over the place gives back is the desk's
-pub still_seated : (held : HeldState) (seat' : TerminalSeat) (first mid last : DeskPortState) → first ≡ record { desk = held.desk; seat = held.seat; rests = 0 }
-    → place_of mid ≡ place_of first → last ≡ mid → IsSeatOf last.desk seat' → IsSeatOf held.desk seat'
-still_seated held seat' first mid last new stays same seated =
-    subst (λ (desk : List TableId). IsSeatOf desk seat') (ap (λ (p : DeskPortState). p.desk) same ∙ (ap (λ (p : PortPlace). p.desk) (stays ∙ ap place_of new))) seated
+pub still_seated : (held : HeldState) (seat' : TerminalSeat) (first mid : DeskPortState) → first ≡ record { desk = held.desk; seat = held.seat; rests = 0 }
+    → place_of mid ≡ place_of first → IsSeatOf mid.desk seat' → IsSeatOf held.desk seat'
+still_seated held seat' first mid new stays seated =
+    subst (λ (desk : List TableId). IsSeatOf desk seat') (ap (λ (p : PortPlace). p.desk) (stays ∙ ap place_of new)) seated

@@ -18,11 +18,21 @@ IsSaid bytes before after = Takes bytes before after
 
 -- a reader that was not called, with what it has left where it says that
 abbrev pub new_source : Option (List ℕ) → Source
-new_source left = record { calls = 0; failed = false; ended = false; left = left }
+new_source left =
+    record {
+      calls = 0;
+      failures = 0;
+      ends = 0;
+      failed = false;
+      ended = false;
+      came = [];
+      left = left;
+    }
 
 -- a writer that was not called, with what is in it where it says that
 abbrev pub new_sink : Option (List ℕ) → Sink
-new_sink written = record { calls = 0; failed = false; written = written }
+new_sink written =
+    record { calls = 0; failures = 0; failed = false; gone = []; written = written }
 
 -- how often the reader is called at most for a first line
 abbrev pub first_reads : ℕ

@@ -5,48 +5,77 @@ use mathlib.Core.Logic.{inl, inr}
 use Rattle.lift_base.specs.declared.history.Entry.{Entry}
 use Rattle.lift_building.specs.Plan.{Plan, IsBuilding, shape_of}
 use Rattle.lift_disk.specs.Disk.{DiskState, Image, IsSynced, LeavesNow, LeavesOnly}
+use Rattle.lift_disk.specs.Starts.{StartsAfter, StartsFrom}
 use Rattle.lift_register.specs.Register.{RegisterState, register_of, empty}
 use Rattle.lift_policy.specs.Eligible.{Choice}
 use Rattle.lift_journal.specs.Journal.{ReadsAs}
 use Rattle.lift_keeper.specs.Images.{IsImageOf}
 use Rattle.lift_keeper.specs.Keeper.{KeeperView}
 use Rattle.lift_world.specs.declared.event.Taken.{Taken}
-use Rattle.lift_clerk.specs.Keeping.{ImageKeeps, KeepsPrefix}
+use Rattle.lift_clerk.specs.Keeping.{KeepsAll, KeepsPrefix}
+use Rattle.lift_parts.specs.Flusher.{FlusherState}
+use Rattle.lift_parts.specs.Keeping.{HaveKept, KeepingTurns, NoneYet, OneKept}
 use Rattle.lift_serve.specs.declared.serving.ServeFault.{ServeFault}
-use Rattle.lift_serve.specs.Relaying.{IsServingOutcome, IsServedKeeper, IsUnserved, KeptInParts}
+use Rattle.lift_serve.specs.Relaying.{IsServingOutcome, IsServedKeeper, IsUnserved}
+
+-- What a start takes of the device that it finds, and a serving leaves to the next one. Had the journal
+-- begun with this register, had these entries been accepted since and these commands been answered,
+-- then each image that a crash may leave keeps a prefix of the entries, and all the answers.
+abbrev pub HoldsLetters : (D : Type 0) → Plan → RegisterState → (accepted : List Entry)
+    → (given : List Taken) → DiskState → Type 0
+HoldsLetters D plan base accepted given device =
+    LeavesNow device (KeepsPrefix D plan base accepted given)
+
+-- Wherever the power goes between these two states of a device, a start finds one that holds these.
+abbrev pub StartsFind : {F : Type 0} → (D : Type 0) → (held : F → DiskState) → Plan → RegisterState
+    → (accepted : List Entry) → (given : List Taken) → (old new : DiskState) → Type 0
+StartsFind {F} D held plan base accepted given old new = (after : F)
+    → StartsFrom new old.moment (held after) → HoldsLetters D plan base accepted given (held after)
+
+-- So it is of each of these turns, from the end of the one before it to its own: with what was safe
+-- until then and the batch on its way, and with all that was answered until then.
+abbrev pub TurnsHandOn : {D F : Type 0} {state : D → DiskState} {base : RegisterState}
+    {f g : FlusherState D} {safe mid : List Entry} {given now : List Taken}
+    → (held : F → DiskState) → Plan → KeepingTurns state base f safe given g mid now → Type 0
+TurnsHandOn held plan NoneYet = Unit {0}
+TurnsHandOn {D} {F} {state} {base} {f} {g = h} held plan
+    (OneKept {g = g} {mid = mid} {now = now} turns flush s) = TurnsHandOn held plan turns
+    × StartsFind D held plan base (mid ++ s.batch) now (state g.writer.device) (state h.writer.device)
+
+-- Whatever turns a flusher has made by any moment, whether or not they end, so it is.
+abbrev pub EachTurnHandsOn : (D F : Type 0) → (D → DiskState) → (F → DiskState) → Type 0
+EachTurnHandsOn D F state held = (base : RegisterState) (f g : FlusherState D) (safe mid : List Entry)
+    (given now : List Taken) → (state f.writer.device).is_honest
+    → (turns : KeepingTurns state base f safe given g mid now) → TurnsHandOn held f.writer.plan turns
 
 -- A serving, from these safe entries and answers to those.
-pub data KeptServing {D P : Type 0} (chooses : P → Choice) (state : D
-    → DiskState) (base : RegisterState) (policy : P) (keeper last : KeeperView D) (fault : Option ServeFault)
+pub data KeptServing {D F P : Type 0} (chooses : P → Choice) (state : D → DiskState) (held : F
+    → DiskState) (plan : Plan) (base : RegisterState) (policy : P) (keeper last : KeeperView D) (fault : Option ServeFault)
     : IsServingOutcome chooses state policy keeper last fault → List Entry → List Taken → List Entry
     → List Taken → Type 0 where
-  -- At each moment of each turn all is kept that was safe and given before it. What the turns make
-  -- safe and answer is added at the end.
+  -- At each moment of each turn all is kept that was safe and given before it, for a start that finds
+  -- it so. What the turns make safe and answer is added at the end.
   Served : {safe : List Entry} {given : List Taken}
       (served : IsServedKeeper chooses state policy keeper last fault)
-      → (k : KeptInParts chooses state served.relayed.relayed.allocator'
-      served.relayed.relayed.flusher served.relayed.relayed.flusher' served.relayed.after
-      served.relayed.relayed.last base safe given)
-      → KeptServing chooses state base policy keeper last fault (inl served) safe given
-      (k.turns.now_safe ++ k.more) (k.turns.now_given ++ k.told)
+      → (k : HaveKept state base served.relayed.relayed.flusher served.relayed.relayed.flusher'
+      safe given) → TurnsHandOn held plan k.turns
+      → KeptServing chooses state held plan base policy keeper last fault (inl served) safe given
+      k.now_safe k.now_given
   -- Nobody was served, and nothing is added.
   Unserved : {safe : List Entry} {given : List Taken} (unserved : IsUnserved keeper last fault)
-      → KeptServing chooses state base policy keeper last fault (inr unserved) safe given safe given
+      → KeptServing chooses state held plan base policy keeper last fault (inr unserved) safe given
+      safe given
 
--- The image keeps all these answers, with some entries, and maybe later answers too.
-abbrev pub KeepsAll : Type 0 → Plan → RegisterState → List Taken → Image → Type 0
-KeepsAll D plan base given left = (entries : List Entry) × (now : List Taken) × IsPrefix given now
-    × ImageKeeps D plan base entries now left
-
--- A device was opened, and the building served over it. Had its journal begun with this register, had
--- these entries been accepted since and these commands been answered, and does each image that the
--- recovery may have found keep a prefix of the entries and all the answers, then
-pub record KeepsOver {D P : Type 0} (chooses : P → Choice) (state : D
-    → DiskState) (plan : Plan) (opened : D) (policy : P) (keeper last : KeeperView D)
+-- The building was served over a file that was found, and that holds these letters. Then the next start
+-- finds one that holds all that was answered by then, at whatever moment the power goes: in the
+-- recovery (`cut`), in each turn (`serving`), and behind the last one (`next`).
+pub record KeepsOver {D F P : Type 0} (chooses : P → Choice) (state : D → DiskState) (held : F
+    → DiskState) (plan : Plan) (found : F) (policy : P) (keeper last : KeeperView D)
     (fault : Option ServeFault) (comes : IsServingOutcome chooses state policy keeper last fault)
     (base : RegisterState) (accepted : List Entry) (given : List Taken) : Type 0 where
-  -- so does each that a crash at any moment of the recovery may leave;
-  pub recovery : LeavesOnly (state opened) (state keeper.writer.device)
+  -- Each image that a crash at any moment until the end of the recovery may leave keeps a prefix of
+  -- what was accepted, and all that was given before;
+  pub recovery : LeavesOnly (held found) (state keeper.writer.device)
       (KeepsPrefix D plan base accepted given)
   -- the keeper that has opened has the register of such a prefix;
   pub safe : List Entry
@@ -55,14 +84,19 @@ pub record KeepsOver {D P : Type 0} (chooses : P → Choice) (state : D
   -- each turn of the serving keeps all that is safe and given before it;
   pub now_safe : List Entry
   pub now_given : List Taken
-  pub serving : KeptServing chooses state base policy keeper last fault comes safe given now_safe
-      now_given
+  pub serving : KeptServing chooses state held plan base policy keeper last fault comes safe given
+      now_safe now_given
   -- from the end on each image keeps all that was answered, and a prefix of what is safe then and
   -- what is in doubt;
-  pub now : LeavesNow (state last.writer.device)
-      (KeepsPrefix D plan base (now_safe ++ last.writer.doubt) now_given)
-  -- and at no moment from the opening to the end is an answer lost that was given before.
-  pub always : LeavesOnly (state opened) (state last.writer.device) (KeepsAll D plan base given)
+  pub now : HoldsLetters D plan base (now_safe ++ last.writer.doubt) now_given
+      (state last.writer.device)
+  -- and at no moment until the end is an answer lost that was given before.
+  pub always : LeavesOnly (held found) (state last.writer.device) (KeepsAll D plan base given)
+  -- So the next start finds what this one found, where the recovery was cut off,
+  pub cut : StartsFind D held plan base accepted given (held found) (state keeper.writer.device)
+  -- and all that was answered, where the serving had ended.
+  pub next : (after : F) → StartsAfter (state last.writer.device) (held after)
+      → HoldsLetters D plan base (now_safe ++ last.writer.doubt) now_given (held after)
 
 -- It begins with nothing: an image that reads as a register of the building, whichever it is, keeps
 -- the answers of nobody over that register.
@@ -75,4 +109,4 @@ abbrev pub MadeKeeps : (D M : Type 0) → (M → DiskState) → Type 0
 MadeKeeps D M state = (plan : Plan) (half : ℕ) (made : M) → IsBuilding plan
     → ((state made).is_honest → ReadsAs (shape_of plan half) [] [] (state made).image)
     → ((state made).is_honest → IsSynced (state made))
-    → LeavesNow (state made) (KeepsPrefix D plan empty [] [])
+    → HoldsLetters D plan empty [] [] (state made)

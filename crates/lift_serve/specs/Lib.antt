@@ -5,6 +5,5 @@ pub mod Lobby
 pub mod Open
 pub mod Relaying
 pub mod Keeping
-pub mod RingCount
 pub mod Visits
 pub mod lemmas

@@ -1,6 +1,6 @@
 -- What becomes of a clerk whose work two threads do.
-use Rattle.std.specs.Prelude.{◌≡◌, ◌≢◌, ◌⊎◌, ◌+◌, Bool, true, false, ◌||◌, is_err, List, Option}
-use Rattle.std.specs.Prelude.{Some, None, Result, length}
+use Rattle.std.specs.Prelude.{◌≡◌, ◌≢◌, ◌⊎◌, ◌+◌, Bool, true, false, ◌||◌, List, Option}
+use Rattle.std.specs.Prelude.{Some, None, length}
 use Rattle.lift_base.specs.declared.history.Entry.{Entry}
 use Rattle.lift_disk.specs.Disk.{DiskState}
 use Rattle.lift_register.specs.Register.{RegisterState}
@@ -9,12 +9,10 @@ use Rattle.lift_desk.specs.Seats.{clerk_of}
 use Rattle.lift_keeper.specs.Keeper.{KeeperView}
 use Rattle.lift_keeper.specs.declared.fault.KeeperFault.{KeeperFault}
 use Rattle.lift_world.specs.declared.event.Taken.{Taken}
-use Rattle.lift_clerk.specs.declared.counts.Counts.{Counts}
 use Rattle.lift_clerk.specs.Clerk.{ClerkState}
 use Rattle.lift_clerk.specs.History.{History}
-use Rattle.lift_clerk.specs.Keeping.{AdvancesFrom}
-use Rattle.lift_clerk.specs.Once.{TurnsOnce, TurnAdvances}
-use Rattle.lift_clerk.specs.Steps.{group_of, TurnAdds}
+use Rattle.lift_clerk.specs.Keeping.{LeavesSafe}
+use Rattle.lift_clerk.specs.Steps.{group_of}
 use Rattle.lift_relay.specs.declared.pair.RunFault.{RunFault}
 use Rattle.lift_relay.specs.declared.pair.RunFault.TheVariants.{Keeper, Spawn}
 use Rattle.lift_parts.specs.Allocator.{AllocatorState}
@@ -50,42 +48,16 @@ pub record HaveRunOrNot {D P : Type 0} (choice : Choice) (state : D
   pub broken : (of : KeeperFault) → fault ≡ Some (Keeper of) → g.writer.is_broken ≡ true
   pub stay : AreSameParts a b f g
 
--- The clerk of both parts, after one turn more, by which its group's history goes on and all that
--- was answered is kept.
-pub record IsLastTurn {D P : Type 0} (chooses : P → Choice) (state : D
-    → DiskState) (a : AllocatorState P) (f : FlusherState D)
-    (after : ClerkState D P) : Type 0 where
-  pub joined : ClerkState D P
-  pub rejoined : IsRejoined a f joined
-  pub result : Result Counts KeeperFault
-  pub turn : TurnsOnce state (chooses joined.policy) joined after result
-  pub advances : TurnAdvances state joined after result
-
--- What was safe and had been answered was kept by the flusher's turns, of which each kept all that
--- those before it left, and then by the last one of the clerk of both parts.
-pub record KeptInParts {D P : Type 0} (chooses : P → Choice) (state : D → DiskState)
-    (a : AllocatorState P) (f g : FlusherState D) (after : ClerkState D P)
-    (last : IsLastTurn chooses state a g after) (base : RegisterState) (safe : List Entry)
-    (given : List Taken) : Type 0 where
-  pub turns : HaveKept state base f g safe given
-  pub batch : List Entry
-  pub more : List Entry
-  pub told : List Taken
-  pub adds : TurnAdds (group_of last.joined) (group_of after) (is_err last.result) batch more told
-  pub advances : AdvancesFrom base (group_of last.joined) turns.now_safe turns.now_given
-      (group_of after) batch more told (state last.joined.keeper.writer.device) (state after.keeper.writer.device)
-
 -- whether a turn of the flusher failed
 abbrev pub has_failed : Option RunFault → Bool
 has_failed None = false
 has_failed (Some (Spawn no_thread)) = false
 has_failed (Some (Keeper fault)) = true
 
--- The clerk was split, its parts ran, each on a thread of its own, or came to this fault, and the
--- clerk of both turned once more. The keeper is broken at the end exactly where a turn of the
--- flusher failed or this last one. Desk and policy stay. Whatever was safe and answered before is
--- kept, and what was answered meanwhile: at each moment of each turn a crash leaves an image that
--- does.
+-- The clerk was split, its parts ran, each on a thread of its own, or came to this fault, and they are
+-- one clerk again. Its keeper is broken exactly where it was before, or a turn of the flusher failed.
+-- Desk and policy stay. Whatever was safe and answered before is kept, and what was answered
+-- meanwhile: at each moment of each turn a crash leaves an image that does.
 pub record RanInParts {D P : Type 0} (chooses : P → Choice) (state : D
     → DiskState) (before after : ClerkState D P) (fault : Option RunFault) : Type 0 where
   pub allocator : AllocatorState P
@@ -94,16 +66,16 @@ pub record RanInParts {D P : Type 0} (chooses : P → Choice) (state : D
   pub allocator' : AllocatorState P
   pub flusher' : FlusherState D
   pub ran : HaveRunOrNot (chooses before.policy) state allocator allocator' flusher flusher' fault
-  pub last : IsLastTurn chooses state allocator' flusher' after
-  pub broken : after.keeper.writer.is_broken ≡ (has_failed fault || is_err last.result)
+  pub rejoined : IsRejoined allocator' flusher' after
+  pub broken : after.keeper.writer.is_broken ≡ (has_failed fault || before.keeper.writer.is_broken)
   pub desk : after.desk ≡ before.desk
   pub policy : after.policy ≡ before.policy
   pub keeps : (base : RegisterState) (safe : List Entry) (given : List Taken)
-      → History base (group_of before) safe given
-      → KeptInParts chooses state allocator' flusher flusher' after last base safe given
+      → History base (group_of before) safe given → HaveKept state base flusher flusher' safe given
 
--- The keeper came to this by the turns of the two parts of a clerk with this policy, and by the
--- clerk's last one. The clerk began at a new desk: it had taken and answered nothing there.
+-- The keeper came to this by the turns of the two parts of a clerk with this policy, and by nothing
+-- else. The clerk began at a new desk: it had taken and answered nothing there. A crash left what the
+-- keeper said was safe, or that with its batch in doubt.
 pub record IsRelayedKeeper {D P : Type 0} (chooses : P → Choice) (state : D
     → DiskState) (policy : P) (keeper keeper' : KeeperView D) : Type 0 where
   pub before : ClerkState D P
@@ -112,6 +84,7 @@ pub record IsRelayedKeeper {D P : Type 0} (chooses : P → Choice) (state : D
   pub begins : before.keeper ≡ keeper
   pub unused : before.seat ≡ clerk_of before.desk
   pub policy_is : before.policy ≡ policy
+  pub leaves : LeavesSafe keeper.writer (state keeper.writer.device)
   pub relayed : RanInParts chooses state before after fault
   pub ends : after.keeper ≡ keeper'
 

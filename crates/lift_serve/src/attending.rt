@@ -14,6 +14,7 @@ use crate::first_line::terminal_of;
 use crate::held::HeldSeat;
 use crate::lobby::{Lobby, NoSeat, SeatReturn, Vacancy};
 use crate::pace::AskBell;
+use crate::present::PresentCars;
 use lift_base::Terminal;
 use lift_base::text::{Counted, Watched};
 use lift_building::Building;
@@ -137,6 +138,7 @@ fn outcome_of<'d, R: Wait + Clock, I: Read + Drop, O: Write + Drop>(
     lobby: &Mutex<Lobby<'d>>,
     ticket: Ticket,
     bell: &AskBell,
+    present: &PresentCars,
     terminal: Terminal,
     reader: &mut Counted<I>,
     writer: &mut Watched<O>,
@@ -157,7 +159,7 @@ fn outcome_of<'d, R: Wait + Clock, I: Read + Drop, O: Write + Drop>(
             return Outcome::Unseated(no_seat);
         }
     };
-    let (held, end) = held.visit(rt, bell, reader, writer);
+    let (held, end) = held.visit(rt, bell, present, reader, writer);
     Outcome::Visited(put_back(rt, lobby, held, vacancy), end)
 }
 
@@ -169,6 +171,7 @@ pub fn attend<'d, R: Wait + Clock, I: Read + Drop, O: Write + Drop>(
     lobby: &Mutex<Lobby<'d>>,
     ticket: Ticket,
     bell: &AskBell,
+    present: &PresentCars,
     building: &Building,
     reader: &mut Counted<I>,
     writer: &mut Watched<O>,
@@ -179,7 +182,9 @@ pub fn attend<'d, R: Wait + Clock, I: Read + Drop, O: Write + Drop>(
 {
     let outcome = match read_first(reader) {
         Ok(line) => match terminal_in(building, &line) {
-            Some(terminal) => outcome_of(rt, lobby, ticket, bell, terminal, reader, writer),
+            Some(terminal) => {
+                outcome_of(rt, lobby, ticket, bell, present, terminal, reader, writer)
+            }
             None => {
                 say(writer, b"BAD\n");
                 Outcome::Bad

@@ -8,7 +8,8 @@ ghost use Rattle.lift_kiosk.specs.Session.{standing};
 ghost use Rattle.lift_serve.specs.Visits.{IsNewSeat, IsVisit, Visits};
 
 use crate::pace::{AskBell, Pager};
-use crate::port::RestingPort;
+use crate::present::PresentCars;
+use crate::sleep::Sleep;
 use lift_base::Terminal;
 use lift_base::text::{Counted, Watched};
 use lift_car::CarLines;
@@ -97,11 +98,12 @@ impl<'d> HeldSeat<'d> {
         self.seat.terminal()
     }
 
-    /// A session, from what the one before it left.
+    /// A session, from what the one before it left. Its car is absent once it has ended.
     pub fn visit<R: Wait + Clock, I: Read + Drop, O: Write + Drop>(
         self,
         rt: &R,
         bell: &AskBell,
+        present: &PresentCars,
         reader: &mut Counted<I>,
         writer: &mut Watched<O>,
     ) -> (HeldSeat<'d>, End)
@@ -117,9 +119,11 @@ impl<'d> HeldSeat<'d> {
             found,
         } = self;
         let terminal = seat.terminal();
-        let mut port = RestingPort::new(DeskPort::new(desk, seat), rt, bell, pager);
+        let sleep = Sleep::new(&seat, rt, bell, pager, present);
+        let mut port = DeskPort::new(desk, seat, sleep);
         let end = session_of(terminal, reader, writer, &mut port, &mut last);
-        let seat = port.into_port().into_seat();
+        present.leave(terminal);
+        let seat = port.into_seat();
         (
             HeldSeat {
                 desk,

@@ -1,16 +1,16 @@
 //! How the allocator's thread and the flusher's wait: for terminals, and for one another.
 
 ghost use Rattle.std.specs.Prelude.{◌≡◌, ◌+◌};
-ghost use Rattle.lift_serve.specs.RingCount.{asks_at};
+ghost use Rattle.lift_kiosk.specs.Desk.{asks_at};
 
 mod pager;
 
 use crate::connections::AllShut;
 use crate::over::Over;
 use lift_base::ProofCount;
-use lift_kiosk::DeskPort;
+use lift_desk::Seat;
 use lift_relay::{BothRun, Gate, RunBegun};
-pub use pager::Pager;
+pub use pager::{PagedAsk, Pager};
 use std::marker::Model;
 use std::snapshot::Snapshot;
 use std::sync::atomic::{AtomicBool, AtomicU64, Ordering};
@@ -37,41 +37,30 @@ pub struct AskBell {
     enough: AtomicU64,
 }
 
-/// Of how many asks at a terminal's port its pager was told, for how many the bell was rung, and how
-/// often. Only proofs read it: each of the two takes it, and counts what it did.
+/// For how many asks at a terminal's seat the bell was rung. Only proofs read it, and only a ring
+/// counts.
 #[derive(Drop)]
-pub struct RingCount<'d> {
-    told: Snapshot<DeskPort<'d>>,
-    rung: Snapshot<Snapshot<DeskPort<'d>>>,
+pub struct RingCount {
+    before: Snapshot<Seat>,
     times: ProofCount,
 }
 
-impl<'d> Model for RingCount<'d> {
-    ghost use Rattle.lift_serve.specs.RingCount.{RungState, asks_at};
+impl Model for RingCount {
+    ghost use Rattle.std.specs.Prelude.{ℕ, ◌+◌};
+    ghost use Rattle.lift_kiosk.specs.Desk.{asks_at};
 
-    ghost Value = { RungState };
+    ghost Value = { ℕ };
 
-    ghost view = { λ r. record {
-      told = asks_at r.told.value;
-      asks = asks_at r.rung.value.value;
-      times = r.times.count;
-    } };
+    ghost view = { λ r. asks_at r.before.value + r.times.count };
 }
 
-impl<'d> RingCount<'d> {
-    /// All that was asked at this port was rung for, by the sessions before.
-    pub fn of(port: &DeskPort<'d>) -> Self
-        ensures { result ≡ record {
-          told = asks_at port.now;
-          asks = asks_at port.now;
-          times = 0;
-        } }
+impl RingCount {
+    /// All that was asked at this seat was rung for, by the sessions before.
+    pub fn of(seat: &Seat) -> Self
+        ensures { result ≡ asks_at seat.now }
     {
-        let told = Snapshot::of(port);
-        let rung = Snapshot::of(&told);
         RingCount {
-            told,
-            rung,
+            before: Snapshot::of(seat),
             times: ProofCount::new(),
         }
     }
@@ -87,18 +76,14 @@ impl AskBell {
         }
     }
 
-    /// A terminal's asks are stored, of which its pager was told before.
-    pub fn ring(&self, count: &mut RingCount<'_>)
-        ensures { count.new ≡ record count.old {
-          asks = count.old.told;
-          times = count.old.times + 1;
-        } }
+    /// A terminal's ask is stored, of which its pager was told before.
+    pub fn ring(&self, _paged: PagedAsk, count: &mut RingCount)
+        ensures { count.new ≡ count.old + 1 }
     {
         let asked = self.asked.fetch_add(1, Ordering::SeqCst).saturating_add(1);
         if asked >= self.enough.load(Ordering::SeqCst) {
             self.parker.unpark();
         }
-        count.rung = Snapshot::of(&count.told);
         count.times = ProofCount::next(&count.times);
     }
 

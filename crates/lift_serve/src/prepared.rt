@@ -7,6 +7,7 @@ pub(crate) mod shortages;
 use crate::connections::Reading;
 use crate::socket::Listening;
 use lift_disk::Disk;
+use lift_policy::Dispatching;
 use lift_relay::HeldKeeper;
 use shortages::Shortages;
 use std::marker::Model;
@@ -18,17 +19,22 @@ pub struct PreparedGroup<'b, D: Disk + Drop, P, K: Drop> {
     listening: Listening,
     sessions: u32,
     keeper: HeldKeeper<'b, D, K>,
-    policy: P,
+    policy: Dispatching<P>,
     ghost empty_batch: { keeper.state.batch ≡ [] },
 }
 
 impl<'b, D: Disk + Drop, P, K: Drop> PreparedGroup<'b, D, P, K> {
-    /// The keeper's building is to be served with this policy at this socket, until so many
+    /// The keeper's building is to be served at this socket by this policy, until so many
     /// connections have ended.
     ///
     /// It stays a call: built into its caller, the copies of a keeper take the compiler ten minutes.
     #[inline(never)]
-    pub fn new(listening: Listening, sessions: u32, keeper: HeldKeeper<'b, D, K>, policy: P) -> Self
+    pub fn new(
+        listening: Listening,
+        sessions: u32,
+        keeper: HeldKeeper<'b, D, K>,
+        policy: Dispatching<P>,
+    ) -> Self
         requires { keeper.state.batch ≡ [] }
         ensures listening { result.listening ≡ listening }
         ensures sessions { result.sessions ≡ sessions }
@@ -79,7 +85,7 @@ pub(crate) struct ServingStart<'b, D: Disk + Drop, P, K: Drop> {
     pub(crate) bound: ServingTerms,
     pub(crate) shortages: Shortages,
     pub(crate) keeper: HeldKeeper<'b, D, K>,
-    pub(crate) policy: P,
+    pub(crate) policy: Dispatching<P>,
 }
 
 /// What a serving is bound to: its socket, how many connections are to end there, and whether they

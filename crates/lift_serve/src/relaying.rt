@@ -1,4 +1,4 @@
-//! A clerk's work in two parts, until the parts are one clerk again.
+//! A clerk's work in two parts.
 
 ghost use Rattle.std.specs.Prelude.{◌≡◌, [], Some, List, IfOk, IfErr};
 ghost use Rattle.lift_base.specs.declared.history.Entry.{Entry};
@@ -10,15 +10,13 @@ ghost use Rattle.lift_clerk.specs.Steps.{group_of};
 ghost use Rattle.lift_parts.specs.History.{group_after};
 ghost use Rattle.lift_parts.specs.Parts.{AreOfOne, AreParts};
 ghost use Rattle.lift_relay.specs.Heard.{FailureHeard};
-ghost use Rattle.lift_serve.specs.Relaying.{ComeOf, HaveRunOrNot, IsLastTurn};
+ghost use Rattle.lift_serve.specs.Relaying.{ComeOf, HaveRunOrNot};
 
 use crate::prepared::shortages::{Shortage, part};
 use crate::serving::ServeFault;
 use lift_disk::Disk;
 use lift_policy::Policy;
-use lift_relay::{
-    Allocator, Flusher, Gate, HeardBy, HeldClerk, RunFault, Witness, rejoin_held, run,
-};
+use lift_relay::{Allocator, Flusher, Gate, HeardBy, HeldClerk, RunFault, Witness, run};
 use std::alloc::Global;
 use std::snapshot::Snapshot;
 use std::sync::Wait;
@@ -131,29 +129,5 @@ where
         clerk,
         fault,
         witness,
-    }
-}
-
-/// The clerk of both parts, between which nothing is on its way, after one turn more: it finds
-/// what was asked at last.
-pub fn turn_rejoined<'d, 'b, D: Disk, P: Policy + Drop, K: HeardBy<V> + Drop, V: Witness>(
-    allocator: Allocator<'d, 'b, P>,
-    flusher: Flusher<'d, 'b, D, K>,
-    witness: &mut V,
-) -> HeldClerk<'d, 'b, D, P, K>
-    requires of_one { AreOfOne allocator flusher }
-    requires none_in_hand { allocator.hand ≡ [] }
-    requires all_received { allocator.end.sent ≡ flusher.end.received }
-    ensures last { IsLastTurn P.chooses D.state allocator.entry flusher.entry result }
-    // Where the device fails first in it, the witness is notified, once.
-    ensures heard { FailureHeard V.hears flusher.entry.writer.is_broken result.keeper.writer.is_broken
-        witness.old witness.new }
-{
-    match rejoin_held(allocator, flusher) {
-        Ok(clerk) => {
-            let (clerk, _outcome) = clerk.turn(witness);
-            clerk
-        }
-        Err(_) => unreachable!(),
     }
 }

@@ -5,6 +5,7 @@ ghost use Rattle.std.specs.Prelude.{IsSome, ℕ};
 ghost use Rattle.std.specs.Thread.{IsSend, IsSync};
 ghost use Rattle.lift_base.specs.declared.history.Entry.{Entry};
 ghost use Rattle.lift_register.specs.Register.{RegisterState};
+ghost use Rattle.lift_policy.specs.Present.{IsDispatched, any_cars};
 ghost use Rattle.lift_world.specs.declared.event.Taken.{Taken};
 ghost use Rattle.lift_clerk.specs.History.{History};
 ghost use Rattle.lift_clerk.specs.Steps.{group_of};
@@ -23,15 +24,16 @@ use crate::over::{Over, start_accepting};
 use crate::pace::{Bells, Closing, Pace};
 use crate::prepared::shortages::{ServingEnd, start_session};
 use crate::prepared::{PreparedGroup, ServingStart};
-use crate::relaying::{Parts, run_parts, turn_rejoined, unrun};
+use crate::present::{PresentCars, ServedPolicy};
+use crate::relaying::{Parts, run_parts, unrun};
 use crate::seating::lobby_of;
 use crate::shared::Shared;
 use crate::socket::Arrival;
 use lift_base::MOST_CARS;
 use lift_disk::Disk;
-use lift_parts::{parts_are_clerks, turns_keep_what_was_given};
+use lift_parts::turns_keep_what_was_given;
 use lift_policy::Policy;
-use lift_relay::{BothRun, Gate, HeardBy, HeldClerk, HeldKeeper, Witness};
+use lift_relay::{BothRun, Gate, HeardBy, HeldClerk, HeldKeeper, Witness, rejoin_held};
 use std::alloc::Global;
 use std::sync::{Mutex, Wait};
 use std::thread;
@@ -52,7 +54,7 @@ pub enum ServeFault {
 /// What came of the serving.
 #[derive(Drop)]
 pub struct ServingOutcome<'b, D: Disk + Drop, K: Drop, V: Witness + Drop> {
-    /// The keeper after the last turn, or as it was where none was made. It is broken where a call
+    /// The keeper after the last turn, or as it was where there was none. It is broken where a call
     /// of the device failed.
     pub keeper: HeldKeeper<'b, D, K>,
     /// What was refused, and that so many connections have ended at the socket, unless all were given
@@ -207,8 +209,8 @@ where
     )
 }
 
-/// The clerk's work is done in its two parts while connections are accepted. It turns once more
-/// after them.
+/// The clerk's work is done in its two parts while connections are accepted. After them they are one
+/// clerk again, which turns no more: each session has ended by then.
 #[tactic(auto, using(crate::proofs::Relayings::relayed_on, crate::proofs::Relayings::none_in_hand, crate::proofs::Relayings::all_received))]
 fn run<'d, 'b, R, D, P, K, V>(
     rt: &R,
@@ -237,12 +239,13 @@ where
     ensures over { IsEndAt shared.entry.bound.now result.1 }
 {
     turns_keep_what_was_given::<D>();
-    parts_are_clerks::<D, P>();
     let pace = Pace::new(shared.bells, shared.closing);
     let (ran, over) = run_beside(rt, alloc, shared, &pace, parts);
-    let mut witness = ran.witness;
-    let clerk = turn_rejoined(ran.allocator, ran.flusher, &mut witness);
-    (clerk, over, witness)
+    let witness = ran.witness;
+    match rejoin_held(ran.allocator, ran.flusher) {
+        Ok(clerk) => (clerk, over, witness),
+        Err(_) => unreachable!(),
+    }
 }
 
 /// Nobody was served, for this: the keeper and the witness are as they are.
@@ -287,9 +290,9 @@ where
     K: HeardBy<V> + Drop,
     V: Witness + Drop,
     // What the keeper has at the end came to it by the turns of the two parts of a clerk with this
-    // policy, and by its last one; or it is as it was, and why is reported.
-    ensures comes { IsServingOutcome P.chooses D.state prepared.entry.policy prepared.entry.keeper result.keeper
-        result.end.fault }
+    // policy; or it is as it was, and why is reported.
+    ensures comes { IsServingOutcome (IsDispatched any_cars P.chooses) D.state
+        prepared.entry.policy prepared.entry.keeper result.keeper result.end.fault }
     // The witness was notified that the device failed, once, where the keeper is broken that
     // wasn't; else it is as it was.
     ensures heard { FailureHeard V.hears prepared.entry.keeper.writer.is_broken
@@ -306,6 +309,7 @@ where
         policy,
     } = prepared.begun();
     let terminals = MOST_CARS + usize::from(keeper.keeper().building().kiosks());
+    let _safe = keeper.keeper().safe_register();
     let OpenedDesk {
         desk,
         seats,
@@ -317,6 +321,8 @@ where
         Ok(opened) => opened,
         Err(end) => return unserved(end, keeper, witness),
     };
+    let present = PresentCars::new();
+    let policy = ServedPolicy::new(policy, &present);
     let clerk = clerk.at(&desk, keeper, policy);
     let building = clerk.keeper().building();
     let lobby = Mutex::new(lobby_of(&clerk, &pagers, seats));
@@ -335,6 +341,7 @@ where
         lobby: &lobby,
         bells: &bells,
         closing: &closing,
+        present: &present,
         connections: &connections,
     };
     let (clerk, over, witness) = run(rt, alloc, shared, parts);

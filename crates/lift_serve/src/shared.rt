@@ -10,6 +10,7 @@ use crate::over::Over;
 use crate::pace::{Bells, Closing};
 use crate::prepared::ServingTerms;
 use crate::prepared::shortages::Shortage;
+use crate::present::PresentCars;
 use crate::socket::Arrival;
 use lift_building::Building;
 use lift_relay::BothRun;
@@ -30,6 +31,7 @@ pub(crate) struct Shared<'a, 'd> {
     pub(crate) lobby: &'a Mutex<Lobby<'d>>,
     pub(crate) bells: &'a Bells<'a>,
     pub(crate) closing: &'a Closing,
+    pub(crate) present: &'a PresentCars,
     pub(crate) connections: &'a Mutex<Connections>,
 }
 

@@ -41,6 +41,7 @@ pub(crate) fn speak<'d, 's, R: Wait + Clock, I: Read + Drop, O: Write + Drop>(
         shared.lobby,
         ticket,
         shared.bells.asks(),
+        shared.present,
         shared.building,
         &mut reader,
         &mut writer,

@@ -6,7 +6,7 @@ use crate::served::{only_seat, open};
 use lift_base::Number;
 use lift_base::text::{Counted, Watched};
 use lift_desk::DeskParts;
-use lift_kiosk::{DeskPort, LastLetter, session};
+use lift_kiosk::{DeskPort, LastLetter, Yield, session};
 use std::alloc::Global;
 
 /// Letters, refusals, lines that are none, repeats, and answers that come late.
@@ -118,10 +118,10 @@ fn seats_serve_again(rt: HostRuntime) {
         clerk: _,
     } = open(rt.alloc()).ok().expect(&rt, "memory");
     let seat = only_seat(&desk, &mut seats);
-    let port = DeskPort::new(&desk, seat);
+    let port = DeskPort::new(&desk, seat, Yield);
     let (is_first, port) = unanswered(rt.alloc(), port, b"READY 0\nBAD\nLATE\n");
     let seat = port.into_seat();
     let is_pending = seat.pending() == Number::new(1);
-    let (is_second, _port) = unanswered(rt.alloc(), DeskPort::new(&desk, seat), b"LATE\n");
+    let (is_second, _port) = unanswered(rt.alloc(), DeskPort::new(&desk, seat, Yield), b"LATE\n");
     assert!(rt; is_first && is_pending && is_second);
 }

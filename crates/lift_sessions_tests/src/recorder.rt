@@ -1,6 +1,8 @@
 //! A model car with its halts.
+ghost use Rattle.std.specs.Prelude.{◌≡◌};
+
 use lift_base::{Dir, Floor, Position, Stop};
-use lift_car::{Car, ModelCar};
+use lift_car::{Car, Halts, ModelCar};
 use std::alloc::Global;
 use std::cell::Cell;
 
@@ -55,4 +57,10 @@ impl Car for Recorder<'_> {
             dir: at.dir,
         });
     }
+}
+
+impl<P> Halts<P> for Recorder<'_> {
+    ghost halts = { λ before port after. after ≡ before };
+
+    fn halt(&mut self, _port: &P) {}
 }

@@ -4,7 +4,7 @@ ghost use Rattle.lift_desk.specs.Seats.{IsSeatOf, IsClerkOf, AreSeatsOf};
 
 use lift_base::{Body, Floor, Number, Party, Reply, Terminal};
 use lift_desk::{AskRefusal, ClerkSeat, Desk, DeskParts, Seat, ask_word, read_reply};
-use lift_kiosk::{DeskPort, Port};
+use lift_kiosk::{DeskPort, Port, Yield};
 use std::alloc::{AllocError, Global};
 use std::cell::Cell;
 
@@ -54,7 +54,7 @@ impl<'d> Served<'d> {
         let _count = desk.len();
         Served {
             desk,
-            port: DeskPort::new(desk, seat),
+            port: DeskPort::new(desk, seat, Yield),
             clerk,
             replies: Vec::new(alloc),
             idle: 0,

@@ -92,10 +92,6 @@ first_ahead dir low (h ∷ hs) leg floor rises member below first = of h.pass re
     of Second is = (let least-is = rw is at least in absurd (omega (arith, least-is, low_rank dir leg below)))
     of Third is = (let least-is = rw is at least in absurd (omega (arith, least-is, low_rank dir leg below)))
 
-same_dir-self : (dir : Dir) → same_dir dir dir ≡ true
-same_dir-self Up = refl
-same_dir-self Down = refl
-
 -- a floor behind another one is behind each that is ahead of that
 still_after : (dir : Dir) (leg floor next : ℕ) → is_ahead dir next floor ≡ true → is_ahead dir leg floor ≡ false → is_ahead dir leg next ≡ false
 still_after dir leg floor next on behind = elim (cases_Bool (is_ahead dir leg next)) [

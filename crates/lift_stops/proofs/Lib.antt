@@ -1,4 +1,3 @@
 pub mod Marked
-pub mod Passing
 pub mod Leavings
 pub mod Kept

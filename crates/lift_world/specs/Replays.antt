@@ -1,7 +1,7 @@
 -- What the machine in memory is: its view, and its register as that of its list.
 use Rattle.std.specs.Prelude.{ℕ, ◌≡◌, Bool, List, [], ◌∷◌, ◌++◌, Option, Some, None, IsSome, true}
 use Rattle.std.specs.Prelude.{false, Result, IfOk, OnErr}
-use Rattle.lift_base.specs.declared.memory.Memory.{Memory}
+use Rattle.lift_memory.specs.declared.memory.Memory.{Memory}
 use Rattle.lift_base.specs.declared.travel.Position.{Position}
 use Rattle.lift_base.specs.declared.history.Entry.{Entry}
 use Rattle.lift_building.specs.Plan.{Plan}

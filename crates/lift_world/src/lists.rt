@@ -3,11 +3,13 @@ ghost use Rattle.std.specs.Prelude.{◌≡◌, ◌≤◌, ◌++◌, ◌+◌, ◌
 ghost use Rattle.std.specs.Prelude.{count_by, find, reverse, filter, slice_get, vec_len};
 ghost use Rattle.std.specs.Prelude.{vec_capacity};
 ghost use Rattle.std.specs.List.{list_any};
+ghost use Rattle.lift_memory.specs.Growth.{IsSmall};
 ghost use Rattle.lift_world.specs.World.{asks, is_answer_to, is_taken_of};
 ghost use Rattle.lift_world.specs.Next.{others, unknown_to};
 
 use crate::event::{Answer, Taken};
-use lift_base::{Memory, Terminal, push_all, reserve, reserve_one};
+use lift_base::Terminal;
+use lift_memory::{Memory, push_all, reserve, reserve_one};
 use lift_policy::Command;
 
 /// How many of these the terminal asked.
@@ -81,6 +83,7 @@ pub fn drop_taken(taken: &mut Vec<Taken>, terminal: Terminal)
 
 /// Room for one more in each of the two.
 pub fn reserve_both<T, U>(first: &mut Vec<T>, second: &mut Vec<U>) -> Result<(), Memory>
+    requires { IsSmall T.row × IsSmall U.row }
     ensures items { (first.new.items ≡ first.old.items) × (second.new.items ≡ second.old.items) }
     ensures len { (vec_len first.new ≡ vec_len first.old)
         × (vec_len second.new ≡ vec_len second.old) }

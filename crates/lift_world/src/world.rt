@@ -18,11 +18,9 @@ use crate::lists::{
     add_due, add_unknown, answer_after, count_answers, count_asks, drop_taken, is_taken, last_ask,
     reserve_both, taken_of,
 };
-use lift_base::{
-    Body, Entry, Letter, MOST_BATCHES, MOST_CARS, Memory, Number, Position, Terminal, push,
-    reserve_one,
-};
+use lift_base::{Body, Entry, Letter, MOST_BATCHES, MOST_CARS, Number, Position, Terminal};
 use lift_building::Building;
+use lift_memory::{Memory, push, reserve_one};
 use lift_policy::Command;
 use lift_register::Register;
 use std::alloc::Global;

@@ -26,16 +26,19 @@ fn openers(rt: &HostRuntime) -> Openers<SystemTextOpener<'_>, SystemOpener<'_>, 
 }
 
 fn main(rt: HostRuntime) -> ExitCode {
+    let mut output = Watched::new(rt.stdout());
     let mut errors = Watched::new(rt.stderr());
     let status = match given(&rt) {
-        Ok(words) => start(
-            &rt,
-            Given::new(openers(&rt), words.as_slice(), rt.stdin()),
-            rt.alloc(),
-            &mut rt.stdout(),
-            &mut errors,
-        )
-        .status(),
+        Ok(words) => {
+            let (end, _errors) = start(
+                &rt,
+                Given::new(openers(&rt), words.as_slice(), rt.stdin()),
+                rt.alloc(),
+                &mut output,
+                errors,
+            );
+            end.status()
+        }
         Err(error) => not_given(error, &mut errors).status(),
     };
     ExitCode::from(status)

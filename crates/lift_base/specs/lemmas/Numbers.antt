@@ -1,5 +1,5 @@
 -- A plain word of digits is what is printed of its number.
-use Rattle.std.proofs.Common.{◌≡◌, ◌≢◌, ℕ, ◌+◌, ◌^◌, ◌≤◌, ◌<◌, true, List, [], ◌∷◌, ◌++◌, ◌%◌, Bor}
+use Rattle.std.proofs.Common.{◌≡◌, ◌≢◌, ℕ, ◌+◌, ◌^◌, ◌≤◌, ◌<◌, true, List, [], ◌∷◌, ◌++◌, ◌%◌}
 use Rattle.std.proofs.Common.{length, get_or, Result, Ok, Err, refl, sym, ap, subst, ◌∙◌, rules}
 use Rattle.std.proofs.Common.{arith, inl, inr}
 use Rattle.std.specs.Fmt.{decimal}
@@ -11,9 +11,7 @@ use Rattle.std.proofs.lemmas.Str.Parse.{IsNumeralModel, numerals_by_value, parse
 use Rattle.std.proofs.lemmas.Fmt.{decimal_nonempty, decimal_by_steps, first_decimal, decimal_digit}
 use Rattle.std.proofs.lemmas.Fmt.{decimal-digits_value, parse-decimal}
 use Rattle.std.specs.List.{AllByRecursion}
-use Rattle.std.specs.Prelude.{Option, MatchOption}
 use Rattle.std.proofs.lemmas.List.Elements.{All-from_recursion}
-use Rattle.std.proofs.lemmas.Str.Pattern.{IsSplitOnceResult, split_after}
 use Rattle.lift_base.specs.Text.{IsPlain}
 
 own : IsNumeralModel (λ ds. all_ascii_digits ds ≡ true) (digits_value 10)
@@ -70,10 +68,3 @@ digits_only n small = decimal_by_steps (λ _ ds. AllByRecursion (λ b. 48 ≤ b)
 pub no_space : (n : ℕ) → n < 2 ^ 32 → (i : ℕ) → i < length (decimal n) → get_or (decimal n) i 0 ≢ 32
 no_space n small i lt same = let digit =
     All-from_recursion (λ b. 48 ≤ b) (decimal n) (digits_only n (omega arith)) i 0 lt in omega arith
-
-pub split_number : (bs : List ℕ) (r : Option (Bor (List ℕ) × Bor (List ℕ)))
-    → IsSplitOnceResult 32 bs r → (n : ℕ) (rest : List ℕ) → n < 2 ^ 32
-    → bs ≡ decimal n ++ (32 ∷ rest)
-    → MatchOption r ⊥ (λ x. (x.0.now ≡ decimal n) × (x.1.now ≡ rest))
-split_number bs r split n rest small same =
-    split_after 32 bs (decimal n) rest r split (omega arith) same (no_space n small)

@@ -1,11 +1,13 @@
 //! A reader whose calls are counted.
 
-ghost use Rattle.std.specs.Prelude.{◌≡◌, ◌==◌, ◌+◌, ◌≤◌, ◌<◌, if◌then◌else◌, length, take, true};
+ghost use Rattle.std.specs.Prelude.{◌≡◌, ◌==◌, ◌+◌, ◌≤◌, ◌<◌, ◌++◌, if◌then◌else◌, length, take};
+ghost use Rattle.std.specs.Prelude.{true, []};
 ghost use Rattle.std.specs.Prelude.{ℕ, List, Option, Some, None, false, OnOk, OnErr, IfOk, IfSome};
 ghost use Rattle.std.specs.Prelude.{IfNone, ⊤};
 ghost use Rattle.std.specs.Io.KnownBytes.{Consumes, IsAtEnd, Keeps};
 
 use crate::count::ProofCount;
+use crate::proof_bytes::{Portion, ProofBytes};
 use std::io::Read;
 use std::marker::Model;
 
@@ -43,12 +45,16 @@ impl<R: Read> Inlet for R {
 #[derive(Clone, Copy, PartialEq, Eq)]
 pub struct ReadFault;
 
-/// A reader with the number of its calls, which only proofs read, whether one of them failed, and
-/// whether one of them found the end. The only way to the reader is `read`, so the count binds.
+/// A reader with what is known of its calls: whether one of them failed, and whether one of them found
+/// the end; and, which only proofs read, how many there were, how many failed, how many found the end,
+/// and all bytes that came. The only way to the reader is `read`, so that binds.
 #[derive(Drop)]
 pub struct Counted<R: Drop> {
     reader: R,
     calls: ProofCount,
+    failures: ProofCount,
+    ends: ProofCount,
+    came: ProofBytes,
     failed: bool,
     ended: bool,
 }
@@ -61,19 +67,33 @@ impl<R: Drop> Model for Counted<R> {
     ghost view = { λ c. record {
       reader = c.reader;
       calls = c.calls.count;
+      failures = c.failures.count;
+      ends = c.ends.count;
       failed = c.failed;
       ended = c.ended;
+      came = c.came.bytes;
     } };
 }
 
 impl<R: Drop> Counted<R> {
     /// A reader that was not called yet.
     pub fn new(reader: R) -> Self
-        ensures { result ≡ record { reader = reader; calls = 0; failed = false; ended = false } }
+        ensures { result ≡ record {
+          reader = reader;
+          calls = 0;
+          failures = 0;
+          ends = 0;
+          failed = false;
+          ended = false;
+          came = [];
+        } }
     {
         Counted {
             reader,
             calls: ProofCount::new(),
+            failures: ProofCount::new(),
+            ends: ProofCount::new(),
+            came: ProofBytes::new(),
             failed: false,
             ended: false,
         }
@@ -107,6 +127,16 @@ impl<R: Inlet + Drop> Counted<R> {
         ensures roomless { IfOk result (λ count. length buffer.new ≡ 0
             → self.new.ended ≡ self.old.ended) }
         ensures unfailed { OnOk result (self.new.failed ≡ self.old.failed) }
+        ensures failures { OnErr result (self.new.failures ≡ self.old.failures + 1) }
+        ensures no_failure { OnOk result (self.new.failures ≡ self.old.failures) }
+        ensures ends { IfOk result (λ count. 0 < length buffer.new
+            → self.new.ends ≡ (if count == 0 then self.old.ends + 1 else self.old.ends)) }
+        ensures no_end { IfOk result (λ count. length buffer.new ≡ 0
+            → self.new.ends ≡ self.old.ends) }
+        ensures unended { OnErr result (self.new.ends ≡ self.old.ends) }
+        ensures came { IfOk result (λ count.
+            self.new.came ≡ self.old.came ++ take count buffer.new) }
+        ensures none_came { OnErr result (self.new.came ≡ self.old.came) }
         ensures failed { OnErr result ((self.new.failed ≡ true)
             × (self.new.ended ≡ self.old.ended)
             × Keeps (R.remaining self.old.reader) (R.remaining self.new.reader)) }
@@ -114,13 +144,19 @@ impl<R: Inlet + Drop> Counted<R> {
         self.calls = ProofCount::next(&self.calls);
         match self.reader.fill(buffer) {
             Some(count) => {
+                let portion = Portion {
+                    bytes: &buffer[..count],
+                };
+                self.came = self.came.then(&portion);
                 if count == 0 && !buffer.is_empty() {
                     self.ended = true;
+                    self.ends = ProofCount::next(&self.ends);
                 }
                 Ok(count)
             }
             None => {
                 self.failed = true;
+                self.failures = ProofCount::next(&self.failures);
                 Err(ReadFault)
             }
         }

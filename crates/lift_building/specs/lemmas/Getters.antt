@@ -4,7 +4,7 @@ use Rattle.std.proofs.Common.{arith, inl, inr}
 use Rattle.std.proofs.lemmas.Bool.{cases_lt}
 use Rattle.std.proofs.lemmas.List.{get_or_past}
 use Rattle.lift_base.specs.History.{IsWithinLimits}
-use Rattle.lift_building.specs.Plan.{Plan, car_at, places_of, serves_floor, kiosk_floor_of}
+use Rattle.lift_building.specs.Plan.{Plan, car_at, places_of, serves_floor}
 use Rattle.lift_building.specs.Plan.{shape_of, IsCar, IsBuilding}
 
 car_is : (plan : Plan) (car : ℕ) → IsBuilding plan → car < length plan.cars
@@ -50,11 +50,6 @@ serves_within plan car floor lawful serves = elim (cases_lt car (length plan.car
       ap (λ c. get_or c.served floor false) (car_is_none plan car out) in
       absurd (let no : true ≡ false = sym serves ∙ none in cc)
 ]
-
--- each kiosk stands at a floor of the building
-pub kiosk_within : (plan : Plan) (kiosk : ℕ) → IsBuilding plan → kiosk < length plan.kiosks
-    → kiosk_floor_of plan kiosk < plan.floors
-kiosk_within plan kiosk lawful lt = lawful.limits.kiosks kiosk 0 lt
 
 -- the journal of a building is within the limits where its half is
 pub shape_within : (plan : Plan) (half : ℕ) → IsBuilding plan → 64 ≤ half → half ≤ 1000000

@@ -1,6 +1,6 @@
 //! Why a script came to no report, or to a bad one.
-use lift_base::Memory;
 use lift_keeper::KeeperFault;
+use lift_memory::Memory;
 use lift_replay::{InputFault, NoMemory};
 use std::alloc::AllocError;
 use std::io;

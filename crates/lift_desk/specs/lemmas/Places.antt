@@ -8,7 +8,7 @@ use Rattle.std.proofs.lemmas.List.{length-map}
 use Rattle.atomic_table.specs.Seated.{TableId}
 use Rattle.lift_desk.specs.Seats.{ClerkPlace, no_place, no_table, seats_from, clerk_of, ahead_from}
 use Rattle.lift_desk.specs.Seats.{view_at, clerk_with, placed_at, IsClerkOf, AreSeatsOf}
-use Rattle.lift_desk.specs.Seats.{AllSeated, OwesNothing}
+use Rattle.lift_desk.specs.Seats.{AllSeated, OwesNothing, with_looks_of}
 use Rattle.lift_desk.specs.declared.view.ClerkView.{ClerkView}
 use Rattle.lift_desk.specs.Rule.{no_asks}
 
@@ -118,18 +118,6 @@ view_at-else clerk t u v apart =
     other (x ∷ l) (suc i) zero p n = refl
     other (x ∷ l) (suc i) (suc j) p n = other l i j p (λ e. n (ap suc e))
 
--- the clerk stays at its tables
-pub IsClerkOf-with : (desk : List TableId) (clerk : List ClerkPlace) (t : ℕ) (v : ClerkView)
-    → IsClerkOf desk clerk → IsClerkOf desk (clerk_with clerk t v)
-IsClerkOf-with desk clerk t v is = tables_same clerk t v ∙ is
-  where
-    tables_same : (l : List ClerkPlace) (i : ℕ) (v : ClerkView)
-        → map (λ (p : ClerkPlace). p.table) (set l i (placed_at (get_or l i no_place).table v))
-        ≡ map (λ (p : ClerkPlace). p.table) l
-    tables_same [] i v = refl
-    tables_same (x ∷ l) zero v = refl
-    tables_same (x ∷ l) (suc i) v = ap (λ ts. x.table ∷ ts) (tables_same l i v)
-
 tables_set : (l : List ClerkPlace) (i : ℕ) (p q : ClerkPlace) → q ≡ get_or l i q → p.table ≡ q.table
     → map (λ (p : ClerkPlace). p.table) (set l i p) ≡ map (λ (p : ClerkPlace). p.table) l
 tables_set [] i p q is same = refl
@@ -160,6 +148,59 @@ seats_at desk = seats_at_from 0 desk desk (λ i. ap (slice_get desk) (zero-add i
 pub clerk_at : (desk : List TableId) → IsClerkOf desk (clerk_of desk)
 clerk_at [] = refl
 clerk_at (z ∷ desk) = ap (λ l. z ∷ l) (clerk_at desk)
+
+-- the clerk's seats with the looks of others are where they were, and seats at all places
+tables_with_looks : (ahead places : List ClerkPlace)
+    → map (λ (p : ClerkPlace). p.table) (with_looks_of ahead places)
+    ≡ map (λ (p : ClerkPlace). p.table) places
+tables_with_looks ahead [] = refl
+tables_with_looks [] (p ∷ places) = refl
+tables_with_looks (seat ∷ ahead) (p ∷ places) =
+    ap (λ ts. p.table ∷ ts) (tables_with_looks ahead places)
+
+pub with_looks_at : (desk : List TableId) (ahead places : List ClerkPlace) → IsClerkOf desk places
+    → IsClerkOf desk (with_looks_of ahead places)
+with_looks_at desk ahead places is = tables_with_looks ahead places ∙ is
+
+pub with_looks_seated : (ahead places : List ClerkPlace) → AllSeated places
+    → AllSeated (with_looks_of ahead places)
+with_looks_seated ahead [] all k h = absurd (omega arith)
+with_looks_seated [] (p ∷ places) all k h = all k h
+with_looks_seated (seat ∷ ahead) (p ∷ places) all zero h = all zero (omega arith)
+with_looks_seated (seat ∷ ahead) (p ∷ places) all (suc k) h =
+    with_looks_seated ahead places (λ j below. all (suc j) (omega arith)) k (omega arith)
+
+-- what was taken and answered stays, and each place counts the looks of both
+pub words_with_looks : (ahead places : List ClerkPlace) (t : ℕ)
+    → ((view_at (with_looks_of ahead places) t).taken ≡ (view_at places t).taken)
+    × ((view_at (with_looks_of ahead places) t).answered ≡ (view_at places t).answered)
+words_with_looks ahead [] t = (refl, refl)
+words_with_looks [] (p ∷ places) t = (refl, refl)
+words_with_looks (seat ∷ ahead) (p ∷ places) zero = (refl, refl)
+words_with_looks (seat ∷ ahead) (p ∷ places) (suc t) = words_with_looks ahead places t
+
+pub looks_of_both : (ahead places : List ClerkPlace) (t : ℕ) → t < length places
+    → (view_at (with_looks_of ahead places) t).looks
+    ≡ (view_at places t).looks + (view_at ahead t).looks
+looks_of_both ahead [] t h = absurd (omega arith)
+looks_of_both [] (p ∷ places) t h = sym (add-zero (view_at (p ∷ places) t).looks)
+looks_of_both (seat ∷ ahead) (p ∷ places) zero h = refl
+looks_of_both (seat ∷ ahead) (p ∷ places) (suc t) h = looks_of_both ahead places t (omega arith)
+
+pub none_owed_with_looks : (ahead places : List ClerkPlace) → OwesNothing places
+    → OwesNothing (with_looks_of ahead places)
+none_owed_with_looks ahead [] all k d h = absurd (omega arith)
+none_owed_with_looks [] (p ∷ places) all k d h = all k d h
+none_owed_with_looks (seat ∷ ahead) (p ∷ places) all zero d h = all zero d (omega arith)
+none_owed_with_looks (seat ∷ ahead) (p ∷ places) all (suc k) d h =
+    none_owed_with_looks ahead places (λ j e below. all (suc j) e (omega arith)) k d (omega arith)
+
+-- seats ahead that have looked at nothing add nothing
+pub with_no_looks : (places : List ClerkPlace)
+    → with_looks_of (ahead_from places) places ≡ places
+with_no_looks [] = refl
+with_no_looks (p ∷ places) = λ k.
+    record p { view = record p.view { looks = add-zero p.view.looks k } } ∷ with_no_looks places k
 
 -- nothing is owed where nothing was taken
 pub nothing_owed : (desk : List TableId) → OwesNothing (clerk_of desk)

@@ -87,23 +87,6 @@ prefix_push xs ys y p = (
       l ++ y ∷ []) p.1,
 )
 
--- of two beginnings of one list the shorter begins the longer
-pub prefix_shorter : {A : Type 0} (xs ys all : List A) → IsPrefix xs all → IsPrefix ys all
-    → length xs ≤ length ys → IsPrefix xs ys
-prefix_shorter [] ys all p q h = (ys, refl)
-prefix_shorter (x ∷ xs) [] all p q h = absurd (omega arith)
-prefix_shorter (x ∷ xs) (y ∷ ys) [] p q h = absurd (let e = p.1 in cc)
-prefix_shorter (x ∷ xs) (y ∷ ys) (a ∷ all) p q h =
-    let pe = p.1 in
-    let qe = q.1 in
-    let px : xs ++ p.0 ≡ all = cc in
-    let qy : ys ++ q.0 ≡ all = cc in
-    let xa : x ≡ a = cc in
-    let ya : y ≡ a = cc in
-    let r = prefix_shorter xs ys all (p.0, px) (q.0, qy) (omega arith) in
-    let re = r.1 in
-    (r.0, λ i. (xa ∙ sym ya) i ∷ re i)
-
 one_rest : (xs rest ys : List ℕ) → xs ++ rest ≡ ys → length ys ≡ suc (length xs)
     → ys ≡ xs ++ last_of ys ∷ []
 one_rest xs [] ys e h = absurd (omega (arith, length-append xs [], ap length e))

@@ -1,17 +1,16 @@
 -- What follows from what a journal holds, and from a batch that it adds.
-use Rattle.std.proofs.Common.{◌≡◌, ◌⊎◌, ◌↔◌, inl, inr, ⊎_elim, List, [], ◌∷◌, ◌++◌, All, sym, ◌∙◌, ap, subst, append_assoc, arith, length-append}
+use Rattle.std.proofs.Common.{◌≡◌, ◌⊎◌, ◌↔◌, inl, inr, ⊎_elim, List, [], ◌∷◌, ◌++◌, All, sym, ◌∙◌, ap, subst, append_assoc}
 use Rattle.std.proofs.Common.{Result, Ok, Err}
 use Rattle.std.specs.Prelude.{OnOk}
-use Rattle.std.proofs.lemmas.List.{take-append-le}
 use Rattle.std.proofs.lemmas.List.Elements.{All-append}
 use Rattle.lift_base.specs.declared.history.Record.{Record}
 use Rattle.lift_base.specs.declared.history.Shape.{Shape}
 use Rattle.lift_disk.specs.Disk.{DiskState, Image, LeavesNow, LeavesOnly, MayLeave}
 use Rattle.lift_disk.specs.lemmas.Moments.{changes_nothing, leaves_weaker, leaves_if_honest}
 use Rattle.lift_journal.specs.declared.fault.JournalFault.{JournalFault}
-use Rattle.lift_journal.specs.Layout.{Batch, new_batch, used, Holds, HoldsIn, Picks}
+use Rattle.lift_journal.specs.Layout.{Batch, new_batch, Holds, HoldsIn, Picks}
 use Rattle.lift_journal.specs.Order.{IsEntry}
-use Rattle.lift_journal.specs.Journal.{JournalView, JournalHolds, CursorView, IsCursorIn, ReadsAs, StandsFor}
+use Rattle.lift_journal.specs.Journal.{JournalView, JournalHolds, ReadsAs, StandsFor}
 use Rattle.lift_journal.specs.Becomes.{Becomes}
 use Rattle.lift_journal.specs.lemmas.Chains.{all_same}
 use Rattle.lift_journal.specs.lemmas.Orders.{records_push}
@@ -29,13 +28,6 @@ module _ {D : Type 0} (state : D → DiskState) (journal : JournalView D) (batch
   -- it holds no other batches
   pub held_same : (others : List Batch) → Holds journal.shape others (state journal.device).image → batches ≡ others
   held_same others holds = holds_unique journal.shape batches others (state journal.device).image held.holds.holds holds
-
--- one batch more leaves a cursor where it is
-pub cursor_stays : (batches : List Batch) (batch : Batch) (cursor : CursorView) → IsCursorIn batches cursor → IsCursorIn (batches ++ batch ∷ []) cursor
-cursor_stays batches batch cursor within = record {
-  inside = omega (arith, within.inside, length-append batches (batch ∷ []));
-  behind = within.behind ∙ ap used (sym (take-append-le cursor.given batches (batch ∷ []) within.inside));
-}
 
 -- more records after those that an image reads as
 pub reads_more : (shape : Shape) (base entries records : List Record) (old new : Image) (found : ReadsAs shape base entries old) → All IsEntry records

@@ -172,8 +172,3 @@ pub both_on_err : {T E : Type 0} (r : Result T E) (P Q : Type 0) → OnErr r P �
     → OnErr r (P × Q)
 both_on_err (Ok x) P Q p q = tt
 both_on_err (Err e) P Q p q = (p, q)
-
-pub both_on_ok : {T E : Type 0} (r : Result T E) (P Q : Type 0) → OnOk r P → OnOk r Q
-    → OnOk r (P × Q)
-both_on_ok (Ok x) P Q p q = (p, q)
-both_on_ok (Err e) P Q p q = tt

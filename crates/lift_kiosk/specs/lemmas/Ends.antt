@@ -7,7 +7,7 @@ use Rattle.lift_kiosk.specs.declared.terms.LastLetter.{LastLetter}
 use Rattle.lift_kiosk.specs.declared.terms.Limits.{Limits}
 use Rattle.lift_kiosk.specs.declared.terms.End.{End}
 use Rattle.lift_kiosk.specs.declared.terms.End.TheVariants.{Closed, Late, Spent, ReadFault}
-use Rattle.lift_kiosk.specs.declared.terms.End.TheVariants.{WriteFault}
+use Rattle.lift_kiosk.specs.declared.terms.End.TheVariants.{WriteFault, Limit}
 use Rattle.lift_kiosk.specs.declared.dialect.Wanted.{Wanted}
 use Rattle.lift_kiosk.specs.declared.outcome.Opening.{Opening}
 use Rattle.lift_kiosk.specs.declared.outcome.Opening.TheVariants.{Free, BroughtIn, StillWaits}
@@ -16,9 +16,11 @@ use Rattle.lift_kiosk.specs.declared.outcome.Outcome.TheVariants.{Malformed, Off
 use Rattle.lift_kiosk.specs.declared.outcome.Outcome.TheVariants.{NotAnswered, Refused}
 use Rattle.lift_desk.specs.declared.words.Ask.{Ask}
 use Rattle.lift_kiosk.specs.Port.{PortView}
-use Rattle.lift_base.specs.Output.{Takes}
+use Rattle.lift_base.specs.Output.{Sink, Takes}
+use Rattle.lift_kiosk.specs.Lines.{Source}
 use Rattle.lift_kiosk.specs.Session.{Standing, PortDid, PortOpened, AnswersLines, LastStep}
 use Rattle.lift_kiosk.specs.Session.{EndsLines, SessionOpens, opening_line, Converses}
+use Rattle.lift_kiosk.specs.Session.{EndsAsCalled, ends_found, failed_reads, failed_writes}
 
 -- no line takes looks back
 pub looks_grow : (looks : ℕ) (before : PortView) (outcome : Outcome) (after : PortView)
@@ -66,14 +68,6 @@ not_answered looks before ask after did =
           cc),
       omega (arith, did.1.looks, ap (λ (v : PortView). v.looks) did.2),
     )
-
-pub still_waits : (looks : ℕ) (before after : PortView) → PortOpened looks before StillWaits after
-    → IsLate looks before after
-still_waits looks before after did = (
-  λ none. did.0 (sym (ap (λ (v : PortView). v.pending) did.1) ∙ none),
-  omega
-      (arith, ap (λ (v : PortView). v.looks) did.1),
-)
 
 late_step : (wants : List ℕ → Wanted → Type 0) (keeps : LastLetter → ℕ → Reply
     → LastLetter) (limits : Limits) (calls : ℕ) (before after : Standing)
@@ -159,6 +153,86 @@ unwritten_lines wants keeps limits calls end before after lines failed =
           LastStep wants keeps limits calls e lines.answered after) failed step.1 in last.4.failed)
     ]
 
+-- no line that is answered has a call that failed, or found the end
+pub record NoneFailed (before after : Standing) : Type 0 where
+  pub read : after.source.failures ≡ before.source.failures
+  pub found : after.source.ends ≡ before.source.ends
+  pub wrote : after.sink.failures ≡ before.sink.failures
+
+run_counts : (wants : List ℕ → Wanted → Type 0) (keeps : LastLetter → ℕ → Reply
+    → LastLetter) (limits : Limits) (xs : List (List ℕ × Outcome)) (before after : Standing)
+    → AnswersLines wants keeps limits xs before after → NoneFailed before after
+run_counts wants keeps limits [] before after run = record {
+  read = ap (λ (s : Standing). s.source.failures) run;
+  found = ap (λ (s : Standing). s.source.ends) run;
+  wrote = ap (λ (s : Standing). s.sink.failures) run;
+}
+run_counts wants keeps limits (x ∷ xs) before after run =
+    let rest = run_counts wants keeps limits xs run.0 after run.3 in
+    let line = run.1.exchange.read.bytes in
+    record {
+      read = rest.read ∙ line.failures;
+      found = rest.found ∙ line.ends;
+      wrote = rest.wrote ∙ run.1.wrote.failures;
+    }
+
+step_counts : (wants : List ℕ → Wanted → Type 0) (keeps : LastLetter → ℕ → Reply
+    → LastLetter) (limits : Limits) (calls : ℕ) (end : End) (before after : Standing)
+    → LastStep wants keeps limits calls end before after → EndsAsCalled end before after
+step_counts wants keeps limits calls Closed before after step = record {
+  read = step.3.failures ∙ step.2.read.bytes.failures;
+  found = step.3.ends ∙ ap (λ (n : ℕ). n + 1) step.2.read.bytes.ends;
+  wrote = ap (λ (s : Sink). s.failures) step.2.sink;
+}
+step_counts wants keeps limits calls ReadFault before after step = record {
+  read = step.3.failures ∙ ap (λ (n : ℕ). n + 1) step.2.read.bytes.failures;
+  found = step.3.ends ∙ step.2.read.bytes.ends;
+  wrote = ap (λ (s : Sink). s.failures) step.2.sink;
+}
+step_counts wants keeps limits calls Limit before after step = record {
+  read = step.1.read.bytes.failures;
+  found = step.1.read.bytes.ends;
+  wrote = ap (λ (s : Sink). s.failures) step.1.sink;
+}
+step_counts wants keeps limits calls Late before after step = record {
+  read = step.2.exchange.read.bytes.failures;
+  found = step.2.exchange.read.bytes.ends;
+  wrote = step.2.wrote.failures;
+}
+step_counts wants keeps limits calls Spent before after step = record {
+  read = step.2.exchange.read.bytes.failures;
+  found = step.2.exchange.read.bytes.ends;
+  wrote = step.2.wrote.failures;
+}
+step_counts wants keeps limits calls WriteFault before after step = record {
+  read = step.2.read.bytes.failures;
+  found = step.2.read.bytes.ends;
+  wrote = step.4.failures;
+}
+
+-- an end after calls of which none failed
+counts_after : (end : End) (before mid after : Standing) → NoneFailed before mid
+    → EndsAsCalled end mid after → EndsAsCalled end before after
+counts_after end before mid after none ends = record {
+  read = ends.read ∙ ap (failed_reads end) none.read;
+  found = ends.found ∙ ap (ends_found end) none.found;
+  wrote = ends.wrote ∙ ap (failed_writes end) none.wrote;
+}
+
+lines_count : (wants : List ℕ → Wanted → Type 0) (keeps : LastLetter → ℕ → Reply
+    → LastLetter) (limits : Limits) (calls : ℕ) (end : End) (before after : Standing)
+    → EndsLines wants keeps limits calls end before after → EndsAsCalled end before after
+lines_count wants keeps limits calls end before after lines =
+    let none = run_counts wants keeps limits lines.exchanges before lines.answered lines.runs in
+    counts_after end before lines.answered after none (elim lines.ends [
+      | inl all ↦ subst (λ e. EndsAsCalled e lines.answered after) (sym all.1) (record {
+        read = ap (λ (s : Standing). s.source.failures) all.2;
+        found = ap (λ (s : Standing). s.source.ends) all.2;
+        wrote = ap (λ (s : Standing). s.sink.failures) all.2;
+      })
+      | inr step ↦ step_counts wants keeps limits calls end lines.answered after step.1
+    ])
+
 -- what lines after a greeting tell of the whole session
 pub after_greeting : (wants : List ℕ → Wanted → Type 0) (keeps : LastLetter → ℕ → Reply
     → LastLetter) (limits : Limits) (end : End) (opening : Opening)
@@ -189,4 +263,9 @@ after_greeting wants keeps limits end opening before greeted after opens greets 
       closed = closed_lines wants keeps limits calls end greeted after lines;
       unwritten = unwritten_lines wants keeps limits calls end greeted after lines;
       failed = failed_lines wants keeps limits calls end greeted after lines;
+      counted = counts_after end before greeted after (record {
+        read = ap (λ (s : Source). s.failures) opens.source;
+        found = ap (λ (s : Source). s.ends) opens.source;
+        wrote = greets.failures;
+      }) (lines_count wants keeps limits calls end greeted after lines);
     }

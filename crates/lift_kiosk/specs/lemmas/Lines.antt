@@ -1,12 +1,11 @@
 -- A line that grows by a byte.
 use Rattle.std.proofs.Common.{◌≡◌, ◌≢◌, ℕ, ◌<◌, ◌≤◌, Bool, true, false, List, [], ◌∷◌, ◌++◌, length}
-use Rattle.std.proofs.Common.{take, refl, sym, ap, ◌∙◌, arith}
+use Rattle.std.proofs.Common.{sym, ap, ◌∙◌, append_assoc, arith}
 use Rattle.std.proofs.lemmas.List.{length_push, length-take}
-use Rattle.std.specs.Str.Lines.{strip_carriage_return}
-use Rattle.std.specs.Prelude.{slice_index, ◌-◌, ◌==◌, cond}
+use Rattle.std.specs.Prelude.{◌-◌, ◌==◌}
 use Rattle.std.proofs.lemmas.List.{take_all, take-append-le}
 use Rattle.std.proofs.lemmas.Bool.Decides.{nat_tests}
-use Rattle.std.proofs.KnownBytes.{Consumes-trans, Consumes-nil}
+use Rattle.std.proofs.KnownBytes.{Consumes-trans}
 use Rattle.lift_kiosk.specs.Lines.{Source, GivesBytes, GivesLine, GivesPart, HasNoFeed, Keeps65}
 
 pub gives_more : (bytes : List ℕ) (byte : ℕ) (before mid after : Source)
@@ -14,8 +13,12 @@ pub gives_more : (bytes : List ℕ) (byte : ℕ) (before mid after : Source)
     → GivesBytes (byte ∷ []) mid after → GivesBytes (bytes ++ byte ∷ []) before after
 gives_more bytes byte before mid after so_far one = record {
   calls = omega (arith, so_far.calls, one.calls, length_push bytes byte);
+  failures = one.failures ∙ so_far.failures;
+  ends = one.ends ∙ so_far.ends;
   failed = one.failed ∙ so_far.failed;
   ended = one.ended ∙ so_far.ended;
+  came = one.came ∙ ap (λ (c : List ℕ). c ++ byte ∷ []) so_far.came
+      ∙ append_assoc before.came bytes (byte ∷ []);
   left = Consumes-trans before.left mid.left after.left bytes (byte ∷ []) so_far.left one.left;
 }
 
@@ -36,17 +39,6 @@ pub part_ends : (part : List ℕ) (byte : ℕ) (before mid after : Source) → G
 part_ends part byte before mid after so_far one feed = record {
   whole = so_far.whole;
   bytes = let more = gives_more part byte before mid after so_far.bytes one in rw feed at more;
-}
-
-pub nothing_came : (source : Source) → GivesPart [] source source
-nothing_came source = record {
-  whole = tt;
-  bytes = record {
-    calls = omega arith;
-    failed = refl;
-    ended = refl;
-    left = Consumes-nil source.left;
-  };
 }
 
 pub keeps_no_more : (line kept : List ℕ) (byte : ℕ) (longer : Bool) → length kept ≡ 65
@@ -78,14 +70,3 @@ pub kept_whole : (line kept : List ℕ) → Keeps65 line kept false → kept ≡
 kept_whole line kept keeps =
     let few : length line ≤ 65 = (let more = keeps.more in grind (arith, nat_tests)) in
     keeps.front ∙ take_all 65 line few
-
--- a longer line has more than 64 bytes, without its carriage return too
-pub longer_than_64 : (line kept : List ℕ) → Keeps65 line kept true
-    → 64 < length (strip_carriage_return line)
-longer_than_64 line kept keeps =
-    let long : 65 < length line = (let more = keeps.more in grind (arith, nat_tests)) in
-    elim (slice_index line (length line - 1) == 13) as (λ b.
-    64 < length (cond b (take (length line - 1) line) line)) [
-      | true ↦ omega (arith, length-take (length line - 1) line, long)
-      | false ↦ omega (arith, long)
-    ]

@@ -1,6 +1,6 @@
 //! Scripts whose reader or writer fails: a prefix of the report comes, and the end tells why.
 use crate::replay::reading::Failing;
-use lift_base::text::Counted;
+use lift_base::text::{Counted, Watched};
 use lift_replay::{ReplayFault, Verdict, run};
 use std::alloc::{AllocError, Global};
 use std::io;
@@ -39,13 +39,14 @@ impl Write for Narrow {
 /// bytes: the whole report, or as much of it as there is room for. Where memory is refused it comes
 /// to any prefix of it.
 fn comes_to(alloc: Global, script: &[u8], report: &[u8], room: usize) -> Result<bool, AllocError> {
-    let mut writer = Narrow {
+    let mut writer = Watched::new(Narrow {
         room,
         most: room,
         fails: true,
         taken: Vec::with_capacity(alloc, room)?,
-    };
+    });
     let end = run(alloc, &mut Counted::new(script), &mut writer);
+    let writer = writer.into_inner();
     let taken = writer.taken.as_slice();
     Ok(match end {
         Ok(Verdict::Bad) => taken == report,
@@ -58,13 +59,13 @@ fn comes_to(alloc: Global, script: &[u8], report: &[u8], room: usize) -> Result<
 /// A reader that fails: nothing was written.
 #[test]
 fn a_reader_fails(rt: HostRuntime) {
-    let mut report = Vec::new(rt.alloc());
+    let mut report = Watched::new(Vec::new(rt.alloc()));
     let read = run(
         rt.alloc(),
         &mut Counted::new(Failing { calls: 0 }),
         &mut report,
     );
-    assert!(rt; read == Err(ReplayFault::Read) && report.is_empty());
+    assert!(rt; read == Err(ReplayFault::Read) && report.into_inner().is_empty());
 }
 
 /// Two floors, a kiosk and a car.
@@ -145,9 +146,9 @@ fn halted(alloc: Global, halt: usize, fails: bool) -> (Result<Verdict, ReplayFau
         halt,
         fails,
     };
-    let mut report = Vec::new(alloc);
+    let mut report = Watched::new(Vec::new(alloc));
     let end = run(alloc, &mut Counted::new(reader), &mut report);
-    (end, report)
+    (end, report.into_inner())
 }
 
 /// Whether a reader that fails there has nothing written, and one that ends there comes to what the
@@ -155,7 +156,7 @@ fn halted(alloc: Global, halt: usize, fails: bool) -> (Result<Verdict, ReplayFau
 fn halts_at(alloc: Global, halt: usize) -> bool {
     let (failed, unwritten) = halted(alloc, halt, true);
     let (ended, report) = halted(alloc, halt, false);
-    let mut wanted = Vec::new(alloc);
+    let mut wanted = Watched::new(Vec::new(alloc));
     let end = run(
         alloc,
         &mut Counted::new(&CALL[..halt.min(CALL.len())]),
@@ -164,7 +165,7 @@ fn halts_at(alloc: Global, halt: usize) -> bool {
     failed == Err(ReplayFault::Read)
         && unwritten.is_empty()
         && ended == end
-        && report.as_slice() == wanted.as_slice()
+        && report.as_slice() == wanted.into_inner().as_slice()
 }
 
 /// A reader of a byte a call that fails, or ends, at each of its calls.
@@ -184,13 +185,14 @@ fn readers_halt_at_each_call(rt: HostRuntime) {
 /// Whether a writer that takes this many bytes, two at most in a call, and then fails or takes
 /// nothing, has a prefix of the report.
 fn halts_writing(alloc: Global, room: usize, fails: bool) -> bool {
-    let mut writer = Narrow {
+    let mut writer = Watched::new(Narrow {
         room,
         most: 2,
         fails,
         taken: Vec::new(alloc),
-    };
+    });
     let end = run(alloc, &mut Counted::new(CALL), &mut writer);
+    let writer = writer.into_inner();
     let wanted = if room < CALLED.len() {
         Err(ReplayFault::Write)
     } else {

@@ -1,11 +1,7 @@
 //! Tests: how long a terminal's pager rests.
-ghost use Rattle.std.specs.Prelude.{◌<◌, vec_len};
-ghost use Rattle.lift_desk.specs.Seats.{AreSeatsOf, IsSeatOf};
 
 use lift_base::Terminal;
-use lift_desk::{Desk, DeskParts, Seat};
-use lift_kiosk::DeskPort;
-use lift_serve::{Pager, RingCount};
+use lift_serve::Pager;
 use std::io;
 use std::process::Abort;
 use std::sync::Wait;
@@ -21,17 +17,9 @@ fn rest<R: Wait + Clock + Abort>(rt: &R, pager: &Pager) -> Duration {
     begun.elapsed(rt).ok().expect(rt, "no clock")
 }
 
-fn only_seat(_desk: &Desk, seats: &mut Vec<Seat>) -> Seat
-    requires at { AreSeatsOf _desk.now seats.old.items }
-    requires some { 0 < vec_len seats.old }
-    ensures seat { IsSeatOf _desk.now result }
-{
-    seats.pop().unwrap()
-}
-
 /// Has the terminal ask, and its answer stored in a batch.
-fn is_answered(pager: &Pager, port: &DeskPort<'_>) -> bool {
-    pager.asked(port, &mut RingCount::of(port));
+fn is_answered(pager: &Pager) -> bool {
+    let _paged = pager.asked();
     pager.scan_begins(1) && pager.is_flushed(1)
 }
 
@@ -45,14 +33,10 @@ fn each_rest_takes_a_millisecond(rt: HostRuntime) {
 }
 
 /// The shortest of the rests that an answer ends; each that comes after one takes a millisecond.
-fn shortest_answered<R: Wait + Clock + Abort>(
-    rt: &R,
-    pager: &Pager,
-    port: &DeskPort<'_>,
-) -> Duration {
+fn shortest_answered<R: Wait + Clock + Abort>(rt: &R, pager: &Pager) -> Duration {
     let mut shortest = Duration::from_millis(1);
     for _ in 0..RESTS {
-        assert!(rt; is_answered(pager, port));
+        assert!(rt; is_answered(pager));
         shortest = shortest.min(rest(rt, pager));
         assert!(rt; rest(rt, pager) >= Duration::from_millis(1));
     }
@@ -60,12 +44,8 @@ fn shortest_answered<R: Wait + Clock + Abort>(
 }
 
 /// The shortest of the rests of a terminal that asked and isn't answered.
-fn shortest_unanswered<R: Wait + Clock + Abort>(
-    rt: &R,
-    pager: &Pager,
-    port: &DeskPort<'_>,
-) -> Duration {
-    pager.asked(port, &mut RingCount::of(port));
+fn shortest_unanswered<R: Wait + Clock + Abort>(rt: &R, pager: &Pager) -> Duration {
+    let _paged = pager.asked();
     assert!(rt; pager.scan_begins(1));
     let mut shortest = rest(rt, pager);
     for _ in 1..RESTS {
@@ -79,17 +59,10 @@ fn shortest_unanswered<R: Wait + Clock + Abort>(
 /// where other threads run, but not all of them ten times as long.
 #[test]
 fn an_answer_ends_one_rest(rt: HostRuntime) {
-    let DeskParts {
-        desk,
-        mut seats,
-        clerk: _,
-    } = Desk::open(rt.alloc(), 1).ok().expect(&rt, "memory");
-    let seat = only_seat(&desk, &mut seats);
-    let port = DeskPort::new(&desk, seat);
     let pager = Pager::new(Terminal::default());
-    assert!(rt; shortest_answered(&rt, &pager, &port) < Duration::from_millis(1));
+    assert!(rt; shortest_answered(&rt, &pager) < Duration::from_millis(1));
     let pager = Pager::new(Terminal::default());
-    assert!(rt; shortest_unanswered(&rt, &pager, &port) < Duration::from_millis(10));
+    assert!(rt; shortest_unanswered(&rt, &pager) < Duration::from_millis(10));
 }
 
 /// A system whose clock can't be read.

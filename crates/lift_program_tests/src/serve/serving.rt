@@ -6,7 +6,7 @@ use crate::serve::callers::{address, follow};
 use crate::serve::words::Words;
 use lift_disk::Disk;
 use lift_keeper::Keeper;
-use lift_policy::Policy;
+use lift_policy::{Dispatching, Policy};
 use lift_serve::{HeardBy, HeldKeeper, Listening, NoWitness, PreparedGroup, serve};
 use std::alloc::Global;
 use std::net::{Net, TcpListener, TcpStream};
@@ -80,6 +80,10 @@ pub(crate) fn served<
                 return None;
             }
             let held = HeldKeeper::new(keeper);
+            let policy = Dispatching {
+                policy,
+                absent_last: false,
+            };
             let prepared = PreparedGroup::new(Listening::at(listener), sessions, held, policy);
             let served = serve(rt, alloc, prepared, NoWitness);
             words.ended.store(1, Ordering::SeqCst);

@@ -19,12 +19,7 @@ use Rattle.lift_record.specs.declared.version.Version.TheVariants.{One, Two}
 use Rattle.lift_record.specs.Version.{version_number, party_byte, IsSayableParty}
 use Rattle.lift_record.specs.Record.{IsSayable, IsSayableContent, record_bytes, dir_byte}
 use Rattle.lift_record.specs.Record.{status_byte, last_bytes, spelling_of, IsSpellingOf}
-use Rattle.lift_record.specs.Header.{header_bytes, IsHeaderSpelling}
-
-pub length-last_bytes : (version : Version) (content : Content)
-    → length (last_bytes version content) ≡ 5
-length-last_bytes version (Letter from to car party) = refl
-length-last_bytes version (Stopped floor dir) = refl
+use Rattle.lift_record.specs.Header.{header_bytes}
 
 pub length-spelling_of : (version : Version) (content : Record)
     → length (spelling_of version content) ≡ 16
@@ -114,13 +109,6 @@ last_unique first second a b =
 
 abbrev header_of : Version → (count number : ℕ) → Header
 header_of v c n = record { version = v; count = c; number = n }
-
-header_same : (first second : Header) → first.version ≡ second.version → first.count ≡ second.count
-    → first.number ≡ second.number → first ≡ second
-header_same first second a b c =
-    ap (λ (x : Version). header_of x first.count first.number) a
-    ∙ ap (λ (x : ℕ). header_of second.version x first.number) b
-    ∙ ap (λ (x : ℕ). header_of second.version second.count x) c
 
 content_unique : (version : Version) (terminal number other : ℕ) (first second : Content)
     → IsLawfulLast terminal number first → IsLawfulLast terminal other second
@@ -255,22 +243,3 @@ pub header_counts : (version other : Version) (count counted number numbered : �
 header_counts version other count counted number numbered a b same =
     sym (from_be_bytes-to_be_bytes_2 count a) ∙ ap (λ l.
     from_be_bytes w16 (take 2 (drop 4 l))) same ∙ from_be_bytes-to_be_bytes_2 counted b
-
-pub header_numbers : (version other : Version) (count counted number numbered : ℕ) → number < 2 ^ 32
-    → numbered < 2 ^ 32
-    → header_bytes version count number ≡ header_bytes other counted numbered → number ≡ numbered
-header_numbers version other count counted number numbered a b same =
-    number_unique number numbered a b (ap (λ l. take 4 (drop 8 l)) same)
-
-pub header_unique : (bytes : List ℕ) (first second : Header) → IsHeaderSpelling bytes first
-    → IsHeaderSpelling bytes second → first ≡ second
-header_unique bytes first second one two =
-    let same : header_bytes first.version first.count first.number
-    ≡ header_bytes second.version second.count second.number = sym one.spelled ∙ two.spelled in
-    header_same first second
-    (header_versions first.version second.version first.count second.count first.number
-    second.number same)
-    (header_counts first.version second.version first.count second.count first.number second.number
-    (omega (arith, one.count_range)) (omega (arith, two.count_range)) same)
-    (header_numbers first.version second.version first.count second.count first.number second.number
-    one.number_range.1 two.number_range.1 same)

@@ -89,12 +89,6 @@ pub waits-or-boards : (row : Row) (b : Bool)
 waits-or-boards row true = refl
 waits-or-boards row false = refl
 
-pub leaves-or-stays : (row : Row) (b : Bool)
-    → row_with row (if b then Done else Aboard)
-    ≡ (if b then [] else record row { aboard = true } ∷ [])
-leaves-or-stays row true = refl
-leaves-or-stays row false = refl
-
 -- the row after a stop of its own car is what its status says after that one entry
 pub open_part-stop : (row : Row) (number floor : ℕ) (dir : Dir)
     → row_with row (status_of row (Stop row.car number floor dir ∷ []))

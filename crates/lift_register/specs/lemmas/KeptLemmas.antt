@@ -17,7 +17,6 @@ use Rattle.lift_base.specs.Records.{IsRecord}
 use Rattle.lift_base.specs.declared.travel.Stop.{Stop as CarStop}
 use Rattle.lift_base.specs.declared.history.Record.TheVariants.{Row as RowRecord}
 use Rattle.lift_base.specs.declared.history.Record.TheVariants.{Last as LastRecord}
-use Rattle.lift_base.specs.declared.history.Record.TheVariants.{Done as DoneRecord}
 use Rattle.lift_base.specs.declared.history.Last.{Last}
 use Rattle.lift_base.specs.declared.history.Row.{Row}
 use Rattle.lift_register.specs.Register.{RegisterState, rows_of, last_of, last_number}
@@ -133,18 +132,6 @@ IsWellFormed-last register terminal last lawful written =
       done = lawful.done;
     }
 
-pub IsWellFormed-done : (register : RegisterState) (count : ℕ) → IsWellFormed register
-    → IsRecord (DoneRecord count) → IsWellFormed (with_record register (DoneRecord count))
-IsWellFormed-done register count lawful written = record {
-  row_count = lawful.row_count;
-  last_count = lawful.last_count;
-  own_cars = lawful.own_cars;
-  few_rows = lawful.few_rows;
-  rows = lawful.rows;
-  lasts = lawful.lasts;
-  done = written;
-}
-
 pub IsWellFormed-stop : (register : RegisterState) (car : ℕ) (stop : CarStop)
     → IsWellFormed register → car < 16 → register.done + length (rows_of register car) ≤ 788529105
     → IsWellFormed (with_stop register car stop)
@@ -199,11 +186,6 @@ BelongsTo-last plan register terminal last belongs within possible = record {
   lasts = lasts-kept (λ (k : ℕ) (l : Last).
       IsPossibleLast plan k l.content) register.lasts terminal last within possible belongs.lasts;
 }
-
-pub BelongsTo-done : (plan : Plan) (register : RegisterState) (count : ℕ) → BelongsTo plan register
-    → BelongsTo plan (with_record register (DoneRecord count))
-BelongsTo-done plan register count belongs =
-    record { rows = belongs.rows; places = belongs.places; lasts = belongs.lasts }
 
 pub BelongsTo-stop : (plan : Plan) (register : RegisterState) (car : ℕ) (stop : CarStop)
     → BelongsTo plan register → car < length register.rows

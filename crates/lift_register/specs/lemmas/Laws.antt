@@ -3,7 +3,7 @@
 use Rattle.std.proofs.Common.{◌≡◌, ℕ, ◌<◌, ◌≤◌, ◌∷◌, [], ◌++◌, None, List, All, length, map, subst}
 use Rattle.std.proofs.Common.{Option, sym, ◌∙◌, ap, arith, inl, inr}
 use Rattle.std.proofs.lemmas.List.{get_or_past}
-use Rattle.std.proofs.lemmas.List.Elements.{All-nil, All-head, All-tail}
+use Rattle.std.proofs.lemmas.List.Elements.{All-nil}
 use Rattle.std.proofs.lemmas.Option.{none-some}
 use Rattle.std.proofs.lemmas.Bool.{cases_lt}
 use Rattle.lift_building.specs.Plan.{Plan, places_of}
@@ -28,7 +28,6 @@ use Rattle.lift_register.specs.lemmas.Sums.{nothing_over_cars, nothing_over_kios
 use Rattle.lift_register.specs.lemmas.Sums.{get_or-on_terminals, length-on_cars}
 use Rattle.lift_register.specs.lemmas.Sums.{length-on_terminals}
 use Rattle.lift_register.specs.lemmas.EntryLemmas.{register_of-allot, register_of-stop}
-use Rattle.lift_register.specs.lemmas.EntryLemmas.{register_of-nothing}
 use Rattle.lift_register.specs.lemmas.KeptLemmas.{IsWellFormed-row, IsWellFormed-last}
 use Rattle.lift_register.specs.lemmas.KeptLemmas.{IsWellFormed-stop, BelongsTo-row, BelongsTo-last}
 use Rattle.lift_register.specs.lemmas.KeptLemmas.{BelongsTo-stop, open_count-row, open_count-stop}
@@ -130,53 +129,6 @@ BelongsTo-entry plan register (Stop car number floor dir) lawful belongs typed f
     (BelongsTo-last plan (with_stop register car stop) car last
     (BelongsTo-stop plan register car stop belongs (omega (arith, lawful.row_count)))
     (omega (arith, lawful.last_count)) fits.0)
-
--- The same after a list of entries, each of which fits where it comes.
-pub IsWellFormed-entries : (plan : Plan) (register : RegisterState) (entries : List Entry)
-    → ((car : ℕ) → places_of plan car ≤ 32) → IsWellFormed register → IsBalanced register
-    → All (λ (entry : Entry). IsTyped (EntryRecord entry)) entries → FitFrom plan register entries
-    → IsWellFormed (register_of register entries)
-IsWellFormed-entries plan register [] few lawful balanced typed fit =
-    subst IsWellFormed (sym (register_of-nothing register lawful)) lawful
-IsWellFormed-entries plan register (entry ∷ later) few lawful balanced typed fit =
-    let here : IsTyped (EntryRecord entry) =
-    All-head (λ (e : Entry). IsTyped (EntryRecord e)) entry later typed in
-    subst IsWellFormed (register_of-append register (entry ∷ []) later)
-    (IsWellFormed-entries plan (register_of register (entry ∷ [])) later few
-    (IsWellFormed-entry plan register entry few lawful balanced here fit.0)
-    (IsBalanced-entry plan register entry lawful balanced here fit.0) (All-tail (λ (e : Entry).
-    IsTyped (EntryRecord e)) entry later typed) fit.1)
-
-pub IsBalanced-entries : (plan : Plan) (register : RegisterState) (entries : List Entry)
-    → ((car : ℕ) → places_of plan car ≤ 32) → IsWellFormed register → IsBalanced register
-    → All (λ (entry : Entry). IsTyped (EntryRecord entry)) entries → FitFrom plan register entries
-    → IsBalanced (register_of register entries)
-IsBalanced-entries plan register [] few lawful balanced typed fit =
-    subst IsBalanced (sym (register_of-nothing register lawful)) balanced
-IsBalanced-entries plan register (entry ∷ later) few lawful balanced typed fit =
-    let here : IsTyped (EntryRecord entry) =
-    All-head (λ (e : Entry). IsTyped (EntryRecord e)) entry later typed in
-    subst IsBalanced (register_of-append register (entry ∷ []) later)
-    (IsBalanced-entries plan (register_of register (entry ∷ [])) later few
-    (IsWellFormed-entry plan register entry few lawful balanced here fit.0)
-    (IsBalanced-entry plan register entry lawful balanced here fit.0) (All-tail (λ (e : Entry).
-    IsTyped (EntryRecord e)) entry later typed) fit.1)
-
-pub BelongsTo-entries : (plan : Plan) (register : RegisterState) (entries : List Entry)
-    → ((car : ℕ) → places_of plan car ≤ 32) → IsWellFormed register → IsBalanced register
-    → BelongsTo plan register → All (λ (entry : Entry). IsTyped (EntryRecord entry)) entries
-    → FitFrom plan register entries → BelongsTo plan (register_of register entries)
-BelongsTo-entries plan register [] few lawful balanced belongs typed fit =
-    subst (BelongsTo plan) (sym (register_of-nothing register lawful)) belongs
-BelongsTo-entries plan register (entry ∷ later) few lawful balanced belongs typed fit =
-    let here : IsTyped (EntryRecord entry) =
-    All-head (λ (e : Entry). IsTyped (EntryRecord e)) entry later typed in
-    subst (BelongsTo plan) (register_of-append register (entry ∷ []) later)
-    (BelongsTo-entries plan (register_of register (entry ∷ [])) later few
-    (IsWellFormed-entry plan register entry few lawful balanced here fit.0)
-    (IsBalanced-entry plan register entry lawful balanced here fit.0)
-    (BelongsTo-entry plan register entry lawful belongs here fit.0) (All-tail (λ (e : Entry).
-    IsTyped (EntryRecord e)) entry later typed) fit.1)
 
 -- two lists fit one after the other where the second fits the register after the first
 pub FitFrom-append : (plan : Plan) (register : RegisterState) (first later : List Entry)

@@ -1,16 +1,17 @@
 -- How a writer was called.
-use Rattle.std.proofs.Common.{◌≡◌, ℕ, zero, suc, ◌<◌, List, [], length, drop, length-drop, refl, sym, ap, subst, arith}
-use Rattle.std.specs.Prelude.{Option, Result, Ok, Err, OnOk, OnErr, IfErr, IsErrAnd}
-use Rattle.lift_base.specs.Output.{Wrote, WroteAll, WroteUpToFault}
+use Rattle.std.proofs.Common.{◌≡◌, ℕ, zero, suc, ◌+◌, ◌<◌, Bool, List, [], ◌++◌, length, take, drop, length-drop, refl, sym, ap, ◌∙◌, subst, arith, inl, inr}
+use Rattle.std.specs.Prelude.{Option, Some, None, Result, Ok, Err, OnOk, OnErr, IfErr, IsErrAnd, ◌⊎◌, if◌then◌else◌}
+use Rattle.std.specs.Io.KnownBytes.{Appends}
+use Rattle.std.proofs.KnownBytes.{Appends-nil, Appends-trans}
+use Rattle.std.proofs.Math.Seq.{take-add}
+use Rattle.std.proofs.lemmas.List.{append_cancel_left, append-nil, take_all}
+use Rattle.lift_base.specs.Output.{OutputTally, Wrote, WroteAll, WroteUpToFault, sent_by, taken}
+use Rattle.lift_base.specs.lemmas.Counted.{no_miss}
 use Rattle.lift_base.specs.declared.text.output.WriteFault.{WriteFault}
-use Rattle.lift_replay.specs.Writing.{Took, TakesSomeEachCall, FailsAtLast, IsCalled, IsCalledTill}
-use Rattle.lift_replay.specs.Writing.{WritesPieces}
+use Rattle.lift_replay.specs.Writing.{Took, TakesSomeEachCall, FailsAtLast, IsCalled, IsCalledTill, failures_after}
+use Rattle.lift_replay.specs.Writing.{GoesInto, WritesPieces, gone_in}
 use Rattle.lift_replay.specs.declared.script.ReplayFault.{ReplayFault}
 use Rattle.lift_replay.specs.declared.script.ReplayFault.TheVariants.{Memory, Read, Write}
-
--- no call was made
-pub takes_none : {W : Type 0} (gives : W → List ℕ → Option ℕ → W → Type 0) (before after : W) → after ≡ before → TakesSomeEachCall gives before after
-takes_none gives before after same = (0, same)
 
 took_more : {W : Type 0} (gives : W → List ℕ → Option ℕ → W → Type 0) (first second : ℕ) (before between after : W) → Took gives first before between → Took gives second between after → TakesSomeEachCall gives before after
 took_more gives first zero before between after took same = (first, subst (Took gives first before) (sym same) took)
@@ -116,3 +117,96 @@ pub pieces_after : {W T U : Type 0} (gives : W → List ℕ → Option ℕ → W
 pieces_after gives before between after piece result fault is first writes =
     let other : fault ≡ Read → ⊥ = λ read. writes.output (ap Err read) in
     pieces_err gives before after piece result fault is other (till_more gives before between after fault other first writes.calls) (λ write. writes.emptied (ap Err write))
+
+-- what calls of which each is counted leave of the count of failures
+module _ {W : Type 0} (gives : W → List ℕ → Option ℕ → W → Type 0) (sent : W → OutputTally)
+    (counts : (before : W) (bytes : List ℕ) (answer : Option ℕ) (after : W) → gives before bytes answer after → sent after ≡ sent_by bytes answer (sent before)) where
+  pub took_counts : (calls : ℕ) (before after : W) → Took gives calls before after → (sent after).failures ≡ (sent before).failures
+  took_counts zero before after took = ap (λ (w : W). (sent w).failures) took
+  took_counts (suc calls) before after (between, given, count, earlier, step, some) =
+      ap (λ (s : OutputTally). s.failures) (counts between given (Some count) after step)
+      ∙ ap (λ (b : Bool). (sent between).failures + (if b then 1 else 0)) (no_miss count some)
+      ∙ omega (arith, took_counts calls before between earlier)
+
+  pub fails_counts : (before after : W) → FailsAtLast gives before after → (sent after).failures ≡ (sent before).failures + 1
+  fails_counts before after (between, given, (calls, took), some, inl failed) =
+      ap (λ (s : OutputTally). s.failures) (counts between given None after failed) ∙ ap (λ (n : ℕ). n + 1) (took_counts calls before between took)
+  fails_counts before after (between, given, (calls, took), some, inr none) =
+      ap (λ (s : OutputTally). s.failures) (counts between given (Some 0) after none) ∙ ap (λ (n : ℕ). n + 1) (took_counts calls before between took)
+
+  pub called_counts : {T : Type 0} (before after : W) (result : Result T ReplayFault) → IsCalled gives before after result → (sent after).failures ≡ failures_after result (sent before).failures
+  called_counts before after (Ok value) (calls, took) = took_counts calls before after took
+  called_counts before after (Err (Memory m)) (calls, took) = took_counts calls before after took
+  called_counts before after (Err Read) same = ap (λ (w : W). (sent w).failures) same
+  called_counts before after (Err Write) fails = fails_counts before after fails
+
+  -- and of what they took
+  gone_by : (before : W) (bytes : List ℕ) (answer : Option ℕ) (after : W) → gives before bytes answer after → Appends (gone_in sent before) (gone_in sent after) (taken answer bytes)
+  unfolding gone_in
+  gone_by before bytes answer after step = ap (λ (s : OutputTally). s.gone) (counts before bytes answer after step)
+
+  wrote_gone : (calls : ℕ) (bytes : List ℕ) (written : ℕ) (before after : W) → Wrote gives calls bytes written before after → Appends (gone_in sent before) (gone_in sent after) (take written bytes)
+  wrote_gone zero bytes written before after (none, same) =
+      subst (λ w. Appends (gone_in sent before) (gone_in sent w) (take written bytes)) (sym same)
+      (subst (λ n. Appends (gone_in sent before) (gone_in sent before) (take n bytes)) (sym none) (Appends-nil (gone_in sent before)))
+  wrote_gone (suc calls) bytes written before after (between, earlier, count, wrote, step, some, whole) =
+      let text : take earlier bytes ++ take count (drop earlier bytes) ≡ take written bytes = sym (take-add earlier count bytes) ∙ ap (λ n. take n bytes) (sym whole) in
+      subst (Appends (gone_in sent before) (gone_in sent after)) text
+      (Appends-trans (gone_in sent before) (gone_in sent between) (gone_in sent after) (take earlier bytes) (take count (drop earlier bytes))
+      (wrote_gone calls bytes earlier before between wrote) (gone_by between (drop earlier bytes) (Some count) after step))
+
+  pub gone_whole : (bytes : List ℕ) (before after : W) → (calls : ℕ) × WroteAll gives bytes 0 calls before after → Appends (gone_in sent before) (gone_in sent after) bytes
+  gone_whole bytes before after (calls, (made, wrote, count)) =
+      subst (Appends (gone_in sent before) (gone_in sent after)) (take_all (length bytes) bytes (omega arith)) (wrote_gone made bytes (length bytes) before after wrote)
+
+  gone_missed : (bytes : List ℕ) (before after : W) → gives before bytes None after ⊎ gives before bytes (Some 0) after → Appends (gone_in sent before) (gone_in sent after) []
+  gone_missed bytes before after (inl failed) = gone_by before bytes None after failed
+  gone_missed bytes before after (inr none) = gone_by before bytes (Some 0) after none
+
+  pub gone_part : (bytes : List ℕ) (written : ℕ) (before after : W) → (calls : ℕ) × WroteUpToFault gives bytes written 0 calls before after
+      → Appends (gone_in sent before) (gone_in sent after) (take written bytes)
+  gone_part bytes written before after (calls, (made, between, wrote, fails, count)) =
+      subst (Appends (gone_in sent before) (gone_in sent after)) (append-nil (take written bytes))
+      (Appends-trans (gone_in sent before) (gone_in sent between) (gone_in sent after) (take written bytes) []
+      (wrote_gone made bytes written before between wrote) (gone_missed (drop written bytes) between after fails))
+
+  pub gone_all : (bytes : List ℕ) (before after : W) (result : Result Unit WriteFault)
+      → OnOk result ((calls : ℕ) × WroteAll gives bytes 0 calls before after) → OnOk result (Appends (gone_in sent before) (gone_in sent after) bytes)
+  gone_all bytes before after (Ok done) told = gone_whole bytes before after told
+  gone_all bytes before after (Err fault) told = tt
+
+  pub gone_some : (bytes : List ℕ) (before after : W) (result : Result Unit WriteFault)
+      → IfErr result (λ fault. (calls : ℕ) × WroteUpToFault gives bytes fault.written 0 calls before after)
+      → IfErr result (λ fault. Appends (gone_in sent before) (gone_in sent after) (take fault.written bytes))
+  gone_some bytes before after (Ok done) told = tt
+  gone_some bytes before after (Err fault) told = gone_part bytes fault.written before after told
+
+  -- and of what is in the writer, where it tells that
+  module _ (contents : W → Option (List ℕ))
+      (holds : (before : W) (bytes : List ℕ) (answer : Option ℕ) (after : W) → gives before bytes answer after → Appends (contents before) (contents after) (taken answer bytes)) where
+    goes_on : (before between after : W) (bytes : List ℕ) (answer : Option ℕ) → GoesInto sent contents before between → gives between bytes answer after → GoesInto sent contents before after
+    goes_on before between after bytes answer (first, gone, written) step = (
+      first ++ taken answer bytes,
+      Appends-trans (gone_in sent before) (gone_in sent between) (gone_in sent after) first (taken answer bytes) gone (gone_by between bytes answer after step),
+      Appends-trans (contents before) (contents between) (contents after) first (taken answer bytes) written (holds between bytes answer after step),
+    )
+
+    stays : (before after : W) → after ≡ before → GoesInto sent contents before after
+    stays before after same = subst (GoesInto sent contents before) (sym same) ([], Appends-nil (gone_in sent before), Appends-nil (contents before))
+
+    took_goes : (calls : ℕ) (before after : W) → Took gives calls before after → GoesInto sent contents before after
+    took_goes zero before after same = stays before after same
+    took_goes (suc calls) before after (between, given, count, earlier, step, some) =
+        goes_on before between after given (Some count) (took_goes calls before between earlier) step
+
+    pub called_goes : {T : Type 0} (before after : W) (result : Result T ReplayFault) → IsCalled gives before after result → GoesInto sent contents before after
+    called_goes before after (Ok value) (calls, took) = took_goes calls before after took
+    called_goes before after (Err (Memory m)) (calls, took) = took_goes calls before after took
+    called_goes before after (Err Read) same = stays before after same
+    called_goes before after (Err Write) (between, given, (calls, took), some, inl failed) = goes_on before between after given None (took_goes calls before between took) failed
+    called_goes before after (Err Write) (between, given, (calls, took), some, inr none) = goes_on before between after given (Some 0) (took_goes calls before between took) none
+
+-- So what is told of the bytes that were taken is so of what is in the writer.
+pub held : {W : Type 0} (sent : W → OutputTally) (contents : W → Option (List ℕ)) (before after : W) (text : List ℕ) → GoesInto sent contents before after → Appends (gone_in sent before) (gone_in sent after) text → Appends (contents before) (contents after) text
+unfolding gone_in
+held sent contents before after text (bytes, gone, written) took = subst (Appends (contents before) (contents after)) (append_cancel_left (sent before).gone bytes text (sym gone ∙ took)) written

@@ -7,7 +7,10 @@ use mathlib.Core.List.{IsPrefix}
 use Rattle.lift_base.specs.declared.history.Entry.{Entry}
 use Rattle.lift_building.specs.Plan.{Plan}
 use Rattle.lift_disk.specs.Disk.{DiskState, Image, LeavesNow, LeavesOnly, MayLeave}
+use Rattle.lift_disk.specs.Starts.{StartsAfter}
+use Rattle.lift_disk.specs.Holding.{HoldsTheSame}
 use Rattle.lift_disk.specs.lemmas.Moments.{changes_nothing, leaves_then, leaves_weaker}
+use Rattle.lift_disk.specs.lemmas.Starts.{leaves_from, same_leaves, starts_keep, starts_keep_now}
 use Rattle.lift_register.specs.Register.{RegisterState}
 use Rattle.lift_register.specs.Register.{register_of}
 use Rattle.lift_decider.specs.Decider.{starting}
@@ -22,22 +25,14 @@ use Rattle.lift_clerk.specs.Clerk.{ClerkState}
 use Rattle.lift_clerk.specs.Machine.{IsNewClerk}
 use Rattle.lift_clerk.specs.Steps.{group_of}
 use Rattle.lift_clerk.specs.History.{History}
-use Rattle.lift_clerk.specs.Keeping.{ImageKeeps, KeepsEither, KeepsPrefix}
-use Rattle.lift_clerk.specs.lemmas.Keeps.{either_front}
+use Rattle.lift_clerk.specs.Keeping.{ImageKeeps, KeepsAll, KeepsEither, KeepsPrefix, LeavesSafe}
+use Rattle.lift_clerk.specs.lemmas.Keeps.{either_front, keeps_first}
 use Rattle.lift_parts.specs.Flusher.{FlusherState}
-use Rattle.lift_parts.specs.Keeping.{KeepingTurns, NoneYet, OneKept}
+use Rattle.lift_parts.specs.Keeping.{HaveKept, KeepingTurns, NoneYet, OneKept}
 use Rattle.lift_serve.specs.declared.serving.ServeFault.{ServeFault}
-use Rattle.lift_serve.specs.Relaying.{IsServingOutcome, IsRelayedKeeper, KeptInParts}
-use Rattle.lift_serve.specs.Keeping.{KeepsAll, KeepsOver, Served, Unserved}
-
--- what keeps all answers until now keeps those that were given first
-keeps_first : {D : Type 0} (plan other : Plan) (base : RegisterState) (safe batch : List Entry) (given now : List Taken)
-    (left : Image) → other ≡ plan → IsPrefix given now → KeepsEither D other base safe batch now left
-    → KeepsAll D plan base given left
-keeps_first {D} plan other base safe batch given now left same front (inl keeps) =
-    (safe, now, front, subst (λ (p : Plan). ImageKeeps D p base safe now left) same keeps)
-keeps_first {D} plan other base safe batch given now left same front (inr keeps) =
-    (safe ++ batch, now, front, subst (λ (p : Plan). ImageKeeps D p base (safe ++ batch) now left) same keeps)
+use Rattle.lift_serve.specs.Relaying.{IsServingOutcome, IsRelayedKeeper}
+use Rattle.lift_serve.specs.Keeping.{EachTurnHandsOn, StartsFind, KeepsOver, Served, TurnsHandOn}
+use Rattle.lift_serve.specs.Keeping.{Unserved}
 
 -- After these turns all that was given at the opening has been kept since.
 record Always {D : Type 0} (state : D → DiskState) (plan : Plan) (base : RegisterState) (first : DiskState)
@@ -71,17 +66,59 @@ always_on {D} state plan base first f h safe end given later own before
           keeps_first plan g.writer.plan base mid s.batch given now left k.own k.front kept) s.stands);
     }
 
--- Keeper::open has opened this device, and what it found keeps a prefix of what was accepted, and
--- all that was given.
-module _ {D P : Type 0} (chooses : P → Choice) (state : D → DiskState) (plan : Plan) (opened : D) (keeper : KeeperView D)
+-- Each of these turns leaves to a start what that takes.
+record Handed {D F : Type 0} (state : D → DiskState) (held : F → DiskState) (plan : Plan) {base : RegisterState} {f g : FlusherState D}
+    {safe mid : List Entry} {given now : List Taken} (turns : KeepingTurns state base f safe given g mid now) : Type 0 where
+  own : g.writer.plan ≡ plan
+  honest : (state g.writer.device).is_honest
+  cuts : TurnsHandOn held plan turns
+
+handed_on : {D F : Type 0} (state : D → DiskState) (held : F → DiskState) (plan : Plan) (base : RegisterState)
+    (f g : FlusherState D) (safe mid : List Entry) (given now : List Taken) → f.writer.plan ≡ plan
+    → (state f.writer.device).is_honest
+    → (turns : KeepingTurns state base f safe given g mid now) → Handed state held plan turns
+handed_on state held plan base f g safe mid given now own honest NoneYet =
+    record { own = own; honest = honest; cuts = tt }
+handed_on {D} state held plan base f h safe end given later own honest
+    (OneKept {g = g} {mid = mid} {now = now} turns flush s) =
+    let k = handed_on state held plan base f g safe mid given now own honest turns in
+    record {
+      own = flush.commits.same.0 ∙ k.own;
+      honest = s.stands.honest.1 k.honest;
+      cuts = (
+        k.cuts,
+        λ after. starts_keep (state g.writer.device) (state h.writer.device) (held after)
+            (KeepsPrefix D plan base (mid ++ s.batch) now) k.honest
+            (leaves_weaker (state g.writer.device) (state h.writer.device)
+            (KeepsEither D g.writer.plan base mid s.batch now)
+            (KeepsPrefix D plan base (mid ++ s.batch) now)
+            (λ was left kept. either_front plan base mid s.batch now left
+            (subst (λ (p : Plan). KeepsEither D p base mid s.batch now left) k.own kept)) s.stands),
+      );
+    }
+
+pub turns_hand_on : {D F : Type 0} (state : D → DiskState) (held : F → DiskState) → EachTurnHandsOn D F state held
+turns_hand_on state held base f g safe mid given now honest turns =
+    (handed_on state held f.writer.plan base f g safe mid given now refl honest turns).cuts
+
+-- Keeper::open has opened this device, which holds what was found, and that keeps a prefix of what was
+-- accepted, and all that was given.
+module _ {D F P : Type 0} (chooses : P → Choice) (state : D → DiskState) (held : F → DiskState) (plan : Plan) (opened : D) (keeper : KeeperView D)
     (reopens : Reopens plan (state opened)
     (state keeper.writer.device) keeper.writer.register keeper.writer.half
     keeper.writer.is_in_second_half keeper.writer.used)
     (starts : keeper.state ≡ starting keeper.writer.register) (whole : keeper.writer.is_broken ≡ false)
-    (no_doubt : keeper.writer.doubt ≡ []) (own : keeper.writer.plan ≡ plan) (honest : (state opened).is_honest)
-    (base : RegisterState) (accepted : List Entry) (given : List Taken) (keeps : LeavesNow (state opened) (KeepsPrefix D plan base accepted given)) where
+    (no_doubt : keeper.writer.doubt ≡ []) (own : keeper.writer.plan ≡ plan) (file : F) (was_honest : (held file).is_honest) (honest : (state opened).is_honest)
+    (same_held : HoldsTheSame (held file) (state opened)) (base : RegisterState) (accepted : List Entry) (given : List Taken) (all_keep : LeavesNow (held file) (KeepsPrefix D plan base accepted given)) where
+  abbrev first : DiskState
+  first = held file
+
   abbrev new : DiskState
   new = state keeper.writer.device
+
+  keeps : LeavesNow (state opened) (KeepsPrefix D plan base accepted given)
+  keeps = same_leaves first (state opened) (KeepsPrefix D plan base accepted given) was_honest
+      same_held all_keep
 
   recovery : LeavesOnly (state opened) new (KeepsPrefix D plan base accepted given)
   recovery = leaves_weaker (state opened) new (MayLeave (state opened))
@@ -142,80 +179,110 @@ module _ {D P : Type 0} (chooses : P → Choice) (state : D → DiskState) (plan
       no_doubt = subst (λ (k : KeeperView D). k.writer.doubt ≡ []) (sym r.begins) no_doubt;
     }
 
-    kept : KeptInParts chooses state r.relayed.allocator' r.relayed.flusher r.relayed.flusher' r.after
-        r.relayed.last base safe given
+    kept : HaveKept state base r.relayed.flusher r.relayed.flusher' safe given
     kept = r.relayed.keeps base safe given (goes_on r.before r.begins begins)
-
-    abbrev joined : WriterView D
-    joined = r.relayed.last.joined.keeper.writer
 
     begun : r.relayed.flusher.writer ≡ keeper.writer
     begun = r.relayed.parts.writer ∙ ap (λ (v : KeeperView D). v.writer) r.begins
 
-    turned : Always state plan base (state opened) r.relayed.flusher' given kept.turns.now_given
+    turned : Always state plan base (state opened) r.relayed.flusher' given kept.now_given
     turned = always_on state plan base (state opened) r.relayed.flusher r.relayed.flusher' safe
-        kept.turns.now_safe given kept.turns.now_given
+        kept.now_safe given kept.now_given
         (ap (λ (v : WriterView D). v.plan) begun ∙ own)
         (subst (λ (v : WriterView D). LeavesOnly (state opened) (state v.device)
-        (KeepsAll D plan base given)) (sym begun) recovery_keeps) kept.turns.turns
+        (KeepsAll D plan base given)) (sym begun) recovery_keeps) kept.turns
 
-    of_plan : joined.plan ≡ plan
-    of_plan = ap (λ (v : WriterView D). v.plan) r.relayed.last.rejoined.writer ∙ turned.own
+    cuts : TurnsHandOn held plan kept.turns
+    cuts = subst (λ (p : Plan). TurnsHandOn held p kept.turns)
+        (ap (λ (v : WriterView D). v.plan) begun ∙ own)
+        (turns_hand_on state held base r.relayed.flusher r.relayed.flusher' safe kept.now_safe given
+        kept.now_given
+        (subst (λ (v : WriterView D). (state v.device).is_honest) (sym begun)
+        (reopens.moments.honest.1 honest)) kept.turns)
+
+    ended : r.relayed.flusher'.writer ≡ last.writer
+    ended = sym r.relayed.rejoined.writer ∙ ap (λ (v : KeeperView D). v.writer) r.ends
 
     always : LeavesOnly (state opened) (state last.writer.device) (KeepsAll D plan base given)
-    always = subst (λ (v : KeeperView D). LeavesOnly (state opened) (state v.writer.device)
-        (KeepsAll D plan base given)) r.ends
-        (leaves_then (state opened) (state joined.device) (state r.after.keeper.writer.device)
-        (KeepsAll D plan base given)
-        (subst (λ (v : WriterView D). LeavesOnly (state opened) (state v.device)
-        (KeepsAll D plan base given)) (sym r.relayed.last.rejoined.writer) turned.always)
-        (leaves_weaker (state joined.device) (state r.after.keeper.writer.device)
-        (KeepsEither D joined.plan base kept.turns.now_safe kept.batch kept.turns.now_given)
-        (KeepsAll D plan base given)
-        (λ was left is. keeps_first plan joined.plan base kept.turns.now_safe kept.batch given
-        kept.turns.now_given left of_plan turned.front is) kept.advances.stands))
+    always = subst (λ (v : WriterView D). LeavesOnly (state opened) (state v.device)
+        (KeepsAll D plan base given)) ended turned.always
 
-    abbrev Ends : KeeperView D → Type 0
-    Ends v = LeavesNow (state v.writer.device)
-        (KeepsPrefix D plan base ((kept.turns.now_safe ++ kept.more) ++ v.writer.doubt)
-        (kept.turns.now_given ++ kept.told))
+    abbrev Ends : WriterView D → Type 0
+    Ends v = LeavesNow (state v.device)
+        (KeepsPrefix D plan base (kept.now_safe ++ v.doubt) kept.now_given)
 
-    behind : Ends r.after.keeper
-    behind same left may = either_front plan base (kept.turns.now_safe ++ kept.more)
-        r.after.keeper.writer.doubt (kept.turns.now_given ++ kept.told) left
-        (subst (λ (p : Plan). KeepsEither D p base (kept.turns.now_safe ++ kept.more)
-        r.after.keeper.writer.doubt (kept.turns.now_given ++ kept.told) left)
-        (r.relayed.last.turn.commits.is.same.0 ∙ of_plan) (kept.advances.now same left may))
+    leaves : LeavesSafe r.relayed.flusher.writer (state r.relayed.flusher.writer.device)
+    leaves = subst (λ (v : WriterView D). LeavesSafe v (state v.device)) (sym begun) r.leaves
 
-    ends : Ends last
-    ends = subst Ends r.ends behind
+    behind : Ends r.relayed.flusher'.writer
+    behind same left may = either_front plan base kept.now_safe r.relayed.flusher'.writer.doubt
+        kept.now_given left
+        (subst (λ (p : Plan). KeepsEither D p base kept.now_safe r.relayed.flusher'.writer.doubt
+        kept.now_given left) turned.own (kept.kept leaves same left may))
+
+    ends : Ends last.writer
+    ends = subst Ends ended behind
+
+  abbrev Keeps : Image → Type 0
+  Keeps = KeepsPrefix D plan base accepted given
+
+  abbrev All : Image → Type 0
+  All = KeepsAll D plan base given
+
+  recovery_from : LeavesOnly first new Keeps
+  recovery_from = leaves_from first (state opened) new Keeps was_honest honest same_held recovery
+
+  always_from : (last : DiskState) → LeavesOnly (state opened) last All → LeavesOnly first last All
+  always_from last = leaves_from first (state opened) last All was_honest honest same_held
+
+  -- what the next start finds
+  next_from : (last : DiskState) (P : Image → Type 0) → LeavesOnly first last All → LeavesNow last P
+      → (after : F) → StartsAfter last (held after) → LeavesNow (held after) P
+  next_from last P always leaves after =
+      starts_keep_now last (held after) P (always.honest.1 was_honest) leaves
+
+  cut : StartsFind D held plan base accepted given first new
+  cut after = starts_keep first new (held after) Keeps was_honest recovery_from
 
   pub keeps_over : (policy : P) (last : KeeperView D) (fault : Option ServeFault)
       (comes : IsServingOutcome chooses state policy keeper last fault)
-      → KeepsOver chooses state plan opened policy keeper last fault comes base accepted given
+      → KeepsOver chooses state held plan file policy keeper last fault comes base accepted given
   keeps_over policy last fault (inl served) =
       let k = kept policy last served.relayed in
+      let ended = state last.writer.device in
+      let every = always_from ended (always policy last served.relayed) in
+      let at_end = ends policy last served.relayed in
       record {
-        recovery = recovery;
+        recovery = recovery_from;
         safe = safe;
         is_front = found.1;
         register = register;
-        now_safe = k.turns.now_safe ++ k.more;
-        now_given = k.turns.now_given ++ k.told;
-        serving = Served served k;
-        now = ends policy last served.relayed;
-        always = always policy last served.relayed;
+        now_safe = k.now_safe;
+        now_given = k.now_given;
+        serving = Served served k (cuts policy last served.relayed);
+        now = at_end;
+        always = every;
+        next = next_from ended (KeepsPrefix D plan base (k.now_safe ++ last.writer.doubt)
+            k.now_given) every at_end;
+        cut = cut;
       }
-  keeps_over policy last fault (inr unserved) = record {
-    recovery = recovery;
-    safe = safe;
-    is_front = found.1;
-    register = register;
-    now_safe = safe;
-    now_given = given;
-    serving = Unserved unserved;
-    now = subst (λ (v : KeeperView D). LeavesNow (state v.writer.device)
-        (KeepsPrefix D plan base (safe ++ v.writer.doubt) given)) (sym unserved.keeper_is) now;
-    always = subst (λ (v : KeeperView D). LeavesOnly (state opened) (state v.writer.device)
-        (KeepsAll D plan base given)) (sym unserved.keeper_is) recovery_keeps;
-  }
+  keeps_over policy last fault (inr unserved) =
+      let ended = state last.writer.device in
+      let every = always_from ended (subst (λ (v : KeeperView D). LeavesOnly (state opened)
+      (state v.writer.device) All) (sym unserved.keeper_is) recovery_keeps) in
+      let at_end = subst (λ (v : KeeperView D). LeavesNow (state v.writer.device)
+      (KeepsPrefix D plan base (safe ++ v.writer.doubt) given)) (sym unserved.keeper_is) now in
+      record {
+        recovery = recovery_from;
+        safe = safe;
+        is_front = found.1;
+        register = register;
+        now_safe = safe;
+        now_given = given;
+        serving = Unserved unserved;
+        now = at_end;
+        always = every;
+        next = next_from ended (KeepsPrefix D plan base (safe ++ last.writer.doubt) given) every
+            at_end;
+        cut = cut;
+      }

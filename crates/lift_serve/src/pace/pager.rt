@@ -1,13 +1,9 @@
 //! What tells a resting session that its terminal's answer is stored.
 
 ghost use Rattle.std.specs.Prelude.{◌≡◌};
-ghost use Rattle.lift_serve.specs.RingCount.{asks_at};
 
-use super::RingCount;
 use lift_base::Terminal;
-use lift_kiosk::DeskPort;
 use std::marker::Model;
-use std::snapshot::Snapshot;
 use std::sync::Wait;
 use std::sync::atomic::{AtomicBool, AtomicU64, Ordering};
 use std::thread;
@@ -29,6 +25,13 @@ const ANSWERED: u64 = 2;
 /// From here on the ask is in a batch, at the latest in the one whose number, from 1, is so much
 /// less.
 const IN_BATCH: u64 = 2;
+
+/// Evidence that a pager was told of an ask, which is used up where the bell is rung for it. Only
+/// `Pager::asked` makes one.
+#[derive(Drop)]
+pub struct PagedAsk {
+    made: (),
+}
 
 /// How far a terminal's ask is, and where its session rests. The session says that it asked and
 /// heard, the allocator's thread that a scan begins, and the flusher's which batches are answered.
@@ -63,12 +66,10 @@ impl Pager {
         }
     }
 
-    /// The terminal's last ask is stored at this port.
-    pub fn asked<'d>(&self, port: &DeskPort<'d>, count: &mut RingCount<'d>)
-        ensures { count.new ≡ record count.old { told = asks_at port.now } }
-    {
+    /// The terminal's last ask is stored.
+    pub fn asked(&self) -> PagedAsk {
         self.stage.store(ASKED, Ordering::SeqCst);
-        count.told = Snapshot::of(port);
+        PagedAsk { made: () }
     }
 
     /// The answer was heard.

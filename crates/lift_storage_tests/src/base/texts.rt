@@ -45,17 +45,17 @@ fn outcome(course: &Course, before: usize, length: usize) -> (usize, usize) {
 }
 
 /// Whether the parts of a text up to these places are written, one after another, by a watched
-/// writer and by one that isn't: the calls of each are those that have to come, and each byte that
-/// is told is taken once. After a call that stopped none follows for that part, and the next part
+/// writer's own call and by the one for all writers that count: the calls of each are those that
+/// have to come, and each byte that is told is taken once. After a call that stopped none follows for that part, and the next part
 /// is tried again.
 fn is_put(course: Course, text: &[u8], ends: &[usize]) -> bool {
     let (watched_by, plainly_by) = (Stream::new(text, course), Stream::new(text, course));
     let mut watched = Watched::new(Side {
         stream: &watched_by,
     });
-    let mut plain = Side {
+    let mut plain = Watched::new(Side {
         stream: &plainly_by,
-    };
+    });
     let (mut from, mut calls, mut has_failed, mut is_right) = (0usize, 0usize, false, true);
     for end in ends {
         let part = text.get(from..*end).unwrap_or_default();
@@ -83,7 +83,7 @@ fn is_put(course: Course, text: &[u8], ends: &[usize]) -> bool {
         & watched
             .into_inner()
             .stream
-            .is_at(plain.stream.place.get(), calls)
+            .is_at(plain.into_inner().stream.place.get(), calls)
 }
 
 /// A call fails, and the next ones don't.

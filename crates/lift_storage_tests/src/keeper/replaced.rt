@@ -23,7 +23,7 @@ const SECOND_GATE: u32 = 4;
 /// Car A stops at floor 0, going up, and that is made safe.
 fn stops<D: Disk>(keeper: &mut Keeper<D>, told: u32) -> bool {
     let reply = ask(keeper, car(), told, Body::Stop(Floor::default(), Dir::Up));
-    (reply == Reply::Stopped(None)) & (keeper.commit() == Ok(()))
+    (reply == Reply::Stopped(None)) & keeper.commit().is_ok()
 }
 
 /// Whether the gate of the second batch is open in the file.

@@ -13,4 +13,5 @@ returns-clause-converses g c =
       closed = told.closed;
       unwritten = told.unwritten;
       failed = told.failed;
+      counted = record { read = told.counted.read; found = told.counted.found; wrote = told.counted.wrote };
     }

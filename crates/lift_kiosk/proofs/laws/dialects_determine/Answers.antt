@@ -1,6 +1,7 @@
 use Rattle.lift_kiosk.proofs.Determined.{outcome_is, exchanges_are, written_is}
 use Rattle.lift_kiosk.proofs.Whole.{same_session, all_written}
 use Rattle.lift_kiosk.proofs.Streams.{same_streams}
+use Rattle.lift_kiosk.proofs.OfStreams.{is_of_streams}
 use Rattle.lift_kiosk.proofs.laws.dialects_determine.Goals as goal
 
 pub returns-clause-line : goal.returns-clause-line
@@ -20,3 +21,6 @@ returns-clause-streams g c unique = same_streams g.T.Dialect.wants unique g.T.Di
 
 pub returns-clause-text : goal.returns-clause-text
 returns-clause-text g c unique = all_written g.T.Dialect.wants unique g.T.Dialect.keeps
+
+pub returns-clause-own : goal.returns-clause-own
+returns-clause-own g c = is_of_streams g.T.Dialect.wants g.T.Dialect.keeps

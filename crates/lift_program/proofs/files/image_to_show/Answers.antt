@@ -1,7 +1,9 @@
 use Rattle.std.proofs.Common.{ap, subst, sym, ◌∙◌}
+use Rattle.lift_disk.specs.lemmas.Starts.{holds_then}
 use Rattle.lift_disk.specs.Files.{sector_file_state_of}
-use Rattle.lift_program.specs.Unwritten.{unwritten_file_of}
-use Rattle.lift_program.proofs.Stages.{is_opened}
+use Rattle.lift_disk.specs.Holding.{HoldsTheSame}
+use Rattle.lift_program.specs.Unwritten.{unwritten_file_of, unwritten_state_of}
+use Rattle.lift_program.proofs.Stages.{is_opened, unwritten_holds}
 use Rattle.lift_program.proofs.files.image_to_show.Goals as goal
 
 pub returns-in-Ok-clause-opened : goal.returns-in-Ok-clause-opened
@@ -10,3 +12,4 @@ returns-in-Ok-clause-opened g c =
     (ap unwritten_file_of c.over-in-Ok.ensures.below ∙ c.over.ensures.file) c.over-in-Ok.ensures.calls (c.over-in-Ok.ensures.failures ∙ c.over.ensures.failures ∙ c.in-Ok.ensures.failures)
     c.in-Ok.ensures.calls c.in-Ok.ensures.measured
     (λ honest. c.over-in-Ok.ensures.honest (subst (λ f. (sector_file_state_of g.I.Told.ToldFile.holds f).is_honest) (sym c.over.ensures.file) honest))
+    (holds_then _ _ _ (subst (λ f. HoldsTheSame (sector_file_state_of g.I.Told.ToldFile.holds f) (unwritten_state_of g.I.Told.ToldFile.holds c.over.result)) c.over.ensures.file (unwritten_holds g.I.Told.ToldFile.holds c.over.result)) c.over-in-Ok.ensures.held)

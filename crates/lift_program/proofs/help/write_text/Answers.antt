@@ -15,25 +15,25 @@ put_front before after bytes (Err fault) failed told = (fault.written, told)
 
 pub returns-then-is_err : goal.returns-then-is_err
 returns-then-is_err g c =
-    let before = g.W.Write.contents c.args.writer.now in
-    let after = g.W.Write.contents c.put_all.new.writer in
+    let before = g.W.Outflow.contents c.args.writer.now in
+    let after = g.W.Outflow.contents c.put_all.new.writer in
     let failed : is_err c.put_all.result ≡ true = sym c.is_err.ensures.value ∙ c.if-is_err.true in
     let front = put_front before after c.as_bytes.result.now c.put_all.result failed c.put_all.ensures.front in
     inr (
-      put_failed g.W.Outlet.gives g.W.Outflow.flushes c.as_bytes.result.now _ _ c.put_all.result failed c.put_all.ensures.within c.put_all.ensures.each_so_far,
+      put_failed g.W.Outflow.gives g.W.Outflow.flushes c.as_bytes.result.now _ _ c.put_all.result failed c.put_all.ensures.within c.put_all.ensures.each_so_far,
       (front.0, subst (λ bytes. Appends before after (take front.0 bytes)) c.as_bytes.ensures.value front.1),
     )
 
 pub returns-in-Ok : goal.returns-in-Ok
 returns-in-Ok g c =
-    let taken = takes_put g.W.Outlet.gives c.as_bytes.result.now _ _ c.put_all.result (sym c.is_err.ensures.value ∙ c.if-is_err.false) c.put_all.ensures.each in
+    let taken = takes_put g.W.Outflow.gives c.as_bytes.result.now _ _ c.put_all.result (sym c.is_err.ensures.value ∙ c.if-is_err.false) c.put_all.ensures.each in
     inl ((c.put_all.new.writer, taken, c.in-Ok.ensures.flushed), search rules)
 
 pub returns-in-Err : goal.returns-in-Err
 returns-in-Err g c =
-    let before = g.W.Write.contents c.args.writer.now in
-    let after = g.W.Write.contents c.flush_once.new.self in
-    let taken = takes_put g.W.Outlet.gives c.as_bytes.result.now _ _ c.put_all.result (sym c.is_err.ensures.value ∙ c.if-is_err.false) c.put_all.ensures.each in
+    let before = g.W.Outflow.contents c.args.writer.now in
+    let after = g.W.Outflow.contents c.flush_once.new.self in
+    let taken = takes_put g.W.Outflow.gives c.as_bytes.result.now _ _ c.put_all.result (sym c.is_err.ensures.value ∙ c.if-is_err.false) c.put_all.ensures.each in
     inr (
       inr (c.put_all.new.writer, taken, c.in-Err.ensures.failed),
       (length c.args.text.now, subst (Appends before after) (sym (take-length c.args.text.now)) (search rules)),

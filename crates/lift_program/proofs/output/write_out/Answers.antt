@@ -7,7 +7,7 @@ use Rattle.lift_program.proofs.output.write_out.Goals as goal
 pub returns-then-is_err-clause-passed_on : goal.returns-then-is_err-clause-passed_on
 returns-then-is_err-clause-passed_on g c = record {
   flushed = tt;
-  failed = λ same. put_failed g.W.Outlet.gives g.W.Outflow.flushes c.args.bytes.now _ _ c.put_all.result (sym c.is_err.ensures.value ∙ c.if-is_err.true) c.put_all.ensures.within c.put_all.ensures.each_so_far;
+  failed = λ same. put_failed g.W.Outflow.gives g.W.Outflow.flushes c.args.bytes.now _ _ c.put_all.result (sym c.is_err.ensures.value ∙ c.if-is_err.true) c.put_all.ensures.within c.put_all.ensures.each_so_far;
   out_of_memory = λ same. absurd (cc same);
 }
 
@@ -15,7 +15,7 @@ pub returns-in-Ok-clause-passed_on : goal.returns-in-Ok-clause-passed_on
 returns-in-Ok-clause-passed_on g c = record {
   flushed = (
     c.put_all.new.writer,
-    takes_put g.W.Outlet.gives c.args.bytes.now _ _ c.put_all.result (sym c.is_err.ensures.value ∙ c.if-is_err.false) c.put_all.ensures.each,
+    takes_put g.W.Outflow.gives c.args.bytes.now _ _ c.put_all.result (sym c.is_err.ensures.value ∙ c.if-is_err.false) c.put_all.ensures.each,
     c.in-Ok.ensures.flushed,
   );
   failed = λ same. absurd (cc same);
@@ -24,7 +24,7 @@ returns-in-Ok-clause-passed_on g c = record {
 
 pub returns-in-Err-clause-passed_on : goal.returns-in-Err-clause-passed_on
 returns-in-Err-clause-passed_on g c =
-    let taken = takes_put g.W.Outlet.gives c.args.bytes.now _ _ c.put_all.result (sym c.is_err.ensures.value ∙ c.if-is_err.false) c.put_all.ensures.each in
+    let taken = takes_put g.W.Outflow.gives c.args.bytes.now _ _ c.put_all.result (sym c.is_err.ensures.value ∙ c.if-is_err.false) c.put_all.ensures.each in
     record {
       flushed = tt;
       failed = λ same. inr (c.put_all.new.writer, taken, c.in-Err.ensures.failed);
@@ -34,5 +34,5 @@ returns-in-Err-clause-passed_on g c =
 pub returns-in-Err-clause-front : goal.returns-in-Err-clause-front
 returns-in-Err-clause-front g c = (
   length c.args.bytes.now,
-  subst (Appends (g.W.Write.contents c.args.writer.now) (g.W.Write.contents c.pass_on.new.writer)) (sym (take-length c.args.bytes.now)) (search rules),
+  subst (Appends (g.W.Outflow.contents c.args.writer.now) (g.W.Outflow.contents c.pass_on.new.writer)) (sym (take-length c.args.bytes.now)) (search rules),
 )

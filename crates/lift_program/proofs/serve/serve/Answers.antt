@@ -1,24 +1,24 @@
-use Rattle.std.proofs.Common.{sym, subst}
-use Rattle.lift_serve.specs.Open.{ServingEndState}
-use Rattle.lift_program.specs.Serving.{IsServedOver}
-use Rattle.lift_program.proofs.Telling.{told_at_once}
+use Rattle.std.proofs.Common.{rules, sym}
+use Rattle.lift_program.proofs.Telling.{heard_errors, told_at_once}
 use Rattle.lift_program.proofs.serve.serve.Goals as goal
 
 pub returns-clause-served : goal.returns-clause-served
 returns-clause-served g c =
-    let of = c.args.prepared in
-    let served = c.serve_telling.result in
-    let came = c.serving_of.result in
-    subst (λ (e : ServingEndState). IsServedOver g.D.Disk.state of.policy of.listening of.sessions of.keeper came.fault came.left e) (sym c.serving_of.ensures.end) (record {
+    let served = c.serve-served.result in
+    record {
       last = served.keeper;
-      is_left = sym c.serving_of.ensures.left;
-      comes = c.serve_telling.ensures.comes;
-      told = c.serving_of.ensures.fault;
-      ends = c.serve_telling.ensures.ended;
-      counted = c.serve_telling.ensures.counted;
-    })
+      is_left = sym c.left_by.ensures;
+      comes = c.serve-served.ensures.comes;
+      told = search rules;
+      ends = c.serve-served.ensures.ended;
+      counted = c.serve-served.ensures.counted;
+    }
 
 pub returns-clause-at_once : goal.returns-clause-at_once
 returns-clause-at_once g c =
-    let served = c.serve_telling.result in
-    told_at_once g.E.Write.contents c.args.errors.now c.serve_telling.new.errors c.args.prepared.keeper.writer.is_broken served.keeper.writer.is_broken served.end.fault c.serving_of.result.fault c.requires c.serving_of.ensures.fault c.serve_telling.ensures.heard
+    let contents = g.E.Write.contents in
+    let was = c.args.ready.prepared.keeper.writer.is_broken in
+    let served = c.serve-served.result in
+    let is = served.keeper.writer.is_broken in
+    told_at_once contents c.args.errors served.witness.errors was is served.end.fault c.fault_of.result c.requires (search rules)
+    (heard_errors contents was is (record { errors = c.args.errors }) served.witness c.serve-served.ensures.heard)

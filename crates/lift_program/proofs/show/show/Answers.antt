@@ -14,8 +14,8 @@ use Rattle.lift_program.proofs.show.show.Goals as goal
 
 pub returns-in-Ok-outcome-clause-shown : goal.returns-in-Ok-outcome-clause-shown
 returns-in-Ok-outcome-clause-shown g c =
-    let before = g.W.Write.contents c.args.writer.now in
-    let after = g.W.Write.contents c.show_on-disk.new.writer in
+    let before = g.W.Outflow.contents c.args.writer.now in
+    let after = g.W.Outflow.contents c.show_on-disk.new.writer in
     let state = buffered_state_of (unwritten_state_of g.I.Told.ToldFile.holds) in
     let shows : ShowsRegister c.in-Ok.building (state c.in-Ok-image_to_show.disk) (state c.show_on-disk.result.0) before after = search rules in
     let same : (unwritten_state_of g.I.Told.ToldFile.holds (below c.show_on-disk.result.0)).failures ≡ (unwritten_state_of g.I.Told.ToldFile.holds (below c.in-Ok-image_to_show.disk)).failures = search rules in
@@ -30,8 +30,8 @@ returns-in-Ok-outcome-clause-shown g c =
 
 pub returns-in-Err-outcome-clause-failure : goal.returns-in-Err-outcome-clause-failure
 returns-in-Err-outcome-clause-failure g c =
-    let before = g.W.Write.contents c.args.writer.now in
-    let after = g.W.Write.contents c.show_on-disk.new.writer in
+    let before = g.W.Outflow.contents c.args.writer.now in
+    let after = g.W.Outflow.contents c.show_on-disk.new.writer in
     showing_left _ _ _ c.in-Ok.building c.in-Ok-image_to_show.disk c.show_on-disk.result.0 _ before after c.in-Err-outcome.fault c.new-in-Err-outcome.ensures c.in-Ok.ensures.found
     c.in-Ok-image_to_show.ensures.opened (subst (λ r. IfErr r IsShowingFault) c.in-Err-outcome.is c.show_on-disk.ensures.fault)
     (λ refusal same. c.show_on-disk.ensures.refused refusal (c.in-Err-outcome.is ∙ ap Err same))
@@ -40,15 +40,15 @@ returns-in-Err-outcome-clause-failure g c =
 
 pub returns-in-Ok-outcome-clause-only : goal.returns-in-Ok-outcome-clause-only
 returns-in-Ok-outcome-clause-only g c =
-    let before = g.W.Write.contents c.args.writer.now in
-    let after = g.W.Write.contents c.show_on-disk.new.writer in
+    let before = g.W.Outflow.contents c.args.writer.now in
+    let after = g.W.Outflow.contents c.show_on-disk.new.writer in
     part_shown _ c.args.image.now c.args.building.now c.in-Ok.building c.in-Ok-image_to_show.disk c.show_on-disk.result.0 before after c.in-Ok.ensures.found
     c.in-Ok-image_to_show.ensures.opened (shown_front c.in-Ok.building (buffered_state_of (unwritten_state_of g.I.Told.ToldFile.holds) c.in-Ok-image_to_show.disk) (buffered_state_of (unwritten_state_of g.I.Told.ToldFile.holds) c.show_on-disk.result.0) before after (search rules))
 
 pub returns-in-Err-outcome-clause-only : goal.returns-in-Err-outcome-clause-only
 returns-in-Err-outcome-clause-only g c =
-    let before = g.W.Write.contents c.args.writer.now in
-    let after = g.W.Write.contents c.show_on-disk.new.writer in
+    let before = g.W.Outflow.contents c.args.writer.now in
+    let after = g.W.Outflow.contents c.show_on-disk.new.writer in
     showing_part _ c.args.image.now c.args.building.now c.in-Ok.building c.in-Ok-image_to_show.disk c.show_on-disk.result.0 before after c.in-Err-outcome.fault
     c.in-Ok.ensures.found c.in-Ok-image_to_show.ensures.opened (subst (λ r. IfErr r IsShowingFault) c.in-Err-outcome.is c.show_on-disk.ensures.fault)
     (subst (λ r. IfErr r (λ fault. IsReportOfFault fault before after)) c.in-Err-outcome.is c.show_on-disk.ensures.unwritten)

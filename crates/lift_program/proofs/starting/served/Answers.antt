@@ -1,13 +1,17 @@
-use Rattle.std.proofs.Common.{ℕ, Option}
+use Rattle.std.proofs.Common.{◌∙◌, ℕ, List, Option, Err, ap, subst, sym}
+use Rattle.std.specs.Io.KnownBytes.{Appends}
 use Rattle.std.specs.declared.net.tcp.TcpListener.{TcpListener as Listener}
 use Rattle.lift_disk.specs.Below.{buffered_state_of}
 use Rattle.lift_disk.specs.Files.{sector_file_state_of}
+use Rattle.lift_program.specs.Ends.{serving_text}
 use Rattle.lift_program.specs.Images.{CommandFiles, IsTextRead, image_files}
 use Rattle.lift_program.specs.Listening.{local}
 use Rattle.lift_program.specs.Stages.{IsNoText}
 use Rattle.lift_program.specs.Unwritten.{unwritten_state_of}
+use Rattle.lift_program.specs.declared.end.End.TheVariants.{Served}
 use Rattle.lift_program.specs.declared.words.Request.TheVariants.{Serve}
 use Rattle.lift_program.proofs.Asked.{asked_end, served_end}
+use Rattle.lift_program.proofs.Stages.{fault_there}
 use Rattle.lift_program.proofs.starting.served.Goals as goal
 
 pub returns-in-Ok-clause-end : goal.returns-in-Ok-clause-end
@@ -19,12 +23,22 @@ returns-in-Ok-clause-end g c =
       is_no_text = λ path. IsNoText (g.B.TextOpener.opens a.openers.files.building path) g.B.Text.Read.remaining g.B.TextOpener.reads;
     } in
     let gives : ℕ → Option Listener → Type 0 = g.L.Listens.gives a.openers.socket local in
-    let before = g.W.Write.contents c.args.writer.now in
-    let after = g.W.Write.contents c.made_ready.new.writer in
-    let of = c.in-Ok.field-0.prepared in
-    let serving = c.serve-serving.result in
-    λ input words asks. served_end files gives input words before after (Serve a.image a.building a.port a.sessions a.policy) of.keeper of.listening c.in-Ok.field-0.port of.sessions of.policy serving.fault serving.left serving.end
-    asks c.in-Ok.ensures.ready c.in-Ok.ensures.said c.serve-serving.ensures.served
+    let before = g.W.Outflow.contents c.args.writer.now in
+    let after = g.W.Outflow.contents c.made_ready.new.writer in
+    let of = c.in-Ok.ready.prepared in
+    λ input words asks. served_end files gives input words before after (Serve a.image a.building a.port a.sessions a.policy) of.keeper of.listening c.in-Ok.ready.port of.sessions of.policy c.serve-serving.result.0
+    asks (c.in-Ok.ensures.port, c.in-Ok.ensures.sessions, c.in-Ok.ensures.policy, c.in-Ok.ensures.ready) c.made_ready.ensures.front c.serve-serving.ensures.port c.serve-serving.ensures.served
+
+pub returns-in-Ok-clause-output : goal.returns-in-Ok-clause-output
+returns-in-Ok-clause-output g c =
+    let before = g.W.Outflow.contents c.args.writer.now in
+    let after = g.W.Outflow.contents c.made_ready.new.writer in
+    λ input words. record {
+      report = subst (λ (p : ℕ). Appends before after (serving_text p)) (sym (c.serve-serving.ensures.port ∙ c.in-Ok.ensures.port)) c.in-Ok.ensures.said;
+      answered = λ same. absurd (let other = same in cc);
+      unwritten = λ same. absurd (let other = same in cc);
+      passed_on = c.in-Ok.ensures.flushed;
+    }
 
 pub returns-in-Err-clause-end : goal.returns-in-Err-clause-end
 returns-in-Err-clause-end g c =
@@ -35,6 +49,15 @@ returns-in-Err-clause-end g c =
       is_no_text = λ path. IsNoText (g.B.TextOpener.opens a.openers.files.building path) g.B.Text.Read.remaining g.B.TextOpener.reads;
     } in
     let gives : ℕ → Option Listener → Type 0 = g.L.Listens.gives a.openers.socket local in
-    let before = g.W.Write.contents c.args.writer.now in
-    let after = g.W.Write.contents c.made_ready.new.writer in
-    λ input words asks. asked_end files gives input words before after c.in-Err.unserved (Serve a.image a.building a.port a.sessions a.policy) asks c.in-Err.ensures.end c.made_ready.ensures.only
+    let before = g.W.Outflow.contents c.args.writer.now in
+    let after = g.W.Outflow.contents c.made_ready.new.writer in
+    λ input words asks. asked_end files gives before after input words (Served (Err c.in-Err.failure)) (Serve a.image a.building a.port a.sessions a.policy) asks
+    (record { port_is = tt; serving = tt; failure = c.in-Err.ensures.failure; refused = c.in-Err.ensures.refused; quiet = c.in-Err.ensures.quiet }) c.made_ready.ensures.front
+
+pub returns-in-Err-clause-output : goal.returns-in-Err-clause-output
+returns-in-Err-clause-output g c = λ input words. record {
+  report = c.in-Err.ensures.report;
+  answered = λ same. absurd (let other = same in cc);
+  unwritten = λ is. c.in-Err.ensures.failed (ap fault_there is);
+  passed_on = tt;
+}

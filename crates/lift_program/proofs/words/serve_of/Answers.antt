@@ -1,6 +1,6 @@
 use Rattle.std.proofs.Common.{codes, refl, subst, sym}
 use Rattle.clap.specs.Words.{found_of, rows_of}
-use Rattle.lift_program.specs.Words.{IsCount, IsPolicy}
+use Rattle.lift_program.specs.Words.{IsAbsentLast, IsCount, IsPolicy}
 use Rattle.lift_program.proofs.Rows.{if_none, text_in, no_files_to_serve, no_port, no_sessions, no_policy}
 use Rattle.lift_program.proofs.words.serve_of.Goals as goal
 
@@ -27,9 +27,11 @@ returns-clause-some c =
     let found = found_of c.args.matches.now in
     let port = text_in found (codes "port") c.get_str.result c.get_str.result c.get_str.ensures refl in
     let sessions = text_in found (codes "sessions") c.get_str-2.result c.get_str-2.result c.get_str-2.ensures refl in
-    let policy = text_in found (codes "policy") c.get_str-3.result c.get_str-3.result c.get_str-3.ensures refl in (
+    let policy = text_in found (codes "policy") c.get_str-3.result c.get_str-3.result c.get_str-3.ensures refl in
+    let last = text_in found (codes "absent-last") c.get_str-4.result c.get_str-4.result c.get_str-4.ensures refl in (
       c.in_ok-image.ensures.some,
       subst (λ w. IsCount 65535 w c.in_ok-port.port) (sym port) c.in_ok-port.ensures.some,
       subst (λ w. IsCount 1000000 w c.in_ok-sessions.sessions) (sym sessions) c.in_ok-sessions.ensures.some,
       subst (λ w. IsPolicy w c.in_ok-policy.policy) (sym policy) c.in_ok-policy.ensures.some,
+      subst (λ w. IsAbsentLast w c.is_there-absent_last.result) (sym last) c.is_there-absent_last.ensures,
     )

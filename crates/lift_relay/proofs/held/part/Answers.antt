@@ -4,7 +4,8 @@ use Rattle.lift_register.specs.Register.{RegisterState, register_of}
 use Rattle.lift_register.specs.lemmas.EntryLemmas.{register_of-nothing}
 use Rattle.lift_parts.specs.Flusher.{FlusherState}
 use Rattle.lift_relay.proofs.Allocated.{based}
-use Rattle.lift_desk.specs.Seats.{ClerkPlace, ahead_from}
+use Rattle.lift_desk.specs.Seats.{ClerkPlace, OwesNothing, ahead_from, with_looks_of}
+use Rattle.lift_desk.specs.lemmas.Places.{with_no_looks}
 use Rattle.lift_policy.specs.Eligible.{any_eligible}
 use Rattle.lift_policy.specs.Step.{State}
 use Rattle.lift_policy.specs.Run.{Run}
@@ -37,6 +38,21 @@ new-first-requires-clause-decided g c =
           ∙ (λ i. register_of (sym (ap read c.of.ensures) i) (sym c.new-2.ensures i));
       sealed = (ap (λ (s : State). s.batch) c.of.ensures, ap (λ (s : State). s.batch) c.of-2.ensures);
     }
+
+-- seats that looked at nothing are joined in, and the clerk's are as they were
+unlooked : (ahead seat was joined : List ClerkPlace) → joined ≡ with_looks_of ahead seat → ahead ≡ ahead_from was → seat ≡ was → joined ≡ was
+unlooked ahead seat was joined is first second = is ∙ (λ k. with_looks_of (first k) (second k)) ∙ with_no_looks was
+
+pub new-requires-in-Err-clause-answered : goal.new-requires-in-Err-clause-answered
+new-requires-in-Err-clause-answered g c =
+    let split = c.split-ahead in
+    subst OwesNothing (sym (unlooked split.result.0 split.result.1 c.into_parts-seat.result.0 c.join-seat.result c.join-seat.ensures.joined split.ensures.ahead split.ensures.clerk)) c.into_parts-seat.ensures.answered
+
+pub returns-in-Err-clause-refused : goal.returns-in-Err-clause-refused
+returns-in-Err-clause-refused g c =
+    let split = c.split-ahead in
+    let same : c.join-seat.result ≡ c.into_parts-seat.result.0 = unlooked split.result.0 split.result.1 c.into_parts-seat.result.0 c.join-seat.result c.join-seat.ensures.joined split.ensures.ahead split.ensures.clerk in
+    search rules
 
 not_broken : {A : Type 0} (b : Bool) → b ≡ true → b ≡ false → A
 not_broken true is isnt = absurd (cc)

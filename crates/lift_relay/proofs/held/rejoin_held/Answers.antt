@@ -29,4 +29,4 @@ returns-clause-joined g c =
 pub returns-clause-history : goal.returns-clause-history
 returns-clause-history g c = λ base safe given h.
     let r = returns-clause-joined g c in
-    c.parts_are_clerks.ensures.joined c.join.result c.args.flusher base safe given (r.desk ∙ sym c.requires.of_one.desk) r.seat r.writer (r.state ∙ r.same_state) h
+    c.parts_are_clerks.ensures.joined c.join.result c.args.flusher c.args.allocator.seat base safe given (r.desk ∙ sym c.requires.of_one.desk) r.seat r.writer (r.state ∙ r.same_state) h

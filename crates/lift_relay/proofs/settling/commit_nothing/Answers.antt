@@ -10,7 +10,7 @@ pub returns-in-Ok-clause-commits : goal.returns-in-Ok-clause-commits
 returns-in-Ok-clause-commits g c =
     let w = c.args.writer.now in
     let counts : FlushCounts = record { batches = 0; answers = 0 } in
-    under_ok g.D.Disk.state w [] c.commit.new.self tt counts (subst (λ (b : List Entry). Commits g.D.Disk.state w b c.commit.new.self (Ok tt)) c.new.ensures c.in-Ok.ensures.commits)
+    under_ok g.D.Disk.state w [] c.commit.new.self c.in-Ok._safe counts (subst (λ (b : List Entry). Commits g.D.Disk.state w b c.commit.new.self (Ok c.in-Ok._safe)) c.new.ensures c.in-Ok.ensures.commits)
 
 pub returns-in-Err-clause-commits : goal.returns-in-Err-clause-commits
 returns-in-Err-clause-commits g c =
@@ -21,7 +21,7 @@ pub returns-in-Ok-clause-calls : goal.returns-in-Ok-clause-calls
 returns-in-Ok-clause-calls g c =
     let w = c.args.writer.now in
     let counts : FlushCounts = record { batches = 0; answers = 0 } in
-    calls_under_ok g.D.Disk.state w 0 c.commit.new.self tt counts (subst (λ (b : List Entry). CommitCalls g.D.Disk.state w (length b) c.commit.new.self (Ok tt)) c.new.ensures c.in-Ok.ensures.calls)
+    calls_under_ok g.D.Disk.state w 0 c.commit.new.self c.in-Ok._safe counts (subst (λ (b : List Entry). CommitCalls g.D.Disk.state w (length b) c.commit.new.self (Ok c.in-Ok._safe)) c.new.ensures c.in-Ok.ensures.calls)
 
 pub returns-in-Err-clause-calls : goal.returns-in-Err-clause-calls
 returns-in-Err-clause-calls g c =
@@ -31,7 +31,7 @@ returns-in-Err-clause-calls g c =
 pub returns-in-Ok-clause-same : goal.returns-in-Ok-clause-same
 returns-in-Ok-clause-same g c =
     let w = c.args.writer.now in
-    (nothing_safe g.D.Disk.state w c.commit.new.self tt (subst (λ (b : List Entry). Commits g.D.Disk.state w b c.commit.new.self (Ok tt)) c.new.ensures c.in-Ok.ensures.commits)).1
+    (nothing_safe g.D.Disk.state w c.commit.new.self c.in-Ok._safe (subst (λ (b : List Entry). Commits g.D.Disk.state w b c.commit.new.self (Ok c.in-Ok._safe)) c.new.ensures c.in-Ok.ensures.commits)).1
 
 pub returns-in-Err-clause-same : goal.returns-in-Err-clause-same
 returns-in-Err-clause-same g c =

@@ -7,18 +7,18 @@ pub returns-clause-flushes : goal.returns-clause-flushes
 returns-clause-flushes g c =
     let f = c.args.flusher.now in
     let after = c.turn.new.self in
-    let e = c.turn.ensures.flushes in
+    let e = c.turn.ensures.turn in
     flushes_of f after e.commits.same.0 c.turn.result e.turns e.commits.broken (safe_register g.D.Disk.state f.writer (entries_between f.end after.end) after.end.state.register after.writer c.turn.result (commits_to g.D.Disk.state f after c.turn.result e)) e.commits.stays
 
 pub returns-clause-fails : goal.returns-clause-fails
 returns-clause-fails g c is =
-    let e = c.turn.ensures.flushes in
+    let e = c.turn.ensures.turn in
     fails_of c.args.flusher.now c.turn.new.self e.commits.same.0 c.turn.result is e.turns e.commits.broken e.commits.breaks e.commits.unmoved
 
 pub returns-clause-rests : goal.returns-clause-rests
 returns-clause-rests g c is =
-    let e = c.turn.ensures.flushes in
+    let e = c.turn.ensures.turn in
     rests_of c.args.flusher.now c.turn.new.self e.commits.same.0 c.turn.result is e.turns e.commits.broken e.commits.rests
 
 pub returns-clause-past : goal.returns-clause-past
-returns-clause-past g c = λ w terminals safe given p takes. c.flushes_are_steps.ensures.pasts c.args.flusher.now c.turn.new.self c.turn.result c.turn.ensures.flushes w terminals safe given p takes
+returns-clause-past g c = λ w terminals safe given p takes. c.flushes_are_steps.ensures.pasts c.args.flusher.now c.turn.new.self c.turn.result c.turn.ensures.turn w terminals safe given p takes

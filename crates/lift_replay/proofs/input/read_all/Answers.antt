@@ -1,7 +1,7 @@
 use Rattle.std.proofs.Common.{◌≡◌, ◌<◌, ◌≤◌, ◌+◌, ◌∙◌, true, length, vec_len, ap, sym, subst, refl, inl, arith, rules, suc, Ok, Err}
 use Rattle.std.specs.Io.KnownBytes.{Consumes, IsAtEnd}
 use Rattle.std.proofs.KnownBytes.{Consumes-trans}
-use Rattle.lift_replay.proofs.Taken.{all_taken, each_more, each_on, handed_on, taken_more}
+use Rattle.lift_replay.proofs.Taken.{all_taken, came_more, each_more, each_on, grew_more, handed_on, taken_more}
 use Rattle.lift_replay.proofs.input.read_all.Goals.{then-not-branch-via-then-not-branch, then-not-branch-via-else-not-branch+then-len-most}
 use Rattle.lift_replay.proofs.input.read_all.Goals as goal
 
@@ -56,6 +56,7 @@ loop-preserved g c =
     record {
       taken = subst (Consumes (g.R.Read.remaining c.args.input.now.reader) (g.R.Read.remaining c.read_some.new.input.reader)) (sym gave.1)
           (Consumes-trans _ _ _ c.loop.bytes.items gave.0 c.loop.invariant.taken gave.2);
+      came = came_more _ _ _ c.loop.bytes.items c.in_ok-read_some.ensures.came.0 c.read_some.new.bytes.items c.loop.invariant.came c.in_ok-read_some.ensures.came.2 c.in_ok-read_some.ensures.came.1;
       room = search rules;
       calls = c.read_some.ensures.one_call.1.0 ∙ ap (λ n. n + 1) c.loop.invariant.calls;
       each = each_on g.R.Read.remaining _ _ c.args.input.now c.loop.input c.read_some.new.input c.loop.bytes.items c.read_some.new.bytes.items count more grows
@@ -77,3 +78,17 @@ returns-clause-reads g c =
 pub returns-in_err-read_some-clause-fails : goal.returns-in_err-read_some-clause-fails
 returns-in_err-read_some-clause-fails g c =
     handed_on _ c.from_residual.result _ _ c.from_residual.ensures.1 (λ is. let failed = c.in_err-read_some.ensures.one_err (ap Err is) in inl (c.loop.input.reader, failed.0, c.loop.invariant.told, failed.1))
+
+pub returns-then-not-branch-clause-came : goal.returns-then-not-branch-clause-came
+returns-then-not-branch-clause-came g c =
+    let came = c.in_ok-read_some.ensures.came in
+    came_more _ _ _ c.loop.bytes.items came.0 c.read_some.new.bytes.items c.loop.invariant.came came.2 came.1
+
+pub returns-then-not-branch-clause-grew : goal.returns-then-not-branch-clause-grew
+returns-then-not-branch-clause-grew g c = grew_more _ _ _ c.loop.bytes.items c.loop.invariant.came c.read_some.ensures.grew
+
+pub returns-in_err-read_some-clause-grew : goal.returns-in_err-read_some-clause-grew
+returns-in_err-read_some-clause-grew g c = grew_more _ _ _ c.loop.bytes.items c.loop.invariant.came c.read_some.ensures.grew
+
+pub returns-clause-grew : goal.returns-clause-grew
+returns-clause-grew g c = (c.loop.bytes.items, c.loop.invariant.came)

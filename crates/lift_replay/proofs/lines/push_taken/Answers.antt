@@ -7,11 +7,11 @@ use Rattle.lift_keeper.specs.Calls.{FailsBy}
 use Rattle.lift_keeper.specs.lemmas.Committed.{safe_register}
 use Rattle.lift_replay.specs.Told.{HasCommitted, device_of}
 use Rattle.lift_replay.specs.Report.{fault_text, turn_text}
-use Rattle.lift_replay.proofs.Told.{fault_tells, is_whole}
+use Rattle.lift_replay.proofs.Told.{fault_tells, is_whole, on_ok}
 use Rattle.lift_replay.proofs.lines.push_taken.Goals as goal
 
-pub returns-in_ok-push_turn-in-Ok-clause-tells : goal.returns-in_ok-push_turn-in-Ok-clause-tells
-returns-in_ok-push_turn-in-Ok-clause-tells c =
+pub returns-in-Ok-clause-tells : goal.returns-in-Ok-clause-tells
+returns-in-Ok-clause-tells c =
     let before = c.args.clerk.now in
     let after = c.turn.new.self in
     let old = before.keeper.writer in
@@ -27,14 +27,10 @@ returns-in_ok-push_turn-in-Ok-clause-tells c =
       second = made.second;
       none_fails = made.told_ok;
     } in
-    (turn_text counts.taken counts.accepted, inl (counts, c.in-Ok.ensures.turns, committed, refl), c.in_ok-push_turn-in-Ok.ensures)
+    on_ok c.push_turn.result (λ pushed. (turn_text counts.taken counts.accepted, inl (counts, c.in-Ok.ensures.turns, committed, refl), pushed)) c.push_turn.ensures
 
-pub returns-in_ok-push_turn-in-Ok-clause-took : goal.returns-in_ok-push_turn-in-Ok-clause-took
-returns-in_ok-push_turn-in-Ok-clause-took c =
-    let turn = c.in-Ok.ensures.turns in (turn.visits, turn.replies, turn.serves, turn.taken)
-
-pub returns-in_ok-push_fault-in-Err-clause-tells : goal.returns-in_ok-push_fault-in-Err-clause-tells
-returns-in_ok-push_fault-in-Err-clause-tells c =
+pub returns-in-Err-clause-tells : goal.returns-in-Err-clause-tells
+returns-in-Err-clause-tells c =
     let before = c.args.clerk.now in
     let after = c.turn.new.self in
     let old = before.keeper.writer in
@@ -53,4 +49,4 @@ returns-in_ok-push_fault-in-Err-clause-tells c =
       last_fails = subst (λ f. FailsBy f (device_of before) (device_of after)) disk c.in-Err.ensures.calls.told;
     })
     (λ broken. t.is.broken.0 (c.in-Err.is ∙ ap Err broken)) c.turn.ensures.rests in
-    (fault_text (codes "turn") c.number.result, tells, c.in_ok-push_fault-in-Err.ensures)
+    on_ok c.push_fault.result (λ pushed. (fault_text (codes "turn") c.number.result, tells, pushed)) c.push_fault.ensures

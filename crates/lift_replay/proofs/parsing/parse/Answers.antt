@@ -1,5 +1,12 @@
-use Rattle.lift_replay.proofs.Words.{turn_line}
+use Rattle.std.proofs.Common.{ap, sym, ◌∙◌}
+use Rattle.lift_base.specs.lemmas.Texts.{first_and_others, texts}
+use Rattle.lift_replay.proofs.Words.{line_read, line_unread}
 use Rattle.lift_replay.proofs.parsing.parse.Goals as goal
 
-pub returns-then-is_four-clause-some : goal.returns-then-is_four-clause-some
-returns-then-is_four-clause-some c = turn_line c.args.line.now (c.is_four.ensures.same c.if-is_four.true)
+pub returns-in-len1-up-clause-some : goal.returns-in-len1-up-clause-some
+returns-in-len1-up-clause-some c =
+    line_read c.args.line.now (texts c.in_ok-words.words.items) _ c.asked_by.result c.in_ok-words.ensures.some (ap texts (sym c.as_slice.ensures.value) ∙ first_and_others c.as_slice.result.now _ c.in-len1-up.len_at_least) c.asked_by.ensures
+
+pub returns-in-len1-up-clause-none : goal.returns-in-len1-up-clause-none
+returns-in-len1-up-clause-none c =
+    line_unread c.args.line.now (texts c.in_ok-words.words.items) _ c.asked_by.result c.in_ok-words.ensures.some (ap texts (sym c.as_slice.ensures.value) ∙ first_and_others c.as_slice.result.now _ c.in-len1-up.len_at_least) c.asked_by.ensures

@@ -35,7 +35,7 @@ loop-preserved g c =
           segment_more c.args.building.now 0 c.loop.lines.count c.add_segment.new.lines.count (first_group c.args.building.now) before.1 (lines_in c.args.text.now) (lines_in c.loop.lines.rest.now) (lines_in c.add_segment.new.lines.rest.now)
           before.0 _ c.in_ok-verdict.field-0 c.in-Cut.left _ _ _ _ _ _ c.in-Cut.is before.3 before.4 (c.in_ok-verdict.ensures.tells before.1 before.2));
       small = subst (λ (end : SegmentEnd). IfCut end (length (string_bytes c.add_segment.new.piece) < 32768)) c.in-Cut.is c.in_ok-verdict.ensures.small;
-      called = takes_more g.W.Outlet.gives _ _ _ c.loop.invariant.called c.in_ok-verdict.ensures.writes.calls;
+      called = takes_more g.W.Outflow.gives _ _ _ c.loop.invariant.called c.in_ok-verdict.ensures.writes.calls;
       left = omega (arith, c.loop.invariant.left, shorter);
     }
 
@@ -55,10 +55,10 @@ returns-in_err-verdict-clause-front g c = err_so c.from_residual-in_err-verdict.
     (c.in_err-verdict.ensures.front before.1 before.2))
 
 pub returns-in_err-disk-clause-writes : goal.returns-in_err-disk-clause-writes
-returns-in_err-disk-clause-writes g c = pieces_memory g.W.Outlet.gives _ _ _ c.from_residual.result c.from_residual.ensures.1 (0, refl)
+returns-in_err-disk-clause-writes g c = pieces_memory g.W.Outflow.gives _ _ _ c.from_residual.result c.from_residual.ensures.1 (0, refl)
 
 pub returns-in-Run-clause-writes : goal.returns-in-Run-clause-writes
-returns-in-Run-clause-writes g c = pieces_ok g.W.Outlet.gives _ _ _ _ (takes_more g.W.Outlet.gives _ _ _ c.loop.invariant.called c.in_ok-verdict.ensures.writes.calls)
+returns-in-Run-clause-writes g c = pieces_ok g.W.Outflow.gives _ _ _ _ (takes_more g.W.Outflow.gives _ _ _ c.loop.invariant.called c.in_ok-verdict.ensures.writes.calls)
 
 pub returns-in_err-verdict-clause-writes : goal.returns-in_err-verdict-clause-writes
-returns-in_err-verdict-clause-writes g c = pieces_after g.W.Outlet.gives _ _ _ _ c.from_residual-in_err-verdict.result _ c.from_residual-in_err-verdict.ensures.1 c.loop.invariant.called c.in_err-verdict.ensures.writes
+returns-in_err-verdict-clause-writes g c = pieces_after g.W.Outflow.gives _ _ _ _ c.from_residual-in_err-verdict.result _ c.from_residual-in_err-verdict.ensures.1 c.loop.invariant.called c.in_err-verdict.ensures.writes

@@ -19,7 +19,7 @@ returns-clause-front g c =
 
 pub returns-clause-calls : goal.returns-clause-calls
 returns-clause-calls g c =
-    called_after g.W.Outlet.gives _ _ _ c.add_segments-end.result _ c.add_segments-end.ensures.writes.output c.add_segments-end.ensures.writes.calls c.add_segments-end.ensures.writes.emptied c.put_piece.ensures.idle c.in_ok-put_piece.ensures.each_call
+    called_after g.W.Outflow.gives _ _ _ c.add_segments-end.result _ c.add_segments-end.ensures.writes.output c.add_segments-end.ensures.writes.calls c.add_segments-end.ensures.writes.emptied c.put_piece.ensures.idle c.in_ok-put_piece.ensures.each_call
 
 pub returns-in_err-piece-clause-front : goal.returns-in_err-piece-clause-front
 returns-in_err-piece-clause-front g c = err_so c.from_residual.result (
@@ -33,8 +33,8 @@ returns-in_err-put_piece-clause-front g c = err_so c.from_residual-in_err-put_pi
     (taken_front _ _ _ _ c.in_err-put_piece.ensures.front))
 
 pub returns-in_err-piece-clause-calls : goal.returns-in_err-piece-clause-calls
-returns-in_err-piece-clause-calls g c = called_err g.W.Outlet.gives _ _ c.from_residual.result _ c.from_residual.ensures.1 (0, refl)
+returns-in_err-piece-clause-calls g c = called_err g.W.Outflow.gives _ _ c.from_residual.result _ c.from_residual.ensures.1 (0, refl)
 
 pub returns-in_err-put_piece-clause-calls : goal.returns-in_err-put_piece-clause-calls
-returns-in_err-put_piece-clause-calls g c = called_err g.W.Outlet.gives _ _ c.from_residual-in_err-put_piece.result _ c.from_residual-in_err-put_piece.ensures.1
-    (fails_later g.W.Outlet.gives _ _ _ c.add_segments-end.result _ c.add_segments-end.ensures.writes.output c.add_segments-end.ensures.writes.calls c.add_segments-end.ensures.writes.emptied c.put_piece.ensures.idle c.in_err-put_piece.ensures.failed)
+returns-in_err-put_piece-clause-calls g c = called_err g.W.Outflow.gives _ _ c.from_residual-in_err-put_piece.result _ c.from_residual-in_err-put_piece.ensures.1
+    (fails_later g.W.Outflow.gives _ _ _ c.add_segments-end.result _ c.add_segments-end.ensures.writes.output c.add_segments-end.ensures.writes.calls c.add_segments-end.ensures.writes.emptied c.put_piece.ensures.idle c.in_err-put_piece.ensures.failed)

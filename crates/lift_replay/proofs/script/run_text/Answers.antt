@@ -7,6 +7,7 @@ use Rattle.lift_building.specs.Gives.{IsFirstFault}
 use Rattle.lift_building.specs.declared.fault.BuildingFault.TheVariants.{Memory}
 use Rattle.lift_replay.specs.Report.{building_text}
 use Rattle.lift_replay.specs.Replaying.{IsTextReport, WritesPrefix}
+use Rattle.lift_replay.specs.Writing.{gone_in}
 use Rattle.lift_replay.specs.declared.lines.Verdict.TheVariants.{Bad}
 use Rattle.lift_replay.proofs.Written.{err_so, on_err, text_unwritten}
 use Rattle.lift_replay.proofs.Told.{if_ok, if_bad, on_ok}
@@ -23,7 +24,7 @@ pub returns-clause-tells : goal.returns-clause-tells
 returns-clause-tells g c =
     let script : IsScript c.args.text.now (string_bytes c.in-Some.building) (lines_in c.in-Some.lines.now) = search rules in
     let first : c.in-Err.fault ≢ Memory tt → IsFirstFault (string_bytes c.in-Some.building) c.in-Err.fault = λ other. search rules in
-    if_bad (λ verdict. (report : List ℕ) × IsTextReport c.args.text.now report verdict × Appends (g.W.Write.contents c.args.writer.now) (g.W.Write.contents c.refuse_building.new.writer) report)
+    if_bad (λ verdict. (report : List ℕ) × IsTextReport c.args.text.now report verdict × Appends (gone_in g.W.Outflow.sent c.args.writer.now) (gone_in g.W.Outflow.sent c.refuse_building.new.writer) report)
     c.refuse_building.result c.refuse_building.ensures.not_good
     (on_ok c.refuse_building.result (λ refused. (
       building_text c.in-Err.fault,
@@ -50,7 +51,7 @@ returns-clause-front g c =
     let script : IsScript c.args.text.now (string_bytes c.in-Some.building) (lines_in c.in-Some.lines.now) = search rules in
     let first : c.in-Err.fault ≢ Memory tt → IsFirstFault (string_bytes c.in-Some.building) c.in-Err.fault = λ other. search rules in
     on_err c.refuse_building.result (λ refused. elim refused [
-      | inl same ↦ subst (WritesPrefix (IsTextReport c.args.text.now) (g.W.Write.contents c.args.writer.now)) (sym same) (text_unwritten c.args.text.now _)
+      | inl same ↦ subst (WritesPrefix (IsTextReport c.args.text.now) (gone_in g.W.Outflow.sent c.args.writer.now)) (sym same) (text_unwritten c.args.text.now _)
       | inr front ↦ (
         building_text c.in-Err.fault,
         Bad,
@@ -60,4 +61,4 @@ returns-clause-front g c =
     ]) c.refuse_building.ensures.front
 
 pub returns-in_err-building-clause-calls : goal.returns-in_err-building-clause-calls
-returns-in_err-building-clause-calls g c = called_err g.W.Outlet.gives _ _ c.from_residual.result _ c.from_residual.ensures.1 (0, refl)
+returns-in_err-building-clause-calls g c = called_err g.W.Outflow.gives _ _ c.from_residual.result _ c.from_residual.ensures.1 (0, refl)

@@ -4,7 +4,6 @@ use Rattle.lift_policy.specs.Choices.{total_cost_at}
 use Rattle.lift_replay.specs.Lines.{LineTells}
 use Rattle.lift_replay.specs.Source.{lines_in}
 use Rattle.lift_replay.proofs.LineSteps.{line_goes_on, line_ends}
-use Rattle.lift_replay.proofs.Ready.{line_ready}
 use Rattle.std.proofs.KnownBytes.{Appends-nil}
 use Rattle.std.proofs.lemmas.List.{append-nil}
 use Rattle.lift_replay.specs.Running.{TellsLines}
@@ -18,7 +17,6 @@ use Rattle.lift_replay.proofs.segment.add_lines.Goals as goal
 pub loop-init : goal.loop-init
 loop-init g c = record {
   tells = λ group shows. ([], group, shows, (λ more verdict tells. tells), reports_none _ _);
-  ready = c.requires.ready;
   small = c.requires.small;
   called = (0, refl);
   left = omega arith;
@@ -50,10 +48,8 @@ loop-preserved g c =
             reports_on _ _ _ _ _ _ before.0 tells.0 before.4
                 (reports_put _ _ (string_bytes c.loop.piece) (string_bytes c.add_line.new.piece) _ tells.0 piece_is c.in_ok-put_large_piece.ensures.ok),
           ));
-      ready = line_ready c.loop.station.building.now c.loop.station.clerk c.add_line.new.station.clerk c.loop.station.terminals.seats.items c.add_line.new.station.terminals.seats.items c.in-Some.line.now c.in-Some.number _ tells.0
-          c.loop.station.count c.loop.invariant.ready tells.1;
       small = c.in_ok-put_large_piece.ensures.small;
-      called = takes_more g.W.Outlet.gives _ _ _ c.loop.invariant.called c.in_ok-put_large_piece.ensures.each_call;
+      called = takes_more g.W.Outflow.gives _ _ _ c.loop.invariant.called c.in_ok-put_large_piece.ensures.each_call;
       left = omega (arith, c.loop.invariant.left, c.in-Some.ensures.shorter);
       building = c.in_ok-end.ensures.building ∙ c.loop.invariant.building;
     }
@@ -130,14 +126,14 @@ returns-in_err-put_large_piece-clause-front g c =
     c.in_err-put_large_piece.ensures.front c.in_err-put_large_piece.ensures.emptied)))
 
 pub returns-in_default-clause-writes : goal.returns-in_default-clause-writes
-returns-in_default-clause-writes g c = pieces_ok g.W.Outlet.gives _ _ _ _ c.loop.invariant.called
+returns-in_default-clause-writes g c = pieces_ok g.W.Outflow.gives _ _ _ _ c.loop.invariant.called
 
 pub returns-in-Some-end-clause-writes : goal.returns-in-Some-end-clause-writes
-returns-in-Some-end-clause-writes g c = pieces_ok g.W.Outlet.gives _ _ _ _ c.loop.invariant.called
+returns-in-Some-end-clause-writes g c = pieces_ok g.W.Outflow.gives _ _ _ _ c.loop.invariant.called
 
 pub returns-in_err-end-clause-writes : goal.returns-in_err-end-clause-writes
-returns-in_err-end-clause-writes g c = pieces_memory g.W.Outlet.gives _ _ _ c.from_residual.result c.from_residual.ensures.1 c.loop.invariant.called
+returns-in_err-end-clause-writes g c = pieces_memory g.W.Outflow.gives _ _ _ c.from_residual.result c.from_residual.ensures.1 c.loop.invariant.called
 
 pub returns-in_err-put_large_piece-clause-writes : goal.returns-in_err-put_large_piece-clause-writes
-returns-in_err-put_large_piece-clause-writes g c = pieces_failed g.W.Outlet.gives _ _ _ c.from_residual-in_err-put_large_piece.result c.from_residual-in_err-put_large_piece.ensures.1
-    (fails_more g.W.Outlet.gives _ _ _ c.loop.invariant.called c.in_err-put_large_piece.ensures.failed) c.in_err-put_large_piece.ensures.emptied
+returns-in_err-put_large_piece-clause-writes g c = pieces_failed g.W.Outflow.gives _ _ _ c.from_residual-in_err-put_large_piece.result c.from_residual-in_err-put_large_piece.ensures.1
+    (fails_more g.W.Outflow.gives _ _ _ c.loop.invariant.called c.in_err-put_large_piece.ensures.failed) c.in_err-put_large_piece.ensures.emptied

@@ -11,20 +11,16 @@ use Rattle.lift_replay.specs.Report.{Reports, start_text}
 use Rattle.lift_replay.specs.Running.{SegmentEnds, TellsPartAfter}
 use Rattle.lift_replay.specs.Shows.{Shows, IsFound, IsKeeperOf}
 use Rattle.lift_replay.specs.Source.{lines_in}
-use Rattle.lift_replay.proofs.Recovered.{found_reads, kept_of, new_ready, new_shows}
+use Rattle.lift_replay.proofs.Recovered.{found_reads, kept_of, new_shows}
 use Rattle.lift_replay.proofs.Written.{err_so, ok_so, on_err, after_none}
 use Rattle.lift_replay.specs.lemmas.Writes.{pieces_memory}
+use Rattle.lift_replay.specs.Writing.{gone_in}
 use Rattle.lift_replay.proofs.segment.add_segment.Goals as goal
 
 pub keeper_over-requires-clause-readable : goal.keeper_over-requires-clause-readable
 keeper_over-requires-clause-readable g c =
     let (found, is) = c.requires.found in
     (found.register, found_reads c.args.building.now found (fuse_state_of c.new.result).image (subst (IsFound c.args.building.now found) (sym c.new.ensures.same.image) is))
-
-pub run_station-requires-clause-ready : goal.run_station-requires-clause-ready
-run_station-requires-clause-ready g c =
-    new_ready c.args.building.now c.new-2.result.clerk c.new-2.result.terminals.seats.items c.in_ok-desk.desk
-    (c.new-2.ensures.clerk ∙ c.in_ok-desk.ensures.clerk ∙ ap clerk_of c.in_ok-desk.desk-is) (c.new-2.ensures.seats ∙ ap (seats_from 0) c.in_ok-desk.desk-is) (search rules)
 
 pub returns-clause-tells : goal.returns-clause-tells
 returns-clause-tells g c = ok_so c.run_station.result (λ end told found is.
@@ -39,10 +35,10 @@ returns-clause-tells g c = ok_so c.run_station.result (λ end told found is.
     let calls : open_count c.new-2.result.clerk.keeper.state.register ≡ open_count found.register =
     ap (λ (k : KeeperView FusedDisk). open_count k.state.register) c.new-2.ensures.keeper ∙ ap (λ (s : State). open_count s.register) kept.stands.1 in
     subst (λ n. (added : List ℕ) × SegmentEnds plan c.args.lines.now.count (recovered plan found) (lines_in c.args.lines.now.rest.now) added c.run_station.new.lines.count (lines_in c.run_station.new.lines.rest.now) end
-    × Reports (g.W.Write.contents c.args.writer.now) (g.W.Write.contents c.run_station.new.writer) (string_bytes c.args.piece.now) (string_bytes c.run_station.new.piece) (start_text c.args.is_after_cut n ++ added)) calls
+    × Reports (gone_in g.W.Outflow.sent c.args.writer.now) (gone_in g.W.Outflow.sent c.run_station.new.writer) (string_bytes c.args.piece.now) (string_bytes c.run_station.new.piece) (start_text c.args.is_after_cut n ++ added)) calls
     (subst (λ (p : Plan). (h : ScriptGroup) → Shows p h c.new-2.result.clerk c.new-2.result.terminals.seats.items
     → (added : List ℕ) × SegmentEnds p c.args.lines.now.count h (lines_in c.args.lines.now.rest.now) added c.run_station.new.lines.count (lines_in c.run_station.new.lines.rest.now) end
-    × Reports (g.W.Write.contents c.args.writer.now) (g.W.Write.contents c.run_station.new.writer) (string_bytes c.args.piece.now) (string_bytes c.run_station.new.piece) (start_text c.args.is_after_cut (open_count c.new-2.result.clerk.keeper.state.register) ++ added))
+    × Reports (gone_in g.W.Outflow.sent c.args.writer.now) (gone_in g.W.Outflow.sent c.run_station.new.writer) (string_bytes c.args.piece.now) (string_bytes c.run_station.new.piece) (start_text c.args.is_after_cut (open_count c.new-2.result.clerk.keeper.state.register) ++ added))
     c.new-2.ensures.building told (recovered plan found) shows)) c.run_station.ensures.tells
 
 pub returns-clause-front : goal.returns-clause-front
@@ -57,13 +53,13 @@ returns-clause-front g c = on_err c.run_station.result (λ front found is.
     (c.new-2.ensures.clerk ∙ c.in_ok-desk.ensures.clerk ∙ ap clerk_of c.in_ok-desk.desk-is) (c.new-2.ensures.seats ∙ ap (seats_from 0) c.in_ok-desk.desk-is) count in
     let calls : open_count c.new-2.result.clerk.keeper.state.register ≡ open_count found.register =
     ap (λ (k : KeeperView FusedDisk). open_count k.state.register) c.new-2.ensures.keeper ∙ ap (λ (s : State). open_count s.register) kept.stands.1 in
-    subst (λ n. TellsPartAfter (start_text c.args.is_after_cut n) plan c.args.lines.now.count (recovered plan found) (lines_in c.args.lines.now.rest.now) (g.W.Write.contents c.args.writer.now) (g.W.Write.contents c.run_station.new.writer) (string_bytes c.args.piece.now) (string_bytes c.run_station.new.piece)) calls
+    subst (λ n. TellsPartAfter (start_text c.args.is_after_cut n) plan c.args.lines.now.count (recovered plan found) (lines_in c.args.lines.now.rest.now) (gone_in g.W.Outflow.sent c.args.writer.now) (gone_in g.W.Outflow.sent c.run_station.new.writer) (string_bytes c.args.piece.now) (string_bytes c.run_station.new.piece)) calls
     (subst (λ (p : Plan). (h : ScriptGroup) → Shows p h c.new-2.result.clerk c.new-2.result.terminals.seats.items
-    → TellsPartAfter (start_text c.args.is_after_cut (open_count c.new-2.result.clerk.keeper.state.register)) p c.args.lines.now.count h (lines_in c.args.lines.now.rest.now) (g.W.Write.contents c.args.writer.now) (g.W.Write.contents c.run_station.new.writer) (string_bytes c.args.piece.now) (string_bytes c.run_station.new.piece))
+    → TellsPartAfter (start_text c.args.is_after_cut (open_count c.new-2.result.clerk.keeper.state.register)) p c.args.lines.now.count h (lines_in c.args.lines.now.rest.now) (gone_in g.W.Outflow.sent c.args.writer.now) (gone_in g.W.Outflow.sent c.run_station.new.writer) (string_bytes c.args.piece.now) (string_bytes c.run_station.new.piece))
     c.new-2.ensures.building front (recovered plan found) shows)) c.run_station.ensures.front
 
 pub returns-in_err-desk-clause-front : goal.returns-in_err-desk-clause-front
 returns-in_err-desk-clause-front g c = err_so c.from_residual.result (λ found is. after_none _ c.args.building.now c.args.lines.now.count (recovered c.args.building.now found) (lines_in c.args.lines.now.rest.now) _ _)
 
 pub returns-in_err-desk-clause-writes : goal.returns-in_err-desk-clause-writes
-returns-in_err-desk-clause-writes g c = pieces_memory g.W.Outlet.gives _ _ _ c.from_residual.result c.from_residual.ensures.1 (0, refl)
+returns-in_err-desk-clause-writes g c = pieces_memory g.W.Outflow.gives _ _ _ c.from_residual.result c.from_residual.ensures.1 (0, refl)

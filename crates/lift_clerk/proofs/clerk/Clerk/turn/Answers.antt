@@ -20,8 +20,8 @@ returns-in-Ok-clause-answered g c =
     let all = c.scan_desk.ensures.1 in
     let now = c.scan_desk.new.scanner in
     let answers = c.scan_desk.new.found.items in
-    let serves = serves_all s.desk.now (g.P.Policy.chooses s.parts.policy) s.parts.seat now.seat c.answer_all.new.seat s.parts.keeper now.keeper answers true c.self.invariant.seated all c.answer_all.ensures.stored c.answer_all.ensures.in_range in
-    serves_rest s.parts.seat c.answer_all.new.seat all.scans.visits (replies_told true answers) serves c.self.invariant.answered
+    let serves = serves_all s.desk.now (g.P.Policy.chooses s.parts.policy) s.parts.seat now.seat c.answer_all.new.self s.parts.keeper now.keeper answers true c.self.invariant.seated all c.answer_all.ensures.stored c.answer_all.ensures.in_range in
+    serves_rest s.parts.seat c.answer_all.new.self all.scans.visits (replies_told true answers) serves c.self.invariant.answered
 
 pub returns-in-Err-clause-answered : goal.returns-in-Err-clause-answered
 returns-in-Err-clause-answered g c =
@@ -29,8 +29,8 @@ returns-in-Err-clause-answered g c =
     let all = c.scan_desk.ensures.1 in
     let now = c.scan_desk.new.scanner in
     let answers = c.scan_desk.new.found.items in
-    let serves = serves_all s.desk.now (g.P.Policy.chooses s.parts.policy) s.parts.seat now.seat c.answer_all-in-Err.new.seat s.parts.keeper now.keeper answers false c.self.invariant.seated all c.answer_all-in-Err.ensures.stored c.answer_all-in-Err.ensures.in_range in
-    serves_rest s.parts.seat c.answer_all-in-Err.new.seat all.scans.visits (replies_told false answers) serves c.self.invariant.answered
+    let serves = serves_all s.desk.now (g.P.Policy.chooses s.parts.policy) s.parts.seat now.seat c.answer_all-in-Err.new.self s.parts.keeper now.keeper answers false c.self.invariant.seated all c.answer_all-in-Err.ensures.stored c.answer_all-in-Err.ensures.in_range in
+    serves_rest s.parts.seat c.answer_all-in-Err.new.self all.scans.visits (replies_told false answers) serves c.self.invariant.answered
 
 pub invariant_of-self : goal.invariant_of-self
 invariant_of-self g c =
@@ -38,10 +38,10 @@ invariant_of-self g c =
     let all = c.scan_desk.ensures.1 in
     let now = c.scan_desk.new.scanner in
     let answers = c.scan_desk.new.found.items in
-    let serves = serves_all s.desk.now (g.P.Policy.chooses s.parts.policy) s.parts.seat now.seat c.answer_all.new.seat s.parts.keeper now.keeper answers true c.self.invariant.seated all c.answer_all.ensures.stored c.answer_all.ensures.in_range in
+    let serves = serves_all s.desk.now (g.P.Policy.chooses s.parts.policy) s.parts.seat now.seat c.answer_all.new.self s.parts.keeper now.keeper answers true c.self.invariant.seated all c.answer_all.ensures.stored c.answer_all.ensures.in_range in
     record {
       seated = c.answer_all.ensures.seated;
-      answered = serves_rest s.parts.seat c.answer_all.new.seat all.scans.visits (replies_told true answers) serves c.self.invariant.answered;
+      answered = serves_rest s.parts.seat c.answer_all.new.self all.scans.visits (replies_told true answers) serves c.self.invariant.answered;
       empty_batch = inl (ap (λ (t : State). t.batch) c.in-Ok.ensures.begins);
     }
 
@@ -51,10 +51,10 @@ invariant_of-self-in-Err g c =
     let all = c.scan_desk.ensures.1 in
     let now = c.scan_desk.new.scanner in
     let answers = c.scan_desk.new.found.items in
-    let serves = serves_all s.desk.now (g.P.Policy.chooses s.parts.policy) s.parts.seat now.seat c.answer_all-in-Err.new.seat s.parts.keeper now.keeper answers false c.self.invariant.seated all c.answer_all-in-Err.ensures.stored c.answer_all-in-Err.ensures.in_range in
+    let serves = serves_all s.desk.now (g.P.Policy.chooses s.parts.policy) s.parts.seat now.seat c.answer_all-in-Err.new.self s.parts.keeper now.keeper answers false c.self.invariant.seated all c.answer_all-in-Err.ensures.stored c.answer_all-in-Err.ensures.in_range in
     record {
       seated = c.answer_all-in-Err.ensures.seated;
-      answered = serves_rest s.parts.seat c.answer_all-in-Err.new.seat all.scans.visits (replies_told false answers) serves c.self.invariant.answered;
+      answered = serves_rest s.parts.seat c.answer_all-in-Err.new.self all.scans.visits (replies_told false answers) serves c.self.invariant.answered;
       empty_batch = inr c.in-Err.ensures.commits.breaks;
     }
 
@@ -100,7 +100,7 @@ returns-in-Err-clause-fails g c = λ of_disk.
     let writer = all.writer in
     let commit = c.in-Err.ensures.commits in
     let old : ClerkState g.row.D.Denot g.row.P.Denot = record { desk = s.desk.now; seat = s.parts.seat; keeper = s.parts.keeper; policy = s.parts.policy } in
-    let new : ClerkState g.row.D.Denot g.row.P.Denot = record { desk = s.desk.now; seat = c.answer_all-in-Err.new.seat; keeper = c.commit.new.self; policy = now.policy } in
+    let new : ClerkState g.row.D.Denot g.row.P.Denot = record { desk = s.desk.now; seat = c.answer_all-in-Err.new.self; keeper = c.commit.new.self; policy = now.policy } in
     let fault : c.in-Err.fault ≡ Journal Disk = cc in
     let whole : between.writer.is_broken ≡ false = is_whole between.writer.is_broken (λ broken. let other = commit.broken.1 broken in cc) in
     let shown = c.register-shown.ensures in
@@ -121,7 +121,7 @@ returns-in-Err-clause-rests g c = λ was.
     let between = now.keeper in
     let writer = all.writer in
     let old : ClerkState g.row.D.Denot g.row.P.Denot = record { desk = s.desk.now; seat = s.parts.seat; keeper = s.parts.keeper; policy = s.parts.policy } in
-    let new : ClerkState g.row.D.Denot g.row.P.Denot = record { desk = s.desk.now; seat = c.answer_all-in-Err.new.seat; keeper = c.commit.new.self; policy = now.policy } in
+    let new : ClerkState g.row.D.Denot g.row.P.Denot = record { desk = s.desk.now; seat = c.answer_all-in-Err.new.self; keeper = c.commit.new.self; policy = now.policy } in
     let broken : s.parts.keeper.writer.is_broken ≡ true = ap (λ (v : ClerkState g.row.D.Denot g.row.P.Denot). v.keeper.writer.is_broken) c.self.view_is ∙ was in
     subst (λ (v : ClerkState g.row.D.Denot g.row.P.Denot). IsBrokenTurn v new) c.self.view_is
     (broken_turn s.desk.now (g.P.Policy.chooses s.parts.policy) old new now.seat between answers c.self.invariant.seated all c.answer_all-in-Err.ensures.stored c.answer_all-in-Err.ensures.in_range refl
@@ -147,7 +147,7 @@ returns-in-Ok-clause-turns g c =
     let writer = all.writer in
     let commit = c.in-Ok.ensures.commits in
     let old : ClerkState g.row.D.Denot g.row.P.Denot = record { desk = s.desk.now; seat = s.parts.seat; keeper = s.parts.keeper; policy = s.parts.policy } in
-    let new : ClerkState g.row.D.Denot g.row.P.Denot = record { desk = s.desk.now; seat = c.answer_all.new.seat; keeper = c.commit.new.self; policy = now.policy } in
+    let new : ClerkState g.row.D.Denot g.row.P.Denot = record { desk = s.desk.now; seat = c.answer_all.new.self; keeper = c.commit.new.self; policy = now.policy } in
     let counts : Counts = record { taken = c.len.result; accepted = c.pending.result } in
     let whole : between.writer.is_broken ≡ false = is_whole between.writer.is_broken (λ broken. let other = commit.broken.1 broken in cc) in
     let shown = c.register-shown.ensures in

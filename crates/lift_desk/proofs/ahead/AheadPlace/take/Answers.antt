@@ -34,6 +34,7 @@ invariant_of-self-2 c =
     let fresh : is_new_word m.clerk word ≡ true = lt_true _ _ (omega arith) in record {
       ahead = λ _. ap (λ (v : View). v.looks_ahead) new ∙ i.ahead seated;
       silent = ap (λ (v : View). v.answers) new ∙ i.silent;
+      no_answers_read = ap (λ (v : View). v.terminal.looks) new ∙ i.no_answers_read;
       turn = turn ∙ ap turn_of (sym (last_taken m.clerk _ m word refl new fresh));
     }
 

@@ -40,6 +40,7 @@ invariant_of-self g c =
     let last_is : last_of v.clerk.answered ≡ word = ap last_of answered ∙ last_of-push m.clerk.answered word in record {
       answers = λ _. ap (λ (v : View). v.answers) new ∙ i.answers seated;
       in_order = ap (λ (v : View). v.looks_ahead) new ∙ i.in_order;
+      no_answers_read = ap (λ (v : View). v.terminal.looks) new ∙ i.no_answers_read;
       lends = λ _. ap (λ (v : View). v.lends) new ∙ i.lends seated;
       turn = i.turn ∙ ap length (sym taken);
       last_taken = ap (λ l. turn_of (last_of l)) taken ∙ i.last_taken ∙ ap length (sym taken);

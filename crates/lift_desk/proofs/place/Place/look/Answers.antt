@@ -44,6 +44,7 @@ invariant_of-self-2 g c =
     let last_is : last_of v.clerk.taken ≡ word = ap last_of taken ∙ last_of-push m.clerk.taken word in record {
       answers = λ _. ap (λ (v : View). v.answers) new ∙ i.answers seated;
       in_order = ap (λ (v : View). v.looks_ahead) new ∙ i.in_order;
+      no_answers_read = ap (λ (v : View). v.terminal.looks) new ∙ i.no_answers_read;
       lends = λ _. ap (λ (v : View). v.lends) new ∙ i.lends seated;
       turn = omega arith;
       last_taken = ap turn_of last_is ∙ omega arith;

@@ -30,6 +30,7 @@ invariant_of-self c =
     let free = i.rests c.if-self.false in record {
       seated = c.store.ensures.same.0;
       asks = ap (λ m. m.0.asks) e ∙ i.asks;
+      no_asks_read = ap (λ m. m.0.clerk.looks) e ∙ i.no_asks_read;
       turn = omega arith;
       in_range = omega arith;
       number = sym c.ask_word-word.ensures.word.number ∙ ap number_of (sym (last_of-push old word)) ∙ ap (λ l. number_of (last_of l)) (sym asked);

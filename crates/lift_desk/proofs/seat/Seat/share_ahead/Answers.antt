@@ -1,13 +1,13 @@
 use Rattle.std.proofs.Common.{ap, ◌∙◌, inr}
 use Rattle.lift_desk.proofs.Keeps.{ahead_unites_join, compares_ahead_keep, ahead_parts_split}
-use Rattle.lift_desk.proofs.Looks.{united_carries, loads_unseen, terminal_part_carries, ahead_part_carries}
+use Rattle.lift_desk.proofs.Looks.{united_joined, loads_unseen, ahead_parts}
 use Rattle.lift_desk.proofs.seat.Seat.share_ahead.Goals as goal
 
 pub join-requires-clause-keeps : goal.join-requires-clause-keeps
 join-requires-clause-keeps c id another = ahead_unites_join _ _ _ _ c.self.invariant.asks c.requires.rights.0 c.requires.rights.1
 
 pub join-requires-clause-counts : goal.join-requires-clause-counts
-join-requires-clause-counts c = united_carries _ _
+join-requires-clause-counts c = united_joined _ _ c.self.invariant.no_asks_read c.requires.no_answers_read
 
 pub load-requires-clause-keeps : goal.load-requires-clause-keeps
 load-requires-clause-keeps c id =
@@ -29,4 +29,4 @@ pub split-requires-clause-counts : goal.split-requires-clause-counts
 split-requires-clause-counts c =
     let j = c.join.ensures in
     let l = ap (λ m. m.0) c.load.ensures.tells.0 in
-    (terminal_part_carries _ _ (ap (λ v. v.asks) l ∙ ap (λ s. s.view.asks) j ∙ c.self.invariant.asks), ahead_part_carries _ (ap (λ v. v.looks_ahead) l ∙ ap (λ s. s.view.looks_ahead) j ∙ c.requires.rights.0))
+    ahead_parts _ _ (ap (λ v. v.asks) l ∙ ap (λ s. s.view.asks) j ∙ c.self.invariant.asks) (ap (λ v. v.looks_ahead) l ∙ ap (λ s. s.view.looks_ahead) j ∙ c.requires.rights.0)

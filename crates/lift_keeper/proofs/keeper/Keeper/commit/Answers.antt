@@ -12,9 +12,9 @@ invariant_of-self-2 g c =
     let after = c.commit.new.self in
     let sealed = c.clear_batch.new.self in
     let kept = c.clear_batch.ensures in
-    let whole = not_true writer.is_broken (λ was. cc (c.commit.ensures.commits.broken.1 was, c.in_ok-commit.was)) in
+    let whole = not_true writer.is_broken (λ was. cc (c.commit.ensures.commits.broken.1 was, c.in_ok-safe.was)) in
     let batch = c.batch.ensures.value in
-    let is : after.register ≡ register_of writer.register decider.state.batch = c.in_ok-commit.ensures.commits.safe.register ∙ ap (register_of writer.register) batch in
+    let is : after.register ≡ register_of writer.register decider.state.batch = c.in_ok-safe.ensures.commits.safe.register ∙ ap (register_of writer.register) batch in
     keeper_without_batch after.plan sealed.state sealed.plan after.register after.is_broken
     (ap (λ (d : DeciderState). d.plan) kept ∙ c.self.invariant.of_building ∙ sym c.commit.ensures.commits.same.0)
     (ap (λ (d : DeciderState). d.state.batch) kept)

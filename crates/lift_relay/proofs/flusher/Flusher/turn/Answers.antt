@@ -8,8 +8,8 @@ use Rattle.lift_relay.specs.Settler.{SettlerState}
 use Rattle.lift_relay.proofs.Turned.{idle, flushed, settled_turn, none_between, one_between}
 use Rattle.lift_relay.proofs.flusher.Flusher.turn.Goals as goal
 
-pub returns-in-None-clause-flushes : goal.returns-in-None-clause-flushes
-returns-in-None-clause-flushes g c =
+pub returns-in-None-clause-turn : goal.returns-in-None-clause-turn
+returns-in-None-clause-turn g c =
     let s = c.self.inside in
     let old : FlusherState g.row.D.Denot = record { desk = s.settler.desk; seat = s.settler.seat; writer = s.settler.writer; end = s.end } in
     let now = c.rest.new.self in
@@ -19,8 +19,8 @@ returns-in-None-clause-flushes g c =
     (idle g.D.Disk.state old new c.self.invariant (ap (λ (x : SettlerState g.row.D.Denot). x.desk) same) c.in-None.ensures (ap (λ (x : SettlerState g.row.D.Denot). x.seat) same) c.rest.result c.rest.ensures.commits c.rest.ensures.counts
     (subst (λ n. CommitCalls g.D.Disk.state s.settler.writer n now.writer c.rest.result) (none_between s.end c.receive.new.self (tried s.end.tries true) c.in-None.ensures.tries) c.rest.ensures.calls))
 
-pub returns-clause-flushes : goal.returns-clause-flushes
-returns-clause-flushes g c =
+pub returns-clause-turn : goal.returns-clause-turn
+returns-clause-turn g c =
     let s = c.self.inside in
     let batch = c.in-Some.batch in
     let old : FlusherState g.row.D.Denot = record { desk = s.settler.desk; seat = s.settler.seat; writer = s.settler.writer; end = s.end } in
@@ -30,12 +30,6 @@ returns-clause-flushes g c =
     subst (λ (v : FlusherState g.row.D.Denot). IsFlush g.D.Disk.state v new c.settle.result) c.self.view_is
     (flushed g.D.Disk.state old new c.self.invariant made.same batch c.settle.result c.in-Some.ensures made.commits (settled_turn g.D.Disk.state old new batch c.settle.result c.in-Some.ensures made)
     (subst (λ n. CommitCalls g.D.Disk.state s.settler.writer n now.writer c.settle.result) (sym (one_between s.end c.receive.new.self batch c.in-Some.ensures.receives)) c.settle.ensures.calls))
-
-pub returns-in-None-clause-calls : goal.returns-in-None-clause-calls
-returns-in-None-clause-calls g c = (returns-in-None-clause-flushes g c).calls
-
-pub returns-clause-calls : goal.returns-clause-calls
-returns-clause-calls g c = (returns-clause-flushes g c).calls
 
 pub invariant_of-self-2 : goal.invariant_of-self-2
 invariant_of-self-2 g c =
@@ -50,8 +44,8 @@ invariant_of-self-2 g c =
       all_answered = subst (λ (turns : List ℕ). AllAnsweredBy c.settle.new.self.seat turns) (sym receives.turns) made.all_answered;
     }
 
-pub returns-in-None-clause-history : goal.returns-in-None-clause-history
-returns-in-None-clause-history g c = λ base safe given h. c.flushes_are_steps.ensures.flushes _ _ _ (returns-in-None-clause-flushes g c) base safe given h
+pub returns-in-None-clause-keeps : goal.returns-in-None-clause-keeps
+returns-in-None-clause-keeps g c = c.flushes_are_steps.ensures.flushes _ _ _ (returns-in-None-clause-turn g c)
 
-pub returns-clause-history : goal.returns-clause-history
-returns-clause-history g c = λ base safe given h. c.flushes_are_steps.ensures.flushes _ _ _ (returns-clause-flushes g c) base safe given h
+pub returns-clause-keeps : goal.returns-clause-keeps
+returns-clause-keeps g c = c.flushes_are_steps.ensures.flushes _ _ _ (returns-clause-turn g c)

@@ -67,10 +67,10 @@ returns-in-Ok-clause-settles g c =
     let batch = c.args.batch in
     let state = g.D.Disk.state in
     let writer = c.commit-committed.new.self in
-    let next = c.answer_all.new.seat in
+    let next = c.answer_all.new.self in
     let new : SettlerState g.row.D.Denot = record { desk = s.desk.now; seat = next; writer = writer } in
     let counts : FlushCounts = record { batches = 1; answers = c.len.result } in
-    let made = under_ok state s.writer batch.entries writer tt counts (subst (λ (b : List Entry). Commits state s.writer b writer (Ok tt)) c.entries.ensures.value c.in-Ok.ensures.commits) in
+    let made = under_ok state s.writer batch.entries writer c.in-Ok.safe counts (subst (λ (b : List Entry). Commits state s.writer b writer (Ok c.in-Ok.safe)) c.entries.ensures.value c.in-Ok.ensures.commits) in
     let after = subst (λ (v : SettlerState g.row.D.Denot). v.writer.is_broken ≡ false → (batch.building ≡ v.writer.plan) × (batch.before.register ≡ v.writer.register)) (sym c.self.view_is) c.requires.next in
     let taken = c.into_commands.ensures in
     let looked = c.look_again-answers.ensures in
@@ -101,7 +101,7 @@ returns-in-Err-clause-settles g c =
     let state = g.D.Disk.state in
     let fault = c.in-Err.fault in
     let writer = c.commit-committed.new.self in
-    let next = c.answer_all-in-Err.new.seat in
+    let next = c.answer_all-in-Err.new.self in
     let new : SettlerState g.row.D.Denot = record { desk = s.desk.now; seat = next; writer = writer } in
     let made = under_err state s.writer batch.entries writer fault (subst (λ (b : List Entry). Commits state s.writer b writer (Err fault)) c.entries.ensures.value c.in-Err.ensures.commits) in
     let after = subst (λ (v : SettlerState g.row.D.Denot). v.writer.is_broken ≡ false → (batch.building ≡ v.writer.plan) × (batch.before.register ≡ v.writer.register)) (sym c.self.view_is) c.requires.next in
@@ -134,7 +134,7 @@ returns-in-Ok-clause-calls g c =
     let count = length c.args.batch.entries in
     let counts : FlushCounts = record { batches = 1; answers = c.len.result } in
     subst (λ (v : SettlerState g.row.D.Denot). CommitCalls state v.writer count writer (Ok counts)) c.self.view_is
-    (calls_under_ok state s.writer count writer tt counts (subst (λ (b : List Entry). CommitCalls state s.writer (length b) writer (Ok tt)) c.entries.ensures.value c.in-Ok.ensures.calls))
+    (calls_under_ok state s.writer count writer c.in-Ok.safe counts (subst (λ (b : List Entry). CommitCalls state s.writer (length b) writer (Ok c.in-Ok.safe)) c.entries.ensures.value c.in-Ok.ensures.calls))
 
 pub returns-in-Err-clause-calls : goal.returns-in-Err-clause-calls
 returns-in-Err-clause-calls g c =

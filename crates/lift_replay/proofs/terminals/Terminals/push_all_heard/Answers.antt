@@ -1,34 +1,16 @@
 use Rattle.std.proofs.Common.{[], ◌++◌, length, ap, sym, refl, ◌∙◌, arith}
 use Rattle.std.proofs.lemmas.List.{append-nil, append_assoc, length-set}
-use Rattle.lift_replay.proofs.Hearing.{all_rest, next_heard, others_rest, quiet_so_far, same_after}
+use Rattle.lift_replay.proofs.Hearing.{all_heard, next_heard, same_after}
 use Rattle.lift_replay.proofs.terminals.Terminals.push_all_heard.Goals as goal
 
 pub loop-index-init : goal.loop-index-init
-loop-index-init c =
-    let quiet = c.args.self.now.spanned.before in
-    record {
-      desk = refl;
-      count = refl;
-      heard = ([], all_rest c.args.self.now.seats.items c.args.self.now.first quiet, sym (append-nil _));
-      rest = λ i past. refl;
-      quiet = λ is i below. quiet i below;
-    }
-
-pub returns-then-not-waits-clause-hears : goal.returns-then-not-waits-clause-hears
-returns-then-not-waits-clause-hears c =
-    let inv = c.loop-index.invariant in (
-      inv.heard.0,
-      others_rest c.args.self.now.seats.items c.loop-index.self.seats.items c.loop-index.index inv.heard.0 inv.count inv.heard.1 inv.rest
-          (λ i past. c.args.self.now.spanned.behind i (omega (arith, past, c.loop-index-test.false))),
-      inv.heard.2,
-    )
+loop-index-init c = record { desk = refl; count = refl; heard = ([], refl, sym (append-nil _)); rest = λ i past. refl }
 
 pub returns-clause-hears : goal.returns-clause-hears
 returns-clause-hears c =
     let inv = c.loop-index.invariant in (
       inv.heard.0,
-      others_rest c.args.self.now.seats.items c.loop-index.self.seats.items c.loop-index.index inv.heard.0 inv.count inv.heard.1 inv.rest
-          (λ i past. c.args.self.now.spanned.behind i (omega (arith, past, c.loop-index-test.false))),
+      all_heard c.args.self.now.seats.items c.loop-index.self.seats.items c.loop-index.index inv.heard.0 (omega (arith, c.loop-index-test.false)) inv.count inv.heard.1,
       inv.heard.2,
     )
 
@@ -39,15 +21,14 @@ loop-index-preserved c =
     let news = c.push_heard_at.new.self.seats.items in
     let n = c.loop-index.index in
     let inv = c.loop-index.invariant in
-    let told = c.in_ok-waits.ensures in
+    let told = c.in_ok-push_heard_at.ensures in
     record {
       desk = told.desk ∙ inv.desk;
       count = ap length told.others ∙ length-set mids n _ ∙ inv.count;
       heard = (
         inv.heard.0 ++ told.hears.0,
-        next_heard olds mids news n inv.heard.0 told.hears.0 (omega (arith, c.loop-index-test.true, c.args.self.now.spanned.bound)) inv.count told.others inv.heard.1 (inv.rest n (omega arith)) told.hears.1,
+        next_heard olds mids news n inv.heard.0 told.hears.0 (omega (arith, c.loop-index-test.true)) inv.count told.others inv.heard.1 (inv.rest n (omega arith)) told.hears.1,
         told.hears.2 ∙ ap (λ l. l ++ told.hears.0) inv.heard.2 ∙ append_assoc _ inv.heard.0 told.hears.0,
       );
       rest = same_after olds mids news n told.others inv.rest;
-      quiet = quiet_so_far mids news n c.loop-index.waits c.in_ok-waits.field-0 told.others told.waits.1 inv.quiet;
     }

@@ -1,5 +1,4 @@
-use Rattle.std.proofs.Common.{◌≡◌, ◌<◌, ◌≤◌, ◌++◌, ℕ, List, length, take, string_bytes, false}
-use Rattle.lift_desk.specs.Seats.{Waits}
+use Rattle.std.proofs.Common.{◌≡◌, ◌≤◌, ◌++◌, ℕ, List, length, take, string_bytes}
 use Rattle.lift_replay.specs.Terminals.{AllHear, seat_at}
 use Rattle.lift_replay.proofs.terminals.Terminals.push_all_heard.Given as goal
 
@@ -10,5 +9,4 @@ invariant-loop-index l = record {
   heard : (lines : List ℕ) × AllHear (take l.index l.fn.self.seats.items) (take l.index l.self.seats.items) lines
       × (string_bytes l.report ≡ string_bytes l.fn.report ++ lines);
   rest : (i : ℕ) → l.index ≤ i → seat_at l.self.seats.items i ≡ seat_at l.fn.self.seats.items i;
-  quiet : l.waits ≡ false → (i : ℕ) → i < l.index → ¬ Waits (seat_at l.self.seats.items i).view;
 }
