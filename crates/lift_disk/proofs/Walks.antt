@@ -1,12 +1,26 @@
--- A step that the walks of `src/trace.rt` share. Assumes `Logic`.
-use Rattle.std.proofs.Common.{List, [], ◌∷◌, refl}
+-- What the walks share of functions whose result has nothing but ghost fields. Assumes `Logic`.
 use seplogic.Ra.Ura.{Ura}
-use mir.Val.{Val, vstruct, vnil}
+use mir.Val.{vstruct, vnil}
 use types.Logic.{Logic}
-use types.Kit.{Goal, Step, step, Item, ‵, ◌$◌, fjoin, fpack, feq_i}
+use types.Kit.{Goal, Step, step, Item, fpack, feq_i}
 use denote.RattleType.{RattleType, Valss}
-use denote.Steps.{nothing}
 use denote.Struct.Struct.{Struct, within}
+pub use Rattle.std.proofs.Common.{◌++◌, List, [], ◌∷◌, refl}
+pub use Rattle.std.proofs.raw_atomic.Walks.{proved_at}
+pub use mir.Val.{Val, vptr}
+pub use prog.Wp.{WpFn}
+pub use contract.Running.{tables}
+pub use types.Kit.{‵, raw, ◌⊛◌, prop, ◌$◌, ◌∵◌, !, qed, move, keep, drop, split, fsplit, fjoin, feq_l, regoal, suffices, done}
+pub use types.Part.{agg}
+pub use types.Run.{enter, returns, no_more}
+pub use types.ByLocal.{alloc_all, pass_all, free_all, look_at, sets}
+pub use denote.Exit.{yes}
+pub use denote.RattleType.{owns}
+pub use denote.Builtin.{RefOf}
+pub use denote.Signature.{plain, types_at, named_lft}
+pub use denote.Steps.{nothing}
+pub use denote.Triple.Entry.{alive}
+pub use denote.Triple.Walked.{says, Stays, stay_dropped, walk_of, ends_at, Goes-dropped}
 
 abbrev pub none : Val
 none = vstruct vnil
