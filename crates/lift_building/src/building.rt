@@ -1,6 +1,7 @@
 //! A building, once it is read.
 
-ghost use Rattle.std.specs.Prelude.{◌≡◌, ◌≢◌, ◌<◌, ◌≤◌, ◌↔◌, true, length, Ok, IfOk, IfErr};
+ghost use Rattle.std.specs.Prelude.{◌≡◌, ◌≢◌, ◌<◌, ◌≤◌, ◌↔◌, ℕ, List, true, length, Ok, IfOk};
+ghost use Rattle.std.specs.Prelude.{IfErr};
 ghost use Rattle.lift_base.specs.History.{IsWithinLimits};
 ghost use Rattle.toml.specs.View.{view};
 ghost use Rattle.lift_building.specs.Plan.{Plan, HasLimits, IsBuilding, flight_ms, serves_floor};
@@ -26,7 +27,8 @@ use toml::Value;
 fn layout_of(document: &Value) -> Result<Layout, BuildingFault>
     ensures given { Gives layout_view result (plan_in (view document.now)) }
     ensures limits { IfOk result (λ layout. HasLimits (layout_view layout)) }
-    ensures no_memory { IfErr result (λ fault. fault ≢ BuildingFault.Memory tt) }
+    ensures no_memory { IfErr result (λ fault.
+        (text : List ℕ) → fault ≢ BuildingFault.Memory text) }
 {
     layout_in(document)
 }
@@ -73,7 +75,8 @@ fn building_in(document: &Value) -> Result<Building, BuildingFault>
     ensures taken { (plan : Plan) → plan_in (view document.now) ≡ Ok plan → IsBuilding plan
         → result ≡ Ok plan }
     ensures first { IfErr result (IsFaultOf (plan_in (view document.now))) }
-    ensures no_memory { IfErr result (λ fault. fault ≢ BuildingFault.Memory tt) }
+    ensures no_memory { IfErr result (λ fault.
+        (text : List ℕ) → fault ≢ BuildingFault.Memory text) }
 {
     let layout = layout_of(document)?;
     match first_detour(&layout) {
@@ -87,16 +90,19 @@ impl Building {
     /// which it is read: `floors`, `door_ms`, `kiosks`, `flight`, `cars`, and last the detours.
     ///
     /// # Errors
-    /// `Memory` where no memory was left for the document; else the text's first fault.
+    /// `Memory` where no memory was left for the text's document; else the text's first fault.
     #[tactic(auto, using(crate::specs::lemmas::Again::text_is))]
     pub fn read(alloc: Global, text: &str) -> Result<Self, BuildingFault>
         // What is read is what the text says, and it is a building.
         ensures found { IfOk result (λ building. IsTextOf text.now building × IsBuilding building) }
         // A building's text is refused for want of memory alone.
         ensures only { (plan : Plan) → IsTextOf text.now plan → IsBuilding plan
-            → IfErr result (λ fault. fault ≡ BuildingFault.Memory tt) }
+            → IfErr result (λ fault. fault ≡ BuildingFault.Memory text.now) }
+        // Want of memory is that of reading this very text.
+        ensures memory { IfErr result (λ fault.
+            (other : List ℕ) → fault ≡ BuildingFault.Memory other → other ≡ text.now) }
         // Each other fault is the first one of the text.
-        ensures first { IfErr result (λ fault. fault ≢ BuildingFault.Memory tt
+        ensures first { IfErr result (λ fault. fault ≢ BuildingFault.Memory text.now
             → IsFirstFault text.now fault) }
     {
         let document = document_of(alloc, text)?;

@@ -44,7 +44,7 @@ impl Field {
 }
 
 /// The first fault of a building's text, or the want of memory.
-#[derive(Drop, PartialEq)]
+#[derive(Drop)]
 pub enum BuildingFault {
     /// The text is no TOML document.
     NotToml,
@@ -58,7 +58,7 @@ pub enum BuildingFault {
     TableShape,
     /// The flight from the first floor to the third is longer than with a stop at the second.
     Detour(Floor, Floor, Floor),
-    /// No memory was left: a growth was refused.
+    /// No memory was left for the text: a growth was refused.
     Memory(NoMemory),
 }
 

@@ -6,6 +6,7 @@ mod detour;
 mod fault;
 mod laws;
 mod layout;
+mod proof_text;
 mod reading;
 mod refused;
 

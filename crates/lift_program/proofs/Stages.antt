@@ -42,7 +42,7 @@ use Rattle.lift_program.specs.declared.fault.Fault.TheVariants.{Building, Journa
 use Rattle.lift_program.specs.declared.fault.Role.TheVariants.{Building as OfBuilding, Image as OfImage, Input, Output}
 
 -- the first fault of a text within the bound
-pub first_fault : (text : List ℕ) (is_no_text : Type 0) (fault : BuildingFault) → length text ≤ most_text → (fault ≢ NoRoom tt → IsFirstFault text fault) → IsBuildingFault (λ t. t ≡ text) is_no_text (of_building fault)
+pub first_fault : (text : List ℕ) (is_no_text : Type 0) (fault : BuildingFault) → length text ≤ most_text → (fault ≢ NoRoom text → IsFirstFault text fault) → IsBuildingFault (λ t. t ≡ text) is_no_text (of_building fault)
 first_fault text is_no_text NotToml short first = record { text = text; read = refl; short = short; first = first (λ same. cc) }
 first_fault text is_no_text (Missing field) short first = record { text = text; read = refl; short = short; first = first (λ same. cc) }
 first_fault text is_no_text (WrongType field) short first = record { text = text; read = refl; short = short; first = first (λ same. cc) }

@@ -20,7 +20,7 @@ IsBadLine plan line = (¬ IsSkipped line)
 
 -- the building is refused, with its first fault; out of memory is no fault of a script
 abbrev pub RefusesBuilding : (building report : List ℕ) → Type 0
-RefusesBuilding building report = (fault : BuildingFault) × (fault ≢ Memory tt)
+RefusesBuilding building report = (fault : BuildingFault) × (fault ≢ Memory building)
     × IsFirstFault building fault × (report ≡ building_text fault)
 
 -- the text says that the building is so

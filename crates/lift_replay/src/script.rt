@@ -97,13 +97,14 @@ fn refuse_building<W: Outflow>(
     ensures output { result ≢ Err ReplayFault.Read }
     ensures calls { IsCalled W.gives writer.old writer.new result }
     ensures not_good { result ≢ Ok Verdict.Good }
-    ensures memory { fault ≡ BuildingFault.Memory tt → result ≡ Err (ReplayFault.Memory tt) }
+    ensures memory { (text : List ℕ) → fault ≡ BuildingFault.Memory text
+        → result ≡ Err (ReplayFault.Memory tt) }
     ensures silent { result ≡ Err (ReplayFault.Memory tt)
         → gone_in W.sent writer.new ≡ gone_in W.sent writer.old }
-    ensures bad { OnOk result ((fault ≢ BuildingFault.Memory tt)
+    ensures bad { OnOk result (((text : List ℕ) → fault ≢ BuildingFault.Memory text)
         × Appends (gone_in W.sent writer.old) (gone_in W.sent writer.new) (building_text fault)) }
     ensures front { OnErr result ((gone_in W.sent writer.new ≡ gone_in W.sent writer.old)
-        ⊎ ((fault ≢ BuildingFault.Memory tt)
+        ⊎ (((text : List ℕ) → fault ≢ BuildingFault.Memory text)
         × AppendsPrefix (gone_in W.sent writer.old) (gone_in W.sent writer.new) (building_text fault))) }
 {
     if let BuildingFault::Memory(no_memory) = fault {

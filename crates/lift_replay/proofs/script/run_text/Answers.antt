@@ -23,12 +23,12 @@ returns-in-Ok-clause-tells g c =
 pub returns-clause-tells : goal.returns-clause-tells
 returns-clause-tells g c =
     let script : IsScript c.args.text.now (string_bytes c.in-Some.building) (lines_in c.in-Some.lines.now) = search rules in
-    let first : c.in-Err.fault ≢ Memory tt → IsFirstFault (string_bytes c.in-Some.building) c.in-Err.fault = λ other. search rules in
+    let first : c.in-Err.fault ≢ Memory (string_bytes c.in-Some.building) → IsFirstFault (string_bytes c.in-Some.building) c.in-Err.fault = λ other. search rules in
     if_bad (λ verdict. (report : List ℕ) × IsTextReport c.args.text.now report verdict × Appends (gone_in g.W.Outflow.sent c.args.writer.now) (gone_in g.W.Outflow.sent c.refuse_building.new.writer) report)
     c.refuse_building.result c.refuse_building.ensures.not_good
     (on_ok c.refuse_building.result (λ refused. (
       building_text c.in-Err.fault,
-      inr (string_bytes c.in-Some.building, lines_in c.in-Some.lines.now, script, inl ((c.in-Err.fault, refused.0, first refused.0, refl), refl)),
+      inr (string_bytes c.in-Some.building, lines_in c.in-Some.lines.now, script, inl ((c.in-Err.fault, refused.0 (string_bytes c.in-Some.building), first (refused.0 (string_bytes c.in-Some.building)), refl), refl)),
       refused.1,
     )) c.refuse_building.ensures.bad)
 
@@ -49,13 +49,13 @@ returns-in-Ok-clause-front g c =
 pub returns-clause-front : goal.returns-clause-front
 returns-clause-front g c =
     let script : IsScript c.args.text.now (string_bytes c.in-Some.building) (lines_in c.in-Some.lines.now) = search rules in
-    let first : c.in-Err.fault ≢ Memory tt → IsFirstFault (string_bytes c.in-Some.building) c.in-Err.fault = λ other. search rules in
+    let first : c.in-Err.fault ≢ Memory (string_bytes c.in-Some.building) → IsFirstFault (string_bytes c.in-Some.building) c.in-Err.fault = λ other. search rules in
     on_err c.refuse_building.result (λ refused. elim refused [
       | inl same ↦ subst (WritesPrefix (IsTextReport c.args.text.now) (gone_in g.W.Outflow.sent c.args.writer.now)) (sym same) (text_unwritten c.args.text.now _)
       | inr front ↦ (
         building_text c.in-Err.fault,
         Bad,
-        inr (string_bytes c.in-Some.building, lines_in c.in-Some.lines.now, script, inl ((c.in-Err.fault, front.0, first front.0, refl), refl)),
+        inr (string_bytes c.in-Some.building, lines_in c.in-Some.lines.now, script, inl ((c.in-Err.fault, front.0 (string_bytes c.in-Some.building), first (front.0 (string_bytes c.in-Some.building)), refl), refl)),
         front.1,
       )
     ]) c.refuse_building.ensures.front
