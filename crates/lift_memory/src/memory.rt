@@ -16,8 +16,9 @@ use std::sync::Arc;
 
 /// No memory was left: a growth was refused. Only the calls of this file make one, each where its
 /// own growth was refused, but for what `two_owners` and `passed_queue` say of themselves. None asks
-/// for more than there is already, or 63 items of 16 KiB at most. (The library's error can be made by
-/// anybody, so none is made of it.) Nobody can copy one: so each answer uses up a refusal.
+/// for more than there is already, or 63 items of 16 KiB at most, and none for items that take no
+/// room. (The library's error can be made by anybody, so none is made of it.) Nobody can copy one: so
+/// each answer uses up a refusal.
 #[derive(Drop, PartialEq, Eq)]
 pub struct Memory {
     made: (),
