@@ -1,6 +1,6 @@
 //! From a script's line to what it asks for.
 
-ghost use Rattle.std.specs.Prelude.{◌≡◌, ◌≢◌, ◌<◌, ◌⊎◌, ◌∷◌, ℕ, IfSome, IfNone};
+ghost use Rattle.std.specs.Prelude.{◌≡◌, ◌≢◌, ◌<◌, ◌⊎◌, ◌∷◌, ℕ, [], IfSome, IfNone};
 ghost use Rattle.std.specs.Prelude.{codes};
 ghost use Rattle.std.specs.Fmt.{decimal};
 ghost use Rattle.lift_base.specs.Text.{dir_text};
@@ -50,24 +50,11 @@ pub fn at_of(floor: &str, dir: &str) -> Option<(Floor, Dir)>
     Some((floor, dir))
 }
 
-/// The line of a turn, that no words may stand after.
-fn turn_of(words: &[&str]) -> Option<ScriptLine>
-    ensures { AreReadAsLine (codes "turn" ∷ texts words.now) result }
-{
-    if words.is_empty() {
-        Some(ScriptLine::Turn)
-    } else {
-        None
-    }
-}
-
-/// What a line's words ask for, by the first one.
+/// What a line's words ask for, by the first one, where they aren't those of a turn.
 fn asked_by(first: &str, others: &[&str]) -> Option<ScriptLine>
-    ensures { AreReadAsLine (first.now ∷ texts others.now) result }
+    ensures { first.now ∷ texts others.now ≢ codes "turn" ∷ []
+        → AreReadAsLine (first.now ∷ texts others.now) result }
 {
-    if first == "turn" {
-        return turn_of(others);
-    }
     if let Some(ask) = ask_of(first, others) {
         return Some(ScriptLine::Ask(ask));
     }
@@ -83,6 +70,9 @@ pub fn parse(line: &str) -> Option<ScriptLine>
     ensures some { IfSome result (λ wanted. Spells line.now wanted) }
     ensures none { IfNone result ((wanted : Wanted) → Spells line.now wanted → ⊥) }
 {
+    if line == "turn" {
+        return Some(ScriptLine::Turn);
+    }
     let words = words_of(line)?;
     match words.as_slice() {
         [first, others @ ..] => asked_by(first, others),
