@@ -3,7 +3,6 @@
 //! and the recovery is stopped at each of its own calls too, and begun again. What was told is there
 //! each time. The work is three batches, which wait in the line for a flusher; one after a
 //! checkpoint; and one whose checkpoint moves a journal of version 1 to version 2.
-//! (Appends, checkpoints and openings of a journal are stopped so in `lift_storage_tests`.)
 
 mod asking;
 pub(crate) mod case;
