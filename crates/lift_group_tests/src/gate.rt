@@ -2,6 +2,7 @@
 use lift_relay::{Failed, Gate, Witness};
 use std::sync::Wait;
 use std::sync::atomic::{AtomicU64, Ordering};
+use std::thread;
 
 /// Goes on while a count is below a limit, and keeps how far it was told that both parts are, and how
 /// often there was a failure. Each that its witness was told of counts too.
@@ -50,8 +51,16 @@ impl Gate for Below {
         self.count.load(Ordering::SeqCst) < self.limit
     }
 
+    fn allocator_idles<R: Wait>(&self, _rt: &R) {
+        thread::yield_now();
+    }
+
     fn has_sent<R: Wait>(&self, _rt: &R, count: u64) {
         self.sent.store(count, Ordering::SeqCst);
+    }
+
+    fn flusher_idles<R: Wait>(&self, _rt: &R) {
+        thread::yield_now();
     }
 
     fn has_flushed<R: Wait>(&self, _rt: &R, count: u64) {

@@ -1,5 +1,6 @@
 mod Asked
 mod Commands
+mod AnyDevice
 mod Flushing
 mod Rows
 mod Telling

@@ -3,6 +3,7 @@
 #![tactic(auto)]
 
 mod at_once;
+mod devices;
 mod end;
 mod fault;
 mod files;
@@ -25,6 +26,7 @@ mod text;
 mod unwritten;
 mod words;
 
+pub use devices::letters_know_no_device;
 pub use end::{End, EndBy};
 pub use fault::{Fault, Role};
 pub use given::Given;

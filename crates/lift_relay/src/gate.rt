@@ -5,7 +5,7 @@
 //! `No` before all that was sent was received, also where it never returns. The allocator turns in
 //! place, and a turn copies nothing of it.
 
-ghost use Rattle.std.specs.Prelude.{◌≡◌, [], length, true, false, IfOk, IfErr};
+ghost use Rattle.std.specs.Prelude.{◌≡◌, ◌<◌, ◌≤◌, ℕ, [], length, true, false, IfOk, IfErr};
 ghost use Rattle.lift_clerk.specs.declared.counts.Counts.{Counts};
 ghost use Rattle.lift_parts.specs.Allocator.{IsAllocation, IsFullTurn};
 ghost use Rattle.lift_parts.specs.Turns.{IsSending};
@@ -29,6 +29,16 @@ pub trait Gate {
     // What is known once it has said not to go on.
     ghost closed: { Self → Type 0 } = { λ _. Unit {0} };
 
+    // What is known once it was told that the allocator idles, or how many batches it has sent,
+    ghost knows_allocator_idle: { Self → Type 0 } = { λ _. Unit {0} };
+
+    ghost knows_sent: { Self → ℕ → Type 0 } = { λ _ _. Unit {0} };
+
+    // and that the flusher idles, or how many it has received.
+    ghost knows_flusher_idle: { Self → Type 0 } = { λ _. Unit {0} };
+
+    ghost knows_flushed: { Self → ℕ → Type 0 } = { λ _ _. Unit {0} };
+
     /// It is asked between turns, by both threads.
     fn go_on(&self) -> bool
         ensures goes { result ≡ true → opened self.now }
@@ -42,22 +52,22 @@ pub trait Gate {
 
     /// The allocator's turn sent nothing, and has nothing in hand. The next one looks at what was
     /// asked before this returns.
-    fn allocator_idles<R: Wait>(&self, _rt: &R) {
-        thread::yield_now();
-    }
+    fn allocator_idles<R: Wait>(&self, rt: &R)
+        ensures { knows_allocator_idle self.now };
 
     /// The allocator has sent this many batches, the last ones in its last turn. The next turn
     /// looks at what was asked before this returns.
-    fn has_sent<R: Wait>(&self, _rt: &R, _count: u64) {}
+    fn has_sent<R: Wait>(&self, rt: &R, count: u64)
+        ensures { knows_sent self.now count };
 
     /// The flusher's turn received nothing.
-    fn flusher_idles<R: Wait>(&self, _rt: &R) {
-        thread::yield_now();
-    }
+    fn flusher_idles<R: Wait>(&self, rt: &R)
+        ensures { knows_flusher_idle self.now };
 
     /// The flusher has received this many batches, the last one in its last turn, and all of their
     /// commands are answered.
-    fn has_flushed<R: Wait>(&self, _rt: &R, _count: u64) {}
+    fn has_flushed<R: Wait>(&self, rt: &R, count: u64)
+        ensures { knows_flushed self.now count };
 }
 
 /// An allocator that has not begun to turn.
@@ -79,10 +89,15 @@ pub(crate) struct Closed<'d, 'b, P: Policy + Drop> {
 }
 
 /// A question to the gate, to be asked once. One comes with an allocator that begins, and one from
-/// each turn.
+/// telling the gate of each turn.
 #[derive(Drop)]
 pub(crate) struct Question {
     made: (),
+}
+
+/// A turn of the allocator of which the gate is still to be told.
+pub(crate) struct UntoldTurn {
+    sent_before: u64,
 }
 
 /// Evidence that the gate has said to go on, for one turn.
@@ -159,19 +174,35 @@ impl Question {
 }
 
 impl<'d, 'b, P: Policy + Drop> TurningAllocator<'d, 'b, P> {
-    /// The allocator, to be read.
-    pub(crate) fn allocator(&self) -> &Allocator<'d, 'b, P>
-        ensures { result.now ≡ self.now }
+    /// The turn.
+    pub(crate) fn turn<R: Wait>(&mut self, rt: &R, _yes: Yes) -> UntoldTurn
+        ensures turns { (counts : Counts)
+            × IsAllocation (P.chooses self.old.policy) self.old self.new counts }
+        ensures before { result.sent_before ≡ length self.old.end.sent }
     {
-        &self.allocator
+        let sent_before = self.allocator.sent();
+        let _counts = self.allocator.turn(rt);
+        UntoldTurn { sent_before }
     }
 
-    /// The turn.
-    pub(crate) fn turn<R: Wait>(&mut self, rt: &R, _yes: Yes) -> Question
-        ensures { (counts : Counts)
-            × IsAllocation (P.chooses self.old.policy) self.old self.new counts }
+    /// Tells the gate what the turn did. Of one that sent nothing and has a batch in hand there is
+    /// nothing to tell.
+    pub(crate) fn tell<R: Wait, G: Gate>(&self, rt: &R, turn: UntoldTurn, gate: &G) -> Question
+        // How many batches were sent, where the turn sent any.
+        ensures sent { turn.sent_before < length self.now.end.sent
+            → G.knows_sent gate.now (length self.now.end.sent) }
+        ensures idle { length self.now.end.sent ≤ turn.sent_before → self.now.hand ≡ []
+            → G.knows_allocator_idle gate.now }
     {
-        let _counts = self.allocator.turn(rt);
+        let UntoldTurn { sent_before } = turn;
+        let sent = self.allocator.sent();
+        if sent > sent_before {
+            gate.has_sent(rt, sent);
+        } else if self.allocator.has_batch_in_hand() {
+            thread::yield_now();
+        } else {
+            gate.allocator_idles(rt);
+        }
         Question { made: () }
     }
 

@@ -1,6 +1,7 @@
 //! Both parts on two threads.
 
-ghost use Rattle.std.specs.Prelude.{◌≡◌, ◌≢◌, List, [], length, true, false, Some, None, Result};
+ghost use Rattle.std.specs.Prelude.{◌≡◌, ◌≢◌, ◌<◌, ◌≤◌, List, [], length, true, false, Some, None};
+ghost use Rattle.std.specs.Prelude.{Result};
 ghost use Rattle.lift_base.specs.declared.history.Entry.{Entry};
 ghost use Rattle.lift_register.specs.Register.{RegisterState};
 ghost use Rattle.lift_keeper.specs.declared.fault.KeeperFault.{KeeperFault};
@@ -41,23 +42,6 @@ pub enum RunFault {
     Spawn(NoThread),
 }
 
-/// Tells the gate what a turn of the allocator did, before which this many batches had been sent.
-fn tell_of_allocator<R: Wait, G: Gate, P: Policy + Drop>(
-    rt: &R,
-    allocator: &Allocator<'_, '_, P>,
-    sent_before: u64,
-    gate: &G,
-) {
-    let sent = allocator.sent();
-    if sent > sent_before {
-        gate.has_sent(rt, sent);
-    } else if allocator.has_batch_in_hand() {
-        thread::yield_now();
-    } else {
-        gate.allocator_idles(rt);
-    }
-}
-
 /// Turns while the gate goes on.
 fn allocate<'d, 'b, R: Wait, G: Gate, P: Policy + Drop>(
     rt: &R,
@@ -73,9 +57,8 @@ fn allocate<'d, 'b, R: Wait, G: Gate, P: Policy + Drop>(
             Ok(yes) => yes,
             Err(no) => return turning.closed(no),
         };
-        let sent = turning.allocator().sent();
-        question = turning.turn(rt, yes);
-        tell_of_allocator(rt, turning.allocator(), sent, gate);
+        let turn = turning.turn(rt, yes);
+        question = turning.tell(rt, turn, gate);
     }
     unreachable!()
 }
@@ -86,7 +69,13 @@ fn tell_of_flusher<R: Wait, G: Gate, D: Disk, K>(
     flusher: &Flusher<'_, '_, D, K>,
     received_before: u64,
     gate: &G,
-) {
+)
+    // How many batches were received, where the turn received one.
+    ensures flushed { received_before < length flusher.now.end.received
+        → G.knows_flushed gate.now (length flusher.now.end.received) }
+    ensures idle { length flusher.now.end.received ≤ received_before
+        → G.knows_flusher_idle gate.now }
+{
     let received = flusher.received();
     if received > received_before {
         gate.has_flushed(rt, received);

@@ -14,9 +14,9 @@ pub loop-preserved : goal.loop-preserved
 loop-preserved g c =
     let i = c.loop.invariant in
     let chooses = g.P.Policy.chooses in
-    let counts = c.turn-question.ensures.0 in
-    let turn = c.turn-question.ensures.1 in
+    let counts = c.turn-turn.ensures.turns.0 in
+    let turn = c.turn-turn.ensures.turns.1 in
     record {
-      turns = turns_more chooses c.args.allocator c.loop.turning c.turn-question.new.self counts i.policy i.turns turn;
-      policy = same_policy (chooses c.loop.turning.policy) c.loop.turning c.turn-question.new.self counts turn ∙ i.policy;
+      turns = turns_more chooses c.args.allocator c.loop.turning c.turn-turn.new.self counts i.policy i.turns turn;
+      policy = same_policy (chooses c.loop.turning.policy) c.loop.turning c.turn-turn.new.self counts turn ∙ i.policy;
     }
