@@ -1,6 +1,6 @@
 //! The seats of a desk before their first sessions.
 
-ghost use Rattle.std.specs.Prelude.{◌≡◌, ◌≤◌, ◌++◌, ◌∷◌, [], All, Some, IfOk, IfErr, length};
+ghost use Rattle.std.specs.Prelude.{◌≡◌, ◌≤◌, ◌++◌, ◌∷◌, [], All, Some, IfOk, length};
 ghost use Rattle.lift_desk.specs.Seats.{AreSeatsOf, IsSeatOf, seats_from};
 ghost use Rattle.lift_register.specs.Register.{last_of as last_in};
 ghost use Rattle.lift_serve.specs.Lobby.{AreInOrder, found_seats, found_at};
@@ -9,16 +9,12 @@ ghost use Rattle.lift_serve.specs.Visits.{AreAsFound, IsNewSeat, known_of, lette
 use crate::held::HeldSeat;
 use crate::lobby::Lobby;
 use crate::pace::Pager;
-use crate::prepared::shortages::{Shortage, push, room_for_pagers};
-use crate::serving::ServeFault;
 use arrayvec::ArrayVec;
 use lift_base::{Content, Letter, MOST_TERMINALS, Number, Terminal};
 use lift_desk::{Desk, Seat};
-use lift_disk::Disk;
 use lift_kiosk::LastLetter;
-use lift_policy::Policy;
+use lift_memory::{Memory, with_room};
 use lift_register::Register;
-use lift_relay::HeldClerk;
 use std::alloc::Global;
 
 /// The letter that a kiosk's last call got.
@@ -49,15 +45,14 @@ fn last_of(register: &Register, terminal: Terminal) -> LastLetter
 
 /// A pager for each terminal that there can be.
 #[tactic(auto, using(crate::proofs::Pagers::none_in_order, crate::proofs::Pagers::one_pager_more))]
-pub(crate) fn new_pagers(alloc: Global) -> Result<Vec<Pager>, Shortage>
+pub(super) fn new_pagers(alloc: Global) -> Result<Vec<Pager>, Memory>
     ensures count { IfOk result (λ pagers. length pagers.items ≡ 63) }
     ensures in_order { IfOk result (λ pagers. AreInOrder pagers.items) }
-    ensures lack { IfErr result (λ shortage. shortage ≡ ServeFault.Memory) }
 {
-    let mut pagers = room_for_pagers(alloc)?;
+    let mut pagers = with_room(alloc, MOST_TERMINALS)?;
     for index in 0..MOST_TERMINALS {
         let pager = Pager::new(Terminal::new(index as u8).unwrap());
-        push(&mut pagers, pager)?;
+        pagers.push_reserved(pager);
     }
     Ok(pagers)
 }
@@ -89,7 +84,7 @@ fn add<'d>(places: &mut ArrayVec<Option<HeldSeat<'d>>, MOST_TERMINALS>, held: He
 /// The lobby with all seats of a desk, each at its place, and what a register knows of their
 /// terminals.
 #[tactic(auto, using(crate::proofs::Places::one_taken_more))]
-fn lobby_at<'d>(
+pub(super) fn lobby_at<'d>(
     desk: &'d Desk,
     pagers: &'d [Pager],
     seats: Vec<Seat>,
@@ -109,24 +104,4 @@ fn lobby_at<'d>(
         add(&mut places, held_of(desk, pagers, seat, register));
     }
     Lobby::new(desk, places)
-}
-
-/// The lobby of a clerk's desk, with all its seats, and what the clerk's register knows of their
-/// terminals.
-pub(crate) fn lobby_of<'d, D: Disk, P: Policy + Drop, K>(
-    clerk: &HeldClerk<'d, '_, D, P, K>,
-    pagers: &'d [Pager],
-    seats: Vec<Seat>,
-) -> Lobby<'d>
-    requires pagers { 63 ≤ length pagers.now }
-    requires in_order { AreInOrder pagers.now }
-    requires new { All IsNewSeat seats.items }
-    requires seats { AreSeatsOf clerk.now.desk seats.items }
-    requires all { seats.items ≡ seats_from 0 clerk.now.desk }
-    ensures desk { result.desk ≡ clerk.now.desk }
-    ensures all { result.places
-        ≡ found_seats clerk.now.keeper.state.register clerk.now.desk seats.items }
-    ensures found { AreAsFound clerk.now.keeper.state.register clerk.now.desk result.places }
-{
-    lobby_at(clerk.desk(), pagers, seats, clerk.keeper().register())
 }

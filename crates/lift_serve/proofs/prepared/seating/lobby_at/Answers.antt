@@ -1,7 +1,7 @@
 use Rattle.std.proofs.Common.{rules, ap, ◌∙◌}
 use Rattle.lift_serve.specs.Lobby.{LobbyState}
 use Rattle.lift_serve.proofs.Places.{all_as_found, is_lobby_after, next_place}
-use Rattle.lift_serve.proofs.seating.lobby_at.Goals as goal
+use Rattle.lift_serve.proofs.prepared.seating.lobby_at.Goals as goal
 
 pub add-requires : goal.add-requires
 add-requires c = record {
