@@ -197,6 +197,31 @@ where
     )
 }
 
+/// Both parts run at the pace of these bells while connections are accepted.
+fn run<'d, 'b, R, D, P, K, V>(
+    rt: &R,
+    alloc: Global,
+    shared: Shared<'_, '_>,
+    parts: Parts<'d, 'b, D, P, K, V>,
+) -> (Parts<'d, 'b, D, P, K, V>, Over)
+where
+    R: Threads + Wait + Clock + Sync,
+    D: Disk + Drop,
+    P: Policy + Drop + Send,
+    K: HeardBy<V> + Drop,
+    V: Witness + Drop,
+    requires own { shared.building.now ≡ parts.flusher.writer.plan }
+    ensures ran { (fault : Option Fault) × HaveRunOrNot (P.chooses parts.entry.allocator.policy)
+        D.state parts.entry.allocator result.0.allocator parts.entry.flusher result.0.flusher fault
+        × (fault ≡ Some (Fault.Spawn tt) → IsErr result.1) }
+    ensures heard { FailureHeard V.hears parts.entry.flusher.writer.is_broken
+        result.0.flusher.writer.is_broken parts.entry.witness result.0.witness }
+    ensures over { IsEndAt shared.entry.bound.now result.1 }
+{
+    let pace = Pace::new(shared.bells, shared.closing);
+    run_beside(rt, alloc, shared, &pace, parts)
+}
+
 /// Serves a group that is ready on its listening socket until so many connections have ended, those that
 /// were refused included: each has a thread of its own, beside the allocator's and the flusher's. It can
 /// be refused a thread, and nothing else ends it: whatever a connection is refused ends that connection
@@ -208,7 +233,6 @@ where
 /// whether or not it ever ends, it has had such turns alone. The turn in which the device first
 /// fails notifies the witness, and no other turn does: also in a serving that never ends.
 #[inline(never)]
-#[tactic(auto, using(crate::proofs::Relayings::serving_keeps))]
 pub fn serve<'d, 'b, R, D, P, K, V>(
     rt: &R,
     alloc: Global,
@@ -267,8 +291,7 @@ where
         present,
         connections: &connections,
     };
-    let pace = Pace::new(&bells, &closing);
-    let (ran, over) = run_beside(rt, alloc, shared, &pace, parts);
+    let (ran, over) = run(rt, alloc, shared, parts);
     let end = connections.into_inner().into_end(over);
     let Parts {
         allocator,

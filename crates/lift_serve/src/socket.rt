@@ -82,7 +82,7 @@ impl Listening {
 
     /// What connections are accepted by, and what shuts it down.
     pub(crate) fn apart(self) -> (Accepting, ListeningCloser)
-        ensures { result.0 ≡ self.entry }
+        ensures { result.0 ≡ self }
     {
         let Listening { accepting, closer } = self;
         (accepting, closer)
