@@ -3,19 +3,21 @@ use Rattle.std.proofs.Common.{◌≡◌, ◌∙◌, ℕ, Bool, Option, List, Som
 use Rattle.std.specs.Prelude.{Result, Ok, Err, IfErr, IfOk}
 use Rattle.std.specs.declared.net.tcp.TcpListener.{TcpListener as Listener}
 use Rattle.clap.specs.Words.{Text}
-use Rattle.lift_keeper.specs.Keeper.{KeeperView}
 use Rattle.lift_base.specs.Input.{InputState}
 use Rattle.lift_policy.specs.declared.dispatching.Dispatching.{Dispatching}
 use Rattle.lift_policy.specs.declared.policies.Shipped.{Shipped}
 use Rattle.lift_replay.specs.Replaying.{ReportsPrefix}
 use Rattle.lift_replay.specs.declared.lines.Verdict.{Verdict}
+use Rattle.lift_parts.specs.Allocator.{AllocatorState}
+use Rattle.lift_parts.specs.Flusher.{FlusherState}
+use Rattle.lift_serve.specs.Open.{EndedState}
 use Rattle.lift_serve.specs.lemmas.Opened.{keeps_over}
 use Rattle.lift_program.proofs.Flushing.{building_no_output, image_no_output}
 use Rattle.lift_program.proofs.Stages.{fault_there}
 use Rattle.lift_program.proofs.Writing.{report_front}
-use Rattle.lift_program.specs.Ends.{EndOver, IsEndFor, IsEndOf, IsInputLeft, IsOutputOf, IsPassedOn, IsReportOfEnd, IsUnmade, KeepsFor, KeepsIfServed, ReportsAll, WritesFor, failed_for, fault_of}
+use Rattle.lift_program.specs.Ends.{EndOver, IsEndFor, IsEndOf, IsInputLeft, IsOutputOf, IsPassedOn, IsReportOfEnd, IsServeEnd, IsUnmade, KeepsFor, KeepsIfServed, ReportsAll, WritesFor, failed_for, fault_of}
 use Rattle.lift_program.specs.Output.{IsFlushed, WriterHasFailed}
-use Rattle.lift_program.specs.Serving.{IsReadyOver, IsServedBy, IsServedOver, IsServing, file_found}
+use Rattle.lift_program.specs.Serving.{IsReadyOver, IsServedOver, file_found}
 use Rattle.lift_program.specs.Stages.{fault_in}
 use Rattle.lift_program.specs.declared.fault.Fault.{Fault}
 use Rattle.lift_program.specs.declared.leftover.Failure.{Failure}
@@ -103,46 +105,28 @@ unmade_no_output files image building half P (Err (NoBuilding fault unused)) is 
 unmade_no_output files image building half P (Err (NoImage refused)) is same = absurd (image_no_output refused.fault is.no_image.is_fault (ap fault_there same))
 unmade_no_output files image building half P (Err (Opened fault left)) is same = absurd (let other = sym is.is_fault ∙ ap fault_there same in cc)
 
--- a building is to be served so, and all that this takes was had
-abbrev pub IsReadyFor : (files : CommandFiles) → (gives : ℕ → Option Listener → Type 0) → Request
-    → KeeperView files.image.Served → Listener → (port sessions : ℕ) → Dispatching Shipped → Type 0
-IsReadyFor files gives Replay keeper listener port sessions policy = ⊥
-IsReadyFor files gives (Format image building half) keeper listener port sessions policy = ⊥
-IsReadyFor files gives (Show image building) keeper listener port sessions policy = ⊥
-IsReadyFor files gives (Serve image building asked count named) keeper listener port sessions policy =
-    (port ≡ asked) × (sessions ≡ count) × (policy ≡ named)
-    × IsReadyOver files (gives asked) image.now building.now keeper listener
-
 -- what was ready was served
-pub served_end : (files : CommandFiles) (gives : ℕ → Option Listener → Type 0) (input : Option (List ℕ)) (words : List Text) (before after : Option (List ℕ)) (request : Request) (keeper : KeeperView files.image.Served) (listener : Listener) (port sessions : ℕ) (policy : Dispatching Shipped)
-    (serving : Serving files.image.Served) → AskForRequest words request → IsReadyFor files gives request keeper listener port sessions policy → WritesFor files input request before after
-    → serving.port ≡ port → IsServedOver files.image.served_state policy listener sessions keeper serving → IsEndOf files gives input words before after (Served (Ok serving))
-served_end files gives input words before after Replay keeper listener port sessions policy serving asks never writes at served = absurd never
-served_end files gives input words before after (Format image building half) keeper listener port sessions policy serving asks never writes at served = absurd never
-served_end files gives input words before after (Show image building) keeper listener port sessions policy serving asks never writes at served = absurd never
-served_end files gives input words before after (Serve image building asked count named) keeper listener port sessions policy serving asks (same, many, by_policy, ready) writes at served =
-    let is : IsServing files (gives asked) image.now building.now policy sessions serving = record {
-      keeper = keeper;
-      listener = listener;
-      ready = ready;
-      served = served;
-      keeps = λ honest base accepted given found.
-          let stays = files.image.stays image.now ready.has.opened ready.has.fresh honest in
-          keeps_over IsServedBy files.image.served_state files.image.held ready.plan ready.has.opened keeper ready.has.recovers ready.has.starts ready.has.whole ready.has.no_doubt ready.has.own (file_found ready) honest stays.0 stays.1 base accepted given found
-          policy served.last serving.end.fault served.comes;
-    } in (
-      Serve image building asked count named,
-      asks,
-      record {
-        port_is = at ∙ same;
-        serving = subst (λ (n : ℕ). IsServing files (gives asked) image.now building.now named n serving) many
-            (subst (λ (p : Dispatching Shipped). IsServing files (gives asked) image.now building.now p sessions serving) by_policy is);
-        failure = tt;
-        refused = tt;
-        quiet = tt;
-      },
-      writes,
-    )
+pub served_end : (files : CommandFiles) (gives : ℕ → Option Listener → Type 0) (before after : Option (List ℕ)) (image building : List ℕ) (port sessions : ℕ) (policy : Dispatching Shipped)
+    (a : AllocatorState (Dispatching Shipped)) (f : FlusherState files.image.Served) (terms : EndedState) (serving : Serving files.image.Served)
+    → IsReadyOver files (gives port) image building policy sessions a f terms → serving.port ≡ port → IsServedOver files.image.served_state a f terms serving
+    → IsServeEnd files (gives port) image building port sessions policy before after (Ok serving)
+served_end files gives before after image building port sessions policy a f terms serving ready at served = record {
+  port_is = at;
+  serving = record {
+    a = a;
+    f = f;
+    terms = terms;
+    ready = ready;
+    served = served;
+    keeps = λ honest base accepted given found.
+        let stays = files.image.stays image ready.has.opened ready.has.fresh honest in
+        keeps_over files.image.served_state files.image.held ready.plan ready.has.opened ready.keeper ready.has.recovers ready.has.starts ready.has.whole ready.has.no_doubt ready.has.own (file_found ready) honest stays.0 stays.1 base accepted given found
+        policy a f served.g ready.group served.keeps;
+  };
+  failure = tt;
+  refused = tt;
+  quiet = tt;
+}
 
 -- words ask for what their request is
 pub asked_of : {T U : Type 0} (words : List Text) (request : Request) (result : Result T U) (of : T → Request) → AskForRequest words request → IfOk result (λ t. request ≡ of t) → IfOk result (λ t. AskForRequest words (of t))
@@ -159,10 +143,14 @@ served_keeps files gives before after (Serve image building port sessions policy
     record {
       plan = s.ready.plan;
       described = s.ready.described;
-      keeper = s.keeper;
+      keeper = s.ready.keeper;
       has = s.ready.has;
-      last = s.served.last;
-      comes = s.served.comes;
+      a = s.a;
+      b = s.served.b;
+      f = s.f;
+      g = s.served.g;
+      group = s.ready.group;
+      ran = s.served.ran;
       is_left = s.served.is_left;
       keeps = s.keeps;
     }

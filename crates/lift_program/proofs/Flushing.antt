@@ -66,6 +66,10 @@ output_no_network fault (inr is) same = subst IsOfBuilding (sym is ∙ same) tt
 pub network_no_output : (fault : Fault) → fault ≡ Network → fault ≡ File Output → ⊥
 network_no_output fault is same = absurd (let other = sym is ∙ same in cc)
 
+-- want of memory isn't the standard output
+pub memory_no_output : (fault : Fault) → fault ≡ Memory tt → fault ≡ File Output → ⊥
+memory_no_output fault is same = absurd (let other = sym is ∙ same in cc)
+
 pub err_same : {T E : Type 0} (told wanted : E) → ◌≡◌ {A = Result T E} (Err told) (Err wanted) → told ≡ wanted
 err_same {T} {E} told wanted same = subst (λ (r : Result T E). IfErr r (λ other. told ≡ other)) same refl
 

@@ -1,5 +1,5 @@
 -- What the faults of each stage are to a whole command.
-use Rattle.std.proofs.Common.{◌≡◌, ◌≢◌, ◌<◌, ◌≤◌, ◌+◌, ◌*◌, ℕ, List, [], Option, Some, None, length, false, refl, sym, subst, inl, inr}
+use Rattle.std.proofs.Common.{◌≡◌, ◌≢◌, ◌<◌, ◌≤◌, ◌+◌, ◌*◌, ℕ, List, [], Option, Some, None, length, false, refl, sym, ap, subst, ◌∙◌, inl, inr}
 use Rattle.std.specs.Prelude.{Result, Ok, Err, IfErr}
 use Rattle.std.specs.Str.{IsUtf8}
 use Rattle.lift_building.specs.Describes.{IsTextOf}
@@ -10,6 +10,13 @@ use Rattle.lift_building.specs.declared.fault.BuildingFault.TheVariants.{NotToml
 use Rattle.lift_disk.specs.Disk.{DiskState, IsSynced, RunsOn}
 use Rattle.lift_journal.specs.Calls.{MakesPrefix, format_calls}
 use Rattle.lift_journal.specs.Journal.{ReadsAs}
+use Rattle.lift_keeper.specs.Writer.{WriterView}
+use Rattle.lift_parts.specs.Allocator.{AllocatorState}
+use Rattle.lift_parts.specs.Flusher.{FlusherState}
+use Rattle.lift_policy.specs.declared.dispatching.Dispatching.{Dispatching}
+use Rattle.lift_policy.specs.declared.policies.Shipped.{Shipped}
+use Rattle.lift_serve.specs.Open.{EndedState}
+use Rattle.lift_serve.specs.Ready.{IsNewGroup}
 use Rattle.lift_serve.specs.lemmas.Made.{made_keeps}
 use Rattle.lift_journal.specs.declared.fault.JournalFault.TheVariants.{Disk, NotFormatted, Damaged, Full, Broken}
 use Rattle.lift_decider.specs.Decider.{starting}
@@ -147,16 +154,27 @@ pub no_image : {F O : Type 0} (is_text : List ℕ → Type 0) (is_refused : File
 no_image is_text is_refused plan fault cause has unhad = record { building = (plan, has); no_image = unhad }
 
 -- all that a serving takes was had
-pub is_ready : (files : CommandFiles) (gives : Option Listener → Type 0) (image building : List ℕ) (plan standing : Plan) (keeper told : KeeperView files.image.Served) (listener listening : Listener) → told ≡ keeper → listening ≡ listener → standing ≡ plan
-    → HasBuilding (files.is_text building) plan → HasKeeperOf files.image image standing keeper → keeper.state.batch ≡ [] → gives (Some listener) → IsReadyOver files gives image building told listening
-is_ready files gives image building plan standing keeper told listener listening same at stands has kept empty_batch here =
-    subst (λ (k : KeeperView files.image.Served). IsReadyOver files gives image building k listening) (sym same) (subst (λ (l : Listener). IsReadyOver files gives image building keeper l) (sym at) (record {
-      plan = standing;
-      described = subst (HasBuilding (files.is_text building)) (sym stands) has;
-      has = kept;
-      empty_batch = empty_batch;
-      here = here;
-    }))
+pub is_ready : (files : CommandFiles) (gives : Option Listener → Type 0) (image building : List ℕ) (plan standing : Plan) (keeper : KeeperView files.image.Served) (listener : Listener) (policy : Dispatching Shipped) (sessions : ℕ) (a : AllocatorState (Dispatching Shipped)) (f : FlusherState files.image.Served) (terms : EndedState)
+    → standing ≡ plan → HasBuilding (files.is_text building) plan → HasKeeperOf files.image image standing keeper → keeper.state.batch ≡ [] → gives (Some listener) → terms ≡ record { listener = listener; sessions = sessions }
+    → IsNewGroup files.image.served_state policy keeper a f → IsReadyOver files gives image building policy sessions a f terms
+is_ready files gives image building plan standing keeper listener policy sessions a f terms stands has kept empty_batch here bound group = record {
+  plan = standing;
+  described = subst (HasBuilding (files.is_text building)) (sym stands) has;
+  keeper = keeper;
+  has = kept;
+  empty_batch = empty_batch;
+  group = group;
+  here = subst (λ (t : EndedState). gives (Some t.listener)) (sym bound) here;
+  count = ap (λ (t : EndedState). t.sessions) bound;
+}
+
+-- the device of a group that is ready is that of its keeper
+pub group_left : {D P : Type 0} (state : D → DiskState) (policy : P) (keeper : KeeperView D) (a : AllocatorState P) (f : FlusherState D) (left : D) → IsNewGroup state policy keeper a f → left ≡ f.writer.device → left ≡ keeper.writer.device
+group_left {D} state policy keeper a f left group same = same ∙ ap (λ (w : WriterView D). w.device) (group.parts.writer ∙ ap (λ (k : KeeperView D). k.writer) group.begins)
+
+-- which is whole
+pub is_whole_yet : {D P : Type 0} (state : D → DiskState) (policy : P) (keeper : KeeperView D) (a : AllocatorState P) (f : FlusherState D) → IsNewGroup state policy keeper a f → keeper.writer.is_broken ≡ false → f.writer.is_broken ≡ false
+is_whole_yet {D} state policy keeper a f group whole = ap (λ (w : WriterView D). w.is_broken) (group.parts.writer ∙ ap (λ (k : KeeperView D). k.writer) group.begins) ∙ whole
 
 -- the building stands where it was put
 pub stands_so : (is_text : List ℕ → Type 0) (plan standing : Plan) → standing ≡ plan → HasBuilding is_text plan → HasBuilding is_text standing

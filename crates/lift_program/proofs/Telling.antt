@@ -4,7 +4,7 @@ use Rattle.std.specs.Prelude.{IfSome, Ok, Err}
 use Rattle.lift_base.specs.Output.{OutputState}
 use Rattle.lift_relay.specs.Heard.{FailureHeard}
 use Rattle.lift_serve.specs.declared.serving.ServeFault.{ServeFault}
-use Rattle.lift_serve.specs.declared.serving.ServeFault.TheVariants.{Network as NoNetwork, Thread as NoThread, Memory as NoGrowth}
+use Rattle.lift_serve.specs.declared.serving.ServeFault.TheVariants.{Thread as NoThread, Memory as NoGrowth}
 use Rattle.lift_program.specs.Ends.{IsFailureTold, TellsLine, line_at_end, line_at_end_in, line_at_once, line_at_once_in, line_for, line_of}
 use Rattle.lift_program.specs.Faults.{served_fault}
 use Rattle.lift_program.specs.Output.{IsWrittenOrFailed}
@@ -19,7 +19,6 @@ module _ {E : Type 0} (contents : E → Option (List ℕ)) (a b : OutputState E)
   broken_told : (is_broken : Bool) (other : Option ServeFault) → FailureHeard (IsFailureTold contents) false is_broken a b → TellsLine contents (line_at_once_in (served_fault is_broken other)) a b
   broken_told true other heard = heard
   broken_told false None heard = heard
-  broken_told false (Some NoNetwork) heard = heard
   broken_told false (Some NoThread) heard = heard
   broken_told false (Some NoGrowth) heard = heard
 

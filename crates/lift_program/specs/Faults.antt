@@ -14,7 +14,6 @@ use Rattle.lift_replay.specs.declared.script.ReplayFault.{ReplayFault}
 use Rattle.lift_replay.specs.declared.script.ReplayFault.TheVariants.{Memory as NoMemory, Read}
 use Rattle.lift_replay.specs.declared.script.ReplayFault.TheVariants.{Write}
 use Rattle.lift_serve.specs.declared.serving.ServeFault.{ServeFault}
-use Rattle.lift_serve.specs.declared.serving.ServeFault.TheVariants.{Network as NoNetwork}
 use Rattle.lift_serve.specs.declared.serving.ServeFault.TheVariants.{Thread as NoThread}
 use Rattle.lift_serve.specs.declared.serving.ServeFault.TheVariants.{Memory as NoGrowth}
 use Rattle.lift_program.specs.declared.fault.Role.TheVariants.{Input, Output}
@@ -73,6 +72,5 @@ of_replay Write = File Output
 abbrev pub served_fault : (is_broken : Bool) → Option ServeFault → Option Fault
 served_fault true fault = Some (Journal (OfJournal Disk))
 served_fault false None = None
-served_fault false (Some NoNetwork) = Some Network
 served_fault false (Some NoThread) = Some Thread
 served_fault false (Some NoGrowth) = Some (Memory tt)

@@ -31,6 +31,7 @@ use lift_base::text::Counted;
 use lift_building::Building;
 use lift_disk::{BufferedFile, FileOpener};
 use lift_policy::{Dispatching, Shipped};
+use lift_serve::Room;
 use std::alloc::Global;
 use std::convert::AsStr;
 use std::io::{Read, Write};
@@ -130,21 +131,21 @@ fn done<'w, B: TextOpener, I: FileOpener, L: Listens, R: Read + Drop, W: Outflow
 }
 
 impl<'w, B: TextOpener, I: FileOpener, L: Listens, E: Write + Drop> ToServe<'w, B, I, L, E> {
-    /// Has all that the serving takes, over a building that stands in `place`.
+    /// Has all that the serving takes, over a building that stands in `place`, at a desk in `room`.
     #[inline(never)]
-    pub(crate) fn made_ready<'b, W: Outflow>(
+    pub(crate) fn made_ready<'d, 'b: 'd, W: Outflow>(
         self,
         alloc: Global,
         place: &'b mut Option<Building>,
+        room: &'d mut Option<Room>,
         writer: &mut W,
-    ) -> Result<Ready<'b, BufferedFile<I::Told>, E>, Failure<BufferedFile<I::Told>, I::Told, I>>
+    ) -> Result<Ready<'d, 'b, BufferedFile<I::Told>, E>, Failure<BufferedFile<I::Told>, I::Told, I>>
         ensures ready { IfOk result (λ ready. IsReadyOver
             (⟦<Files<B, I> as FilesView>⟧.view self.entry.openers.files)
             (L.gives self.entry.openers.socket local self.entry.port) self.entry.image.now
-            self.entry.building.now ready.prepared.keeper ready.prepared.listening) }
+            self.entry.building.now self.entry.policy self.entry.sessions ready.group.allocator
+            ready.group.flusher ready.group.bound) }
         ensures port { IfOk result (λ ready. ready.port ≡ self.entry.port) }
-        ensures sessions { IfOk result (λ ready. ready.prepared.sessions ≡ self.entry.sessions) }
-        ensures policy { IfOk result (λ ready. ready.prepared.policy ≡ self.entry.policy) }
         // That the port is served was passed on, before it is.
         ensures said { OnOk result
             (Appends (W.contents writer.old) (W.contents writer.new) (serving_text self.entry.port)) }
@@ -175,7 +176,7 @@ impl<'w, B: TextOpener, I: FileOpener, L: Listens, E: Write + Drop> ToServe<'w, 
             told: _,
         } = self;
         ready_for(
-            openers, alloc, place, image, building, port, sessions, policy, writer,
+            openers, alloc, place, room, image, building, port, sessions, policy, writer,
         )
     }
 }

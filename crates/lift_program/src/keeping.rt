@@ -1,4 +1,4 @@
-//! The keeper of an image, held for the serving, which can't take it apart.
+//! The keeper of an image, and how a group leaves that image.
 
 ghost use Rattle.std.specs.Prelude.{◌≡◌, [], IfOk, IfErr};
 ghost use Rattle.lift_program.specs.Stages.{HasKeeperOf, IsServingKeeperFailure};
@@ -11,31 +11,30 @@ use crate::opening::ImageView;
 use lift_building::Building;
 use lift_disk::{Buffered, BufferedFile, Disk, FileOpener};
 use lift_keeper::Keeper;
-use lift_serve::{HeardBy, HeldKeeper};
+use lift_policy::Shipped;
+use lift_serve::{Flusher, HeardBy, ReadyGroup};
 use std::io::Write;
 use std::marker::PhantomData;
 
-/// What gives back the keeper of an image. Only this file makes one, in which no call waits: so what
-/// waits with such a keeper can call its device by the turns of its group alone, which tell an `E` of
+/// What gives back the writer of an image. Only this file makes one, in which no call waits: so what
+/// waits with such a group can call its device by the turns of its flusher alone, which tell an `E` of
 /// its failure.
 #[derive(Drop)]
 pub struct ImageKey<E> {
     told: PhantomData<E>,
 }
 
-/// Whoever has such a keeper tells a writer of this type, and nobody else, when its device fails. Who
+/// Whoever has such a group tells a writer of this type, and nobody else, when its device fails. Who
 /// is generic in the type has no other writer of it than the one that it was given.
 impl<E: Write + Drop> HeardBy<AtOnce<E>> for ImageKey<E> {}
 
 /// The keeper that the recovery gives, over the journal in a file.
-pub fn keeper_in<'b, I: FileOpener, E: Write + Drop>(
+#[inline(never)]
+pub fn keeper_in<'b, I: FileOpener>(
     opener: I,
     path: &str,
     building: &'b Building,
-) -> Result<
-    HeldKeeper<'b, BufferedFile<I::Told>, ImageKey<E>>,
-    Failure<BufferedFile<I::Told>, I::Told, I>,
->
+) -> Result<Keeper<'b, BufferedFile<I::Told>>, Failure<BufferedFile<I::Told>, I::Told, I>>
     ensures opened { IfOk result
         (HasKeeperOf (⟦<I as ImageView>⟧.image opener) path.now building.now) }
     ensures empty_batch { IfOk result (λ keeper. keeper.state.batch ≡ []) }
@@ -47,17 +46,39 @@ pub fn keeper_in<'b, I: FileOpener, E: Write + Drop>(
         Err(refused) => return Err(Failure::NoImage(refused)),
     };
     match Keeper::open(Buffered::over(file), building) {
-        Ok(keeper) => Ok(HeldKeeper::new(keeper)),
+        Ok(keeper) => Ok(keeper),
         Err((disk, fault)) => Err(Failure::Opened(Fault::Journal(fault), Leftover::new(disk))),
     }
 }
 
 /// The image as its keeper leaves it.
 #[inline(never)]
-pub fn left_by<D: Disk + Drop, E: Write + Drop>(
-    keeper: HeldKeeper<'_, D, ImageKey<E>>,
-) -> Leftover<D>
+pub fn left_by<D: Disk + Drop>(keeper: Keeper<'_, D>) -> Leftover<D>
     ensures { result ≡ keeper.entry.writer.device }
 {
-    Leftover::new(keeper.release(ImageKey { told: PhantomData }).into_disk())
+    Leftover::new(keeper.into_disk())
+}
+
+/// The image as a group leaves it that nobody serves.
+#[inline(never)]
+pub fn left_unserved<D: Disk + Drop, E: Write + Drop>(
+    group: ReadyGroup<'_, '_, D, Shipped, ImageKey<E>>,
+) -> Leftover<D>
+    ensures { result ≡ group.entry.flusher.writer.device }
+{
+    Leftover::new(group.unserved(ImageKey { told: PhantomData }).into_disk())
+}
+
+/// The image as the flusher of a group that was served leaves it.
+#[inline(never)]
+pub fn left_served<D: Disk + Drop, E: Write + Drop>(
+    flusher: Flusher<'_, '_, D, ImageKey<E>>,
+) -> Leftover<D>
+    ensures { result ≡ flusher.entry.writer.device }
+{
+    Leftover::new(
+        flusher
+            .into_writer(ImageKey { told: PhantomData })
+            .into_disk(),
+    )
 }

@@ -43,6 +43,6 @@ impl Listens for SystemSocket<'_> {
             self.rt,
             SocketAddr::V4(SocketAddrV4::new(address, port)),
         )?;
-        Ok(Listening::at(listener))
+        Listening::at(listener)
     }
 }

@@ -12,17 +12,18 @@ ghost use Rattle.lift_program.specs.declared.fault.Role.TheVariants.{Output};
 
 use crate::fault::Fault;
 use crate::files::building_in;
-use crate::keeping::{ImageKey, keeper_in, left_by};
+use crate::keeping::{ImageKey, keeper_in, left_by, left_unserved};
 use crate::leftover::{Failure, Leftover};
 use crate::listening::Listens;
 use crate::opening::{Files, FilesView, Openers, TextOpener};
 use crate::output::{Outflow, write_out};
+use crate::refused::unprepared;
 use arrayvec::ArrayString;
 use itoa::Buffer;
 use lift_building::Building;
 use lift_disk::{BufferedFile, Disk, FileOpener};
 use lift_policy::{Dispatching, Shipped};
-use lift_serve::{Listening, PreparedGroup};
+use lift_serve::{Listening, ReadyGroup, Room, prepare};
 use std::alloc::Global;
 use std::io::Write;
 use std::marker::Model;
@@ -50,9 +51,9 @@ impl<L> ForServing<L> {
 
 /// A building that is to be served on a port. It can't be let go: `serve` alone takes it. Whoever
 /// serves it tells an `E` that the device failed.
-pub(crate) struct Ready<'b, D: Disk + Drop, E> {
+pub(crate) struct Ready<'d, 'b, D: Disk + Drop, E> {
     pub(crate) port: u16,
-    pub(crate) prepared: PreparedGroup<'b, D, Shipped, ImageKey<E>>,
+    pub(crate) group: ReadyGroup<'d, 'b, D, Shipped, ImageKey<E>>,
 }
 
 /// Says which port is served.
@@ -86,30 +87,38 @@ fn listen_here<L: Listens>(socket: ForServing<L>, port: u16) -> Result<Listening
 
 /// All that it takes to serve the building in the file `building` on a port of this machine, with
 /// the journal in the file `image`, until so many connections have ended. The building stands in
-/// `place`. That the port is served is said after all that can be refused here.
+/// `place`, and the desk in `room`. That the port is served is said after all that can be refused here.
 #[inline(never)]
 #[tactic(auto, using(crate::proofs::Stages::nothing_written, crate::proofs::Writing::nothing_said, crate::proofs::Writing::said_front))]
-pub(crate) fn ready_for<'b, B: TextOpener, I: FileOpener, L: Listens, W: Outflow, E: Write + Drop>(
+pub(crate) fn ready_for<
+    'd,
+    'b: 'd,
+    B: TextOpener,
+    I: FileOpener,
+    L: Listens,
+    W: Outflow,
+    E: Write + Drop,
+>(
     openers: Openers<B, I, ForServing<L>>,
     alloc: Global,
     place: &'b mut Option<Building>,
+    room: &'d mut Option<Room>,
     image: &str,
     building: &str,
     port: u16,
     sessions: u32,
     policy: Dispatching<Shipped>,
     writer: &mut W,
-) -> Result<Ready<'b, BufferedFile<I::Told>, E>, Failure<BufferedFile<I::Told>, I::Told, I>>
+) -> Result<Ready<'d, 'b, BufferedFile<I::Told>, E>, Failure<BufferedFile<I::Told>, I::Told, I>>
     ensures said { OnOk result
         (Appends (W.contents writer.old) (W.contents writer.new) (serving_text port)) }
     ensures flushed { OnOk result (IsFlushed W.gives W.flushes writer.old writer.new) }
     // The socket was asked for at 127.0.0.1, at this port.
     ensures ready { IfOk result (λ ready. IsReadyOver
         (⟦<Files<B, I> as FilesView>⟧.view openers.files) (L.gives openers.socket local port)
-        image.now building.now ready.prepared.keeper ready.prepared.listening) }
+        image.now building.now policy sessions ready.group.allocator ready.group.flusher
+        ready.group.bound) }
     ensures port { IfOk result (λ ready. ready.port ≡ port) }
-    ensures sessions { IfOk result (λ ready. ready.prepared.sessions ≡ sessions) }
-    ensures policy { IfOk result (λ ready. ready.prepared.policy ≡ policy) }
     // The port is the fault only where that was refused.
     ensures refused { IfErr result (λ failure. fault_in failure ≡ Fault.Network
         → L.gives openers.socket local port None) }
@@ -140,9 +149,14 @@ pub(crate) fn ready_for<'b, B: TextOpener, I: FileOpener, L: Listens, W: Outflow
         Ok(listening) => listening,
         Err(fault) => return Err(Failure::Opened(fault, left_by(keeper))),
     };
+    let group = match prepare(alloc, room, listening, sessions, keeper, policy) {
+        Ok(group) => group,
+        Err((keeper, memory)) => {
+            return Err(Failure::Opened(unprepared(memory), left_by(keeper)));
+        }
+    };
     if let Err(fault) = say(port, writer) {
-        return Err(Failure::Opened(fault, left_by(keeper)));
+        return Err(Failure::Opened(fault, left_unserved(group)));
     }
-    let prepared = PreparedGroup::new(listening, sessions, keeper, policy);
-    Ok(Ready { port, prepared })
+    Ok(Ready { port, group })
 }

@@ -23,7 +23,7 @@ use clap::ArgMatches;
 use clap::error::ErrorKind as WordsFault;
 use lift_base::text::Watched;
 use lift_disk::FileFault;
-use lift_serve::{ServeFault, ServingEnd};
+use lift_serve::{Memory, ServeFault, ServingEnd};
 use std::alloc::Global;
 use std::convert::AsStr;
 use std::io;
@@ -78,12 +78,18 @@ impl From<lift_replay::NoMemory> for Fault {
     }
 }
 
+/// What it comes to that a group couldn't be prepared for want of memory.
+pub(crate) fn unprepared(_memory: Memory) -> Fault
+    ensures { result ≡ Fault.Memory tt }
+{
+    Fault::Memory(NoMemory { made: () })
+}
+
 /// What a serving that ended so was refused.
 pub(crate) fn refused_in(end: &ServingEnd) -> Option<Fault>
     ensures { result ≡ served_fault false end.now.fault }
 {
     match end.fault() {
-        Some(ServeFault::Network) => Some(Fault::Network),
         Some(ServeFault::Thread) => Some(Fault::Thread),
         Some(ServeFault::Memory) => Some(Fault::Memory(NoMemory { made: () })),
         None => None,

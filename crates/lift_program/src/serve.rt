@@ -7,7 +7,7 @@ ghost use Rattle.lift_program.specs.Serving.{IsServedBy, IsServedOver};
 
 use crate::at_once::{AtOnce, FAILED};
 use crate::fault::Fault;
-use crate::keeping::{ImageKey, left_by};
+use crate::keeping::left_served;
 use crate::leftover::Leftover;
 use crate::ready::Ready;
 use crate::refused::refused_in;
@@ -50,29 +50,30 @@ pub struct Serving<D> {
 pub(crate) fn serve<R: Threads + Wait + Clock + Sync, D: Disk + Drop, E: Write + Drop>(
     rt: &R,
     alloc: Global,
-    ready: Ready<'_, D, E>,
+    ready: Ready<'_, '_, D, E>,
     errors: Watched<E>,
 ) -> (Serving<D>, Watched<E>)
-    requires { ready.prepared.keeper.writer.is_broken ≡ false }
+    requires { ready.group.flusher.writer.is_broken ≡ false }
     ensures port { result.0.port ≡ ready.entry.port }
-    ensures served { IsServedOver D.state ready.entry.prepared.policy ready.entry.prepared.listening
-        ready.entry.prepared.sessions ready.entry.prepared.keeper result.0 }
+    ensures served { IsServedOver D.state ready.entry.group.allocator ready.entry.group.flusher
+        ready.entry.group.bound result.0 }
     // The line of a device that failed was written before the end, and no other.
     ensures at_once { TellsLine E.contents (line_at_once_in result.0.fault) errors result.1 }
 {
-    let Ready { port, prepared } = ready;
+    let Ready { port, group } = ready;
     let told = AtOnce { errors };
-    let served = lift_serve::serve(rt, alloc, prepared, told);
+    let served = lift_serve::serve(rt, alloc, group, told);
     let ServingOutcome {
-        keeper,
+        allocator: _,
+        flusher,
         end,
         witness,
     } = served;
     let AtOnce { errors } = witness;
     let serving = Serving {
         port,
-        fault: fault_of(keeper.keeper().is_broken(), &end),
-        left: left_by(keeper),
+        fault: fault_of(flusher.is_broken(), &end),
+        left: left_served(flusher),
         end,
     };
     (serving, errors)

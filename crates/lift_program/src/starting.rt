@@ -52,7 +52,8 @@ fn served<
     ensures at_once { TellsLine E.contents (line_at_once result.0) errors result.1 }
 {
     let mut place = None;
-    match asked.made_ready(alloc, &mut place, writer) {
+    let mut room = None;
+    match asked.made_ready(alloc, &mut place, &mut room, writer) {
         Ok(ready) => {
             let (serving, errors) = serve(rt, alloc, ready, errors);
             (End::Served(Ok(serving)), errors)

@@ -106,6 +106,23 @@ impl<'d, 'b, D: Disk, K> Flusher<'d, 'b, D, K> {
         self.settler.may_join(register)
     }
 
+    /// Whether a call of the device has failed since it was last opened.
+    pub fn is_broken(&self) -> bool
+        ensures { result ≡ self.now.writer.is_broken }
+    {
+        self.settler.is_broken()
+    }
+
+    /// Its writer, as it is, for the key. It receives and answers no more.
+    #[inline(never)]
+    pub fn into_writer(self, key: K) -> Writer<'b, D>
+    where
+        K: Drop,
+        ensures { result ≡ self.entry.writer }
+    {
+        self.settler.into_writer(key)
+    }
+
     /// Compares it with the other part, at the other end of its line. Both stay as they are.
     pub(crate) fn compare<P: Policy + Drop>(&mut self, allocator: &mut Allocator<'_, '_, P>)
         requires of_one { AreOfOne allocator.old self.old }

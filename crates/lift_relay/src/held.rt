@@ -156,8 +156,10 @@ impl<'d, 'b, D: Disk, P: Policy + Drop, K> HeldClerk<'d, 'b, D, P, K> {
     }
 }
 
-/// A clerk's work in two parts, for whatever key. Where memory ran out the clerk comes back.
-pub(crate) fn part<'d, 'b, D: Disk, P: Policy + Drop, K>(
+/// As `split`, for whatever key: who is generic in it can reach neither the seats that answer nor the
+/// writer but by the turns of the flusher.
+#[inline(never)]
+pub fn split_for<'d, 'b, D: Disk, P: Policy + Drop, K>(
     alloc: Global,
     clerk: Clerk<'d, 'b, D, P>,
 ) -> Result<(Allocator<'d, 'b, P>, Flusher<'d, 'b, D, K>), (Clerk<'d, 'b, D, P>, Memory)>
@@ -210,7 +212,7 @@ pub fn split_held<'d, 'b, D: Disk, P: Policy + Drop, K>(
         (given : List Taken) → History base (group_of clerk.entry) safe given
         → History base (group_after parts.1) safe given) }
 {
-    match part(alloc, clerk.clerk) {
+    match split_for(alloc, clerk.clerk) {
         Ok(parts) => Ok(parts),
         Err((clerk, memory)) => Err((HeldClerk::new(clerk), memory)),
     }

@@ -14,7 +14,7 @@ ghost use Rattle.lift_parts.specs.History.{group_after};
 
 use crate::allocator::Allocator;
 use crate::flusher::Flusher;
-use crate::held::{part, rejoin_held};
+use crate::held::{rejoin_held, split_for};
 use crate::witness::{HeardBy, Witness};
 use lift_clerk::Clerk;
 use lift_disk::Disk;
@@ -48,7 +48,7 @@ pub fn split<'d, 'b, D: Disk, P: Policy + Drop>(
         (given : List Taken) → History base (group_of clerk.entry) safe given
         → History base (group_after parts.1) safe given) }
 {
-    part(alloc, clerk)
+    split_for(alloc, clerk)
 }
 
 /// Tells each of two parts that come of one `split` how much was sent and how much was received.

@@ -215,6 +215,28 @@ impl<'d, 'b, D: Disk, K> Settler<'d, 'b, D, K> {
         self.writer.is_broken() || register.is_same(self.writer.register())
     }
 
+    /// Whether a call of the device has failed since it was last opened.
+    pub(crate) fn is_broken(&self) -> bool
+        ensures { result ≡ self.now.writer.is_broken }
+    {
+        self.writer.is_broken()
+    }
+
+    /// Its writer, as it is, for the key. It settles and answers no more.
+    pub(crate) fn into_writer(self, _key: K) -> Writer<'b, D>
+    where
+        K: Drop,
+        ensures { result ≡ self.entry.writer }
+    {
+        let Settler {
+            desk: _,
+            seat: _,
+            writer,
+            key: _,
+        } = self;
+        writer
+    }
+
     /// The clerk of this half, of the seats ahead of it, and of what decides, held for the same key.
     pub(crate) fn join<P: Policy + Drop>(
         self,

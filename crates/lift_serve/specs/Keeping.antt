@@ -1,22 +1,17 @@
 -- What a serving keeps, over power cuts, of all that was answered.
-use Rattle.std.specs.Prelude.{ℕ, ◌≡◌, List, [], ◌++◌, Option}
+use Rattle.std.specs.Prelude.{ℕ, ◌≡◌, List, [], ◌++◌}
 use mathlib.Core.List.{IsPrefix}
-use mathlib.Core.Logic.{inl, inr}
 use Rattle.lift_base.specs.declared.history.Entry.{Entry}
 use Rattle.lift_building.specs.Plan.{Plan, IsBuilding, shape_of}
 use Rattle.lift_disk.specs.Disk.{DiskState, Image, IsSynced, LeavesNow, LeavesOnly}
 use Rattle.lift_disk.specs.Starts.{StartsAfter, StartsFrom}
 use Rattle.lift_register.specs.Register.{RegisterState, register_of, empty}
-use Rattle.lift_policy.specs.Eligible.{Choice}
 use Rattle.lift_journal.specs.Journal.{ReadsAs}
 use Rattle.lift_keeper.specs.Images.{IsImageOf}
-use Rattle.lift_keeper.specs.Keeper.{KeeperView}
 use Rattle.lift_world.specs.declared.event.Taken.{Taken}
 use Rattle.lift_clerk.specs.Keeping.{KeepsAll, KeepsPrefix}
 use Rattle.lift_parts.specs.Flusher.{FlusherState}
 use Rattle.lift_parts.specs.Keeping.{HaveKept, KeepingTurns, NoneYet, OneKept}
-use Rattle.lift_serve.specs.declared.serving.ServeFault.{ServeFault}
-use Rattle.lift_serve.specs.Relaying.{IsServingOutcome, IsServedKeeper, IsUnserved}
 
 -- What a start takes of the device that it finds, and a serving leaves to the next one. Had the journal
 -- begun with this register, had these entries been accepted since and these commands been answered,
@@ -48,55 +43,36 @@ EachTurnHandsOn D F state held = (base : RegisterState) (f g : FlusherState D) (
     (given now : List Taken) → (state f.writer.device).is_honest
     → (turns : KeepingTurns state base f safe given g mid now) → TurnsHandOn held f.writer.plan turns
 
--- A serving, from these safe entries and answers to those.
-pub data KeptServing {D F P : Type 0} (chooses : P → Choice) (state : D → DiskState) (held : F
-    → DiskState) (plan : Plan) (base : RegisterState) (policy : P) (keeper last : KeeperView D) (fault : Option ServeFault)
-    : IsServingOutcome chooses state policy keeper last fault → List Entry → List Taken → List Entry
-    → List Taken → Type 0 where
-  -- At each moment of each turn all is kept that was safe and given before it, for a start that finds
-  -- it so. What the turns make safe and answer is added at the end.
-  Served : {safe : List Entry} {given : List Taken}
-      (served : IsServedKeeper chooses state policy keeper last fault)
-      → (k : HaveKept state base served.relayed.relayed.flusher served.relayed.relayed.flusher'
-      safe given) → TurnsHandOn held plan k.turns
-      → KeptServing chooses state held plan base policy keeper last fault (inl served) safe given
-      k.now_safe k.now_given
-  -- Nobody was served, and nothing is added.
-  Unserved : {safe : List Entry} {given : List Taken} (unserved : IsUnserved keeper last fault)
-      → KeptServing chooses state held plan base policy keeper last fault (inr unserved) safe given
-      safe given
-
--- The building was served over a file that was found, and that holds these letters. Then the next start
--- finds one that holds all that was answered by then, at whatever moment the power goes: in the
--- recovery (`cut`), in each turn (`serving`), and behind the last one (`next`).
-pub record KeepsOver {D F P : Type 0} (chooses : P → Choice) (state : D → DiskState) (held : F
-    → DiskState) (plan : Plan) (found : F) (policy : P) (keeper last : KeeperView D)
-    (fault : Option ServeFault) (comes : IsServingOutcome chooses state policy keeper last fault)
-    (base : RegisterState) (accepted : List Entry) (given : List Taken) : Type 0 where
+-- The building was served over a file that was found, and that holds these letters, by turns of a flusher
+-- that began so and came to that. Then the next start finds one that holds all that was answered by then,
+-- at whatever moment the power goes: in the recovery (`cut`), in each turn (`cuts`), and behind the last
+-- one (`next`).
+pub record KeepsOver {D F : Type 0} (state : D → DiskState) (held : F → DiskState) (plan : Plan) (found : F)
+    (f g : FlusherState D) (base : RegisterState) (accepted : List Entry)
+    (given : List Taken) : Type 0 where
   -- Each image that a crash at any moment until the end of the recovery may leave keeps a prefix of
   -- what was accepted, and all that was given before;
-  pub recovery : LeavesOnly (held found) (state keeper.writer.device)
+  pub recovery : LeavesOnly (held found) (state f.writer.device)
       (KeepsPrefix D plan base accepted given)
-  -- the keeper that has opened has the register of such a prefix;
+  -- the flusher begins with the register of such a prefix;
   pub safe : List Entry
   pub is_front : IsPrefix safe accepted
-  pub register : keeper.writer.register ≡ register_of base safe
-  -- each turn of the serving keeps all that is safe and given before it;
-  pub now_safe : List Entry
-  pub now_given : List Taken
-  pub serving : KeptServing chooses state held plan base policy keeper last fault comes safe given
-      now_safe now_given
+  pub register : f.writer.register ≡ register_of base safe
+  -- at each moment of each turn all is kept that was safe and given before it, for a start that finds
+  -- it so, and what the turns make safe and answer is added at the end;
+  pub kept : HaveKept state base f g safe given
+  pub cuts : TurnsHandOn held plan kept.turns
   -- from the end on each image keeps all that was answered, and a prefix of what is safe then and
   -- what is in doubt;
-  pub now : HoldsLetters D plan base (now_safe ++ last.writer.doubt) now_given
-      (state last.writer.device)
+  pub now : HoldsLetters D plan base (kept.now_safe ++ g.writer.doubt) kept.now_given
+      (state g.writer.device)
   -- and at no moment until the end is an answer lost that was given before.
-  pub always : LeavesOnly (held found) (state last.writer.device) (KeepsAll D plan base given)
+  pub always : LeavesOnly (held found) (state g.writer.device) (KeepsAll D plan base given)
   -- So the next start finds what this one found, where the recovery was cut off,
-  pub cut : StartsFind D held plan base accepted given (held found) (state keeper.writer.device)
+  pub cut : StartsFind D held plan base accepted given (held found) (state f.writer.device)
   -- and all that was answered, where the serving had ended.
-  pub next : (after : F) → StartsAfter (state last.writer.device) (held after)
-      → HoldsLetters D plan base (now_safe ++ last.writer.doubt) now_given (held after)
+  pub next : (after : F) → StartsAfter (state g.writer.device) (held after)
+      → HoldsLetters D plan base (kept.now_safe ++ g.writer.doubt) kept.now_given (held after)
 
 -- It begins with nothing: an image that reads as a register of the building, whichever it is, keeps
 -- the answers of nobody over that register.

@@ -3,6 +3,7 @@ pub mod FirstLine
 pub mod HeldInside
 pub mod Lobby
 pub mod Open
+pub mod Ready
 pub mod Relaying
 pub mod Keeping
 pub mod Visits

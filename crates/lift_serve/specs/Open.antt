@@ -1,5 +1,5 @@
 -- Which connections are open, and how many have ended.
-use Rattle.std.specs.Prelude.{ℕ, ◌≡◌, ◌≤◌, ◌⊎◌, suc, Bool, true, false, List, Option, Some, None, IfOk, Result}
+use Rattle.std.specs.Prelude.{ℕ, ◌≡◌, ◌≤◌, ◌⊎◌, suc, Bool, true, false, List, Option, Some, None, IfOk, IfSome, IsSome, Result}
 use Rattle.std.specs.Prelude.{Ok, Err, if◌then◌else◌, nat_lt}
 use Rattle.std.specs.declared.net.tcp.TcpListener.{TcpListener as Listener}
 use Rattle.lift_serve.specs.declared.serving.ServeFault.{ServeFault}
@@ -32,10 +32,6 @@ one_more most count = if nat_lt count most then suc count else count
 abbrev pub AreOver : ℕ → OpenState → Type 0
 AreOver sessions state = (sessions ≤ state.ended) ⊎ (state.given_up ≡ true)
 
--- they are so many, at this socket
-abbrev pub AreEndedAt : Listener → ℕ → EndedState → Type 0
-AreEndedAt listener sessions ended = ended ≡ record { listener = listener; sessions = sessions }
-
 -- how the accepting of a serving that is bound so is over: all have ended, or all were given up
 abbrev pub over_of : (have_ended : Bool) → EndedState → Result EndedState (Unit {0})
 over_of true bound = Ok bound
@@ -50,11 +46,6 @@ abbrev pub ended_in : Result EndedState (Unit {0}) → Option EndedState
 ended_in (Ok ended) = Some ended
 ended_in (Err given_up) = None
 
--- that they have ended, where the accepting began
-abbrev pub ended_at_last : Option (Result EndedState (Unit {0})) → Option EndedState
-ended_at_last None = None
-ended_at_last (Some over) = ended_in over
-
 -- the first of two, if there is one
 abbrev pub first_told : {T : Type 0} → (before behind : Option T) → Option T
 first_told None behind = behind
@@ -65,3 +56,9 @@ first_told (Some shortage) behind = Some shortage
 abbrev pub told_after : Result EndedState (Unit {0}) → (first : Option ServeFault) → Option ServeFault
 told_after (Ok ended) first = first
 told_after (Err given_up) first = Some Thread
+
+-- That connections have ended is reported only where as many have at this socket as were to; and where
+-- that isn't reported a fault is.
+pub record IsReportOf (bound : EndedState) (end : ServingEndState) : Type 0 where
+  pub ended : IfSome end.ended (λ ended. ended ≡ bound)
+  pub counted : end.fault ≡ None → IsSome end.ended

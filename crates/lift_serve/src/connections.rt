@@ -425,7 +425,6 @@ impl Connections {
     /// first shortage.
     pub(crate) fn into_end(self, over: Over) -> ServingEnd
         ensures fault { result.fault ≡ told_after over self.shortage }
-        ensures begun { result.fault ≢ Some ServeFault.Network }
         ensures ended { result.ended ≡ ended_in over }
     {
         let Connections {

@@ -1,91 +1,184 @@
-//! What a serving is bound to, which is settled before it begins.
+//! What is made before anybody waits.
+//!
+//! A clause binds only a call that returns. So all that a serving takes is made by `prepare`, which does;
+//! what waits makes nothing of it.
 
-ghost use Rattle.std.specs.Prelude.{◌≡◌, [], None};
+ghost use Rattle.std.specs.Prelude.{◌≡◌, [], None, IfOk, IfErr};
+ghost use Rattle.lift_parts.specs.Parts.{AreOfOne};
+ghost use Rattle.lift_serve.specs.Ready.{IsFullLobby, IsNewGroup};
 
+mod seating;
 pub(crate) mod shortages;
 
 use crate::connections::Reading;
-use crate::socket::Listening;
+use crate::lobby::Lobby;
+use crate::pace::Pager;
+use crate::present::{PresentCars, ServedPolicy};
+use crate::socket::{Accepting, Listening, ListeningCloser};
+use lift_base::MOST_CARS;
+use lift_building::Building;
+use lift_clerk::Clerk;
+use lift_desk::{Desk, DeskParts};
 use lift_disk::Disk;
-use lift_policy::Dispatching;
-use lift_relay::HeldKeeper;
+use lift_keeper::{Keeper, Writer};
+use lift_memory::Memory;
+use lift_policy::{Dispatching, Policy};
+use lift_relay::{Allocator, Flusher, split_for};
+use seating::{lobby_at, new_pagers};
 use shortages::Shortages;
+use std::alloc::Global;
 use std::marker::Model;
 
-/// A group that is to be served. It can't be let go or taken apart: `serve` alone takes it. So whoever
-/// waits with it can serve at its socket no other group, with no other policy, and no other number of
-/// connections.
-pub struct PreparedGroup<'b, D: Disk + Drop, P, K: Drop> {
-    listening: Listening,
-    sessions: u32,
-    keeper: HeldKeeper<'b, D, K>,
-    policy: Dispatching<P>,
-    ghost empty_batch: { keeper.state.batch ≡ [] },
+/// Where a group is served: a desk, where its sessions rest, and which cars are present. Whoever has a
+/// group prepared lends a place for one.
+#[derive(Drop)]
+pub struct Room {
+    desk: Desk,
+    pagers: Vec<Pager>,
+    present: PresentCars,
 }
 
-impl<'b, D: Disk + Drop, P, K: Drop> PreparedGroup<'b, D, P, K> {
-    /// The keeper's building is to be served at this socket by this policy, until so many
-    /// connections have ended.
-    ///
-    /// It stays a call: built into its caller, the copies of a keeper take the compiler ten minutes.
-    #[inline(never)]
-    pub fn new(
-        listening: Listening,
-        sessions: u32,
-        keeper: HeldKeeper<'b, D, K>,
-        policy: Dispatching<P>,
-    ) -> Self
-        requires { keeper.state.batch ≡ [] }
-        ensures listening { result.listening ≡ listening }
-        ensures sessions { result.sessions ≡ sessions }
-        ensures keeper { result.keeper ≡ keeper.entry }
-        ensures policy { result.policy ≡ policy }
-    {
-        PreparedGroup {
-            listening,
-            sessions,
-            keeper,
-            policy,
-        }
-    }
-
-    /// Its serving begins. It stays a call too.
-    #[inline(never)]
-    pub(crate) fn begun(self) -> ServingStart<'b, D, P, K>
-        ensures bound { result.bound ≡ record {
-          listener = self.entry.listening;
-          sessions = self.entry.sessions;
-        } }
-        ensures shortages { result.shortages ≡ None }
-        ensures keeper { result.keeper ≡ self.entry.keeper }
-        ensures empty_batch { result.keeper.state.batch ≡ [] }
-        ensures policy { result.policy ≡ self.entry.policy }
-    {
-        let PreparedGroup {
-            listening,
-            sessions,
-            keeper,
-            policy,
-        } = self;
-        ServingStart {
-            bound: ServingTerms {
-                listening,
-                sessions,
-                reading: Reading::new(),
-            },
-            shortages: Shortages::new(),
-            keeper,
-            policy,
-        }
-    }
+/// A group that is to be served: both parts of a clerk at a new desk, and what their serving takes. It
+/// can't be let go, and only `serve` and whoever has a `K` take it. So whoever waits with it can serve at
+/// its socket no other group, with no other policy, and no other number of connections.
+pub struct ReadyGroup<'d, 'b, D: Disk + Drop, P: Policy + Drop, K: Drop> {
+    allocator: Allocator<'d, 'b, ServedPolicy<'d, P>>,
+    flusher: Flusher<'d, 'b, D, K>,
+    lobby: Lobby<'d>,
+    room: &'d Room,
+    building: &'b Building,
+    bound: ServingTerms,
+    closer: ListeningCloser,
+    ghost of_one: { AreOfOne allocator flusher },
+    ghost of_building: { building.now ≡ flusher.writer.plan },
 }
 
 /// What a serving begins with.
-pub(crate) struct ServingStart<'b, D: Disk + Drop, P, K: Drop> {
+pub(crate) struct ServingStart<'d, 'b, D: Disk + Drop, P: Policy + Drop, K: Drop> {
+    pub(crate) allocator: Allocator<'d, 'b, ServedPolicy<'d, P>>,
+    pub(crate) flusher: Flusher<'d, 'b, D, K>,
+    pub(crate) lobby: Lobby<'d>,
+    pub(crate) pagers: &'d [Pager],
+    pub(crate) present: &'d PresentCars,
+    pub(crate) building: &'b Building,
     pub(crate) bound: ServingTerms,
+    pub(crate) closer: ListeningCloser,
     pub(crate) shortages: Shortages,
-    pub(crate) keeper: HeldKeeper<'b, D, K>,
-    pub(crate) policy: Dispatching<P>,
+}
+
+impl<'d, 'b, D: Disk + Drop, P: Policy + Drop, K: Drop> ReadyGroup<'d, 'b, D, P, K> {
+    /// Its serving begins.
+    #[inline(never)]
+    pub(crate) fn begun(self) -> ServingStart<'d, 'b, D, P, K>
+        ensures allocator { result.allocator ≡ self.entry.allocator }
+        ensures flusher { result.flusher ≡ self.entry.flusher }
+        ensures lobby { result.lobby ≡ self.entry.lobby }
+        ensures of_one { AreOfOne result.allocator result.flusher }
+        ensures of_building { result.building.now ≡ result.flusher.writer.plan }
+        ensures bound { result.bound ≡ self.entry.bound }
+        ensures shortages { result.shortages ≡ None }
+    {
+        let ReadyGroup {
+            allocator,
+            flusher,
+            lobby,
+            room,
+            building,
+            bound,
+            closer,
+        } = self;
+        ServingStart {
+            allocator,
+            flusher,
+            lobby,
+            pagers: room.pagers.as_slice(),
+            present: &room.present,
+            building,
+            bound,
+            closer,
+            shortages: Shortages::new(),
+        }
+    }
+
+    /// The writer of a group that nobody serves, as it is, for the key.
+    #[inline(never)]
+    pub fn unserved(self, key: K) -> Writer<'b, D>
+        ensures { result ≡ self.entry.flusher.writer }
+    {
+        let ReadyGroup {
+            allocator: _,
+            flusher,
+            lobby: _,
+            room: _,
+            building: _,
+            bound: _,
+            closer: _,
+        } = self;
+        flusher.into_writer(key)
+    }
+}
+
+/// Makes all that it takes to serve the keeper's building at this socket with this policy, until so many
+/// connections have ended. The desk stands in `place`. The keeper comes back as it was where memory ran
+/// out.
+#[inline(never)]
+pub fn prepare<'d, 'b: 'd, D: Disk + Drop, P: Policy + Drop, K: Drop>(
+    alloc: Global,
+    place: &'d mut Option<Room>,
+    listening: Listening,
+    sessions: u32,
+    keeper: Keeper<'b, D>,
+    policy: Dispatching<P>,
+) -> Result<ReadyGroup<'d, 'b, D, P, K>, (Keeper<'b, D>, Memory)>
+    requires { keeper.state.batch ≡ [] }
+    // Both parts of a clerk at a new desk, over this keeper and with this policy.
+    ensures group { IfOk result
+        (λ group. IsNewGroup D.state policy keeper.entry group.allocator group.flusher) }
+    // All seats of that desk wait in the lobby, with what the keeper's register knows of their terminals.
+    ensures lobby { IfOk result
+        (λ group. IsFullLobby keeper.entry.state.register group.flusher.desk group.lobby) }
+    ensures terms { IfOk result
+        (λ group. group.bound ≡ record { listener = listening; sessions = sessions }) }
+    ensures refused { IfErr result (λ back. back.0 ≡ keeper.entry) }
+{
+    let building = keeper.building();
+    let terminals = MOST_CARS + usize::from(building.kiosks());
+    let _safe = keeper.safe_register();
+    let DeskParts { desk, seats, clerk } = match Desk::open(alloc, terminals) {
+        Ok(parts) => parts,
+        Err(memory) => return Err((keeper, memory)),
+    };
+    let pagers = match new_pagers(alloc) {
+        Ok(pagers) => pagers,
+        Err(memory) => return Err((keeper, memory)),
+    };
+    let room: &'d Room = place.insert(Room {
+        desk,
+        pagers,
+        present: PresentCars::new(),
+    });
+    let policy = ServedPolicy::new(policy, &room.present);
+    let lobby = lobby_at(&room.desk, room.pagers.as_slice(), seats, keeper.register());
+    let (accepting, closer) = listening.apart();
+    match split_for(alloc, Clerk::new(&room.desk, clerk, keeper, policy)) {
+        Ok((allocator, flusher)) => Ok(ReadyGroup {
+            allocator,
+            flusher,
+            lobby,
+            room,
+            building,
+            bound: ServingTerms {
+                accepting,
+                sessions,
+                reading: Reading::new(),
+            },
+            closer,
+        }),
+        Err((clerk, memory)) => {
+            let (_seat, keeper, _policy) = clerk.into_parts();
+            Err((keeper, memory))
+        }
+    }
 }
 
 /// What a serving is bound to: its socket, how many connections are to end there, and whether they
@@ -93,7 +186,7 @@ pub(crate) struct ServingStart<'b, D: Disk + Drop, P, K: Drop> {
 /// whether it is over, or counts an end, does so by that socket and that number.
 #[derive(Drop)]
 pub struct ServingTerms {
-    listening: Listening,
+    accepting: Accepting,
     sessions: u32,
     reading: Reading,
 }
@@ -103,13 +196,13 @@ impl Model for ServingTerms {
 
     ghost Value = { EndedState };
 
-    ghost view = { λ b. record { listener = b.listening; sessions = b.sessions } };
+    ghost view = { λ b. record { listener = b.accepting; sessions = b.sessions } };
 }
 
 impl ServingTerms {
-    /// The socket.
-    pub(crate) fn listening(&self) -> &Listening {
-        &self.listening
+    /// What accepts at the socket.
+    pub(crate) fn accepting(&self) -> &Accepting {
+        &self.accepting
     }
 
     /// How many connections are to end.

@@ -63,7 +63,7 @@ impl Presence for PresentCars {
 /// The policy of a group that is served, over the word of its own sessions. Contracts see how the group
 /// dispatches.
 #[derive(Drop)]
-pub(crate) struct ServedPolicy<'p, P: Policy + Drop> {
+pub struct ServedPolicy<'p, P: Policy + Drop> {
     policy: GroupPolicy<'p, P, PresentCars>,
 }
 

@@ -1,50 +1,35 @@
 //! The serving of a building on a socket.
 
-ghost use Rattle.std.specs.Prelude.{◌≡◌, [], List, Option, None, Some, IfSome, IsErr};
-ghost use Rattle.std.specs.Prelude.{IsSome, ℕ};
+ghost use Rattle.std.specs.Prelude.{◌≡◌, Option, Some, IsErr};
 ghost use Rattle.std.specs.Thread.{IsSend, IsSync};
-ghost use Rattle.lift_base.specs.declared.history.Entry.{Entry};
-ghost use Rattle.lift_register.specs.Register.{RegisterState};
 ghost use Rattle.lift_policy.specs.Present.{IsDispatched, any_cars};
-ghost use Rattle.lift_world.specs.declared.event.Taken.{Taken};
-ghost use Rattle.lift_clerk.specs.History.{History};
-ghost use Rattle.lift_clerk.specs.Steps.{group_of};
-ghost use Rattle.lift_parts.specs.History.{group_after};
-ghost use Rattle.lift_parts.specs.Parts.{AreParts};
-ghost use Rattle.lift_serve.specs.Lobby.{AreInOrder, found_seats};
 ghost use Rattle.lift_relay.specs.Heard.{FailureHeard};
 ghost use Rattle.lift_relay.specs.declared.pair.RunFault.{RunFault as Fault};
-ghost use Rattle.lift_serve.specs.Open.{AreEndedAt, IsEndAt};
-ghost use Rattle.lift_serve.specs.Relaying.{IsServingOutcome, HaveRunOrNot, RanInParts};
+ghost use Rattle.lift_serve.specs.Open.{IsEndAt, IsReportOf};
+ghost use Rattle.lift_serve.specs.Relaying.{HaveRunOrNot, HaveServed, ServingKeeps};
 
 use crate::connections::{Connection, Connections, CountedEnd};
-use crate::lobby::Lobby;
-use crate::opened::{OpenedDesk, open};
 use crate::over::{Over, start_accepting};
 use crate::pace::{Bells, Closing, Pace};
 use crate::prepared::shortages::{ServingEnd, start_session};
-use crate::prepared::{PreparedGroup, ServingStart};
-use crate::present::{PresentCars, ServedPolicy};
+use crate::prepared::{ReadyGroup, ServingStart};
+use crate::present::ServedPolicy;
 use crate::relaying::{Parts, run_parts, unrun};
-use crate::seating::lobby_of;
 use crate::shared::Shared;
 use crate::socket::Arrival;
-use lift_base::MOST_CARS;
 use lift_disk::Disk;
 use lift_parts::turns_keep_what_was_given;
 use lift_policy::Policy;
-use lift_relay::{BothRun, Gate, HeardBy, HeldClerk, HeldKeeper, Witness, rejoin_held};
+use lift_relay::{Allocator, BothRun, Flusher, Gate, HeardBy, Witness};
 use std::alloc::Global;
 use std::sync::{Mutex, Wait};
 use std::thread;
 use std::thread::{Scope, Threads};
 use std::time::{Clock, Duration};
 
-/// Why a connection was not served, or none could be.
+/// What a serving, or a connection of it, was refused.
 #[derive(Clone, Copy, PartialEq, Eq)]
 pub enum ServeFault {
-    /// The listening socket failed.
-    Network,
     /// A thread couldn't be started.
     Thread,
     /// A growth was refused.
@@ -53,10 +38,11 @@ pub enum ServeFault {
 
 /// What came of the serving.
 #[derive(Drop)]
-pub struct ServingOutcome<'b, D: Disk + Drop, K: Drop, V: Witness + Drop> {
-    /// The keeper after the last turn, or as it was where there was none. It is broken where a call
-    /// of the device failed.
-    pub keeper: HeldKeeper<'b, D, K>,
+pub struct ServingOutcome<'d, 'b, D: Disk + Drop, P: Policy + Drop, K: Drop, V: Witness + Drop> {
+    /// What decides, after its last turn.
+    pub allocator: Allocator<'d, 'b, ServedPolicy<'d, P>>,
+    /// What makes safe and answers, after its last turn. It is broken where a call of the device failed.
+    pub flusher: Flusher<'d, 'b, D, K>,
     /// What was refused, and that so many connections have ended at the socket, unless all were given
     /// up.
     pub end: ServingEnd,
@@ -171,6 +157,8 @@ where
     P: Policy + Drop + Send,
     K: HeardBy<V> + Drop,
     V: Witness + Drop,
+    // Those are let in that speak for a terminal of the building that is served.
+    requires own { shared.building.now ≡ parts.flusher.writer.plan }
     // All are given up where no thread could be had.
     ensures ran { (fault : Option Fault) × HaveRunOrNot (P.chooses parts.entry.allocator.policy)
         D.state parts.entry.allocator result.0.allocator parts.entry.flusher result.0.flusher fault
@@ -209,131 +197,90 @@ where
     )
 }
 
-/// The clerk's work is done in its two parts while connections are accepted. After them they are one
-/// clerk again, which turns no more: each session has ended by then.
-#[tactic(auto, using(crate::proofs::Relayings::relayed_on, crate::proofs::Relayings::none_in_hand, crate::proofs::Relayings::all_received))]
+/// Both parts run at the pace of these bells while connections are accepted.
 fn run<'d, 'b, R, D, P, K, V>(
     rt: &R,
     alloc: Global,
     shared: Shared<'_, '_>,
     parts: Parts<'d, 'b, D, P, K, V>,
-) -> (HeldClerk<'d, 'b, D, P, K>, Over, V)
+) -> (Parts<'d, 'b, D, P, K, V>, Over)
 where
     R: Threads + Wait + Clock + Sync,
     D: Disk + Drop,
     P: Policy + Drop + Send,
     K: HeardBy<V> + Drop,
     V: Witness + Drop,
-    // Those are let in that speak for a terminal of the keeper's building.
-    requires own { shared.building.now ≡ parts.clerk.value.keeper.writer.plan }
-    // They have not run.
-    requires parts { AreParts parts.clerk.value parts.allocator parts.flusher }
-    requires history { (base : RegisterState) (entries : List Entry) (given : List Taken)
-        → History base (group_of parts.clerk.value) entries given
-        → History base (group_after parts.flusher) entries given }
-    ensures ran { (fault : Option Fault)
-        × RanInParts P.chooses D.state parts.entry.clerk.value result.0 fault
+    requires own { shared.building.now ≡ parts.flusher.writer.plan }
+    ensures ran { (fault : Option Fault) × HaveRunOrNot (P.chooses parts.entry.allocator.policy)
+        D.state parts.entry.allocator result.0.allocator parts.entry.flusher result.0.flusher fault
         × (fault ≡ Some (Fault.Spawn tt) → IsErr result.1) }
-    ensures heard { FailureHeard V.hears parts.entry.clerk.value.keeper.writer.is_broken
-        result.0.keeper.writer.is_broken parts.entry.witness result.2 }
+    ensures heard { FailureHeard V.hears parts.entry.flusher.writer.is_broken
+        result.0.flusher.writer.is_broken parts.entry.witness result.0.witness }
     ensures over { IsEndAt shared.entry.bound.now result.1 }
 {
-    turns_keep_what_was_given::<D>();
     let pace = Pace::new(shared.bells, shared.closing);
-    let (ran, over) = run_beside(rt, alloc, shared, &pace, parts);
-    let witness = ran.witness;
-    match rejoin_held(ran.allocator, ran.flusher) {
-        Ok(clerk) => (clerk, over, witness),
-        Err(_) => unreachable!(),
-    }
+    run_beside(rt, alloc, shared, &pace, parts)
 }
 
-/// Nobody was served, for this: the keeper and the witness are as they are.
-#[tactic(auto, using(lift_relay::specs::lemmas::Heard::heard_none))]
-fn unserved<'b, D: Disk + Drop, K: Drop, V: Witness + Drop>(
-    end: ServingEnd,
-    keeper: HeldKeeper<'b, D, K>,
-    witness: V,
-) -> ServingOutcome<'b, D, K, V>
-    ensures keeper { result.keeper ≡ keeper.entry }
-    ensures heard { FailureHeard V.hears keeper.entry.writer.is_broken
-        result.keeper.writer.is_broken witness result.witness }
-    ensures end { result.end ≡ end }
-{
-    ServingOutcome {
-        keeper,
-        end,
-        witness,
-    }
-}
-
-/// Serves the keeper's building on a listening socket until so many connections have ended, those
-/// that were refused included: each has a thread of its own, beside the allocator's and the
-/// flusher's. A fault of the device ends nothing: what is asked from then on is answered Unknown.
-/// The keeper always comes back; where nobody could be served for want of memory, or since the
-/// socket failed, it is as it was.
+/// Serves a group that is ready on its listening socket until so many connections have ended, those that
+/// were refused included: each has a thread of its own, beside the allocator's and the flusher's. It can
+/// be refused a thread, and nothing else ends it: whatever a connection is refused ends that connection
+/// alone, and a fault of the device ends nothing, since what is asked from then on is answered Unknown.
+/// Both parts always come back; where no thread could be had they are as they were.
 ///
-/// The keeper is held for whoever has a `K`. So nothing that waits here can call its device, or answer
-/// an ask, but by a turn of its group, each of which returns: whatever a serving waits for, and
+/// The flusher is for whoever has a `K`. So nothing that waits here can call its device, or answer
+/// an ask, but by a turn of it, each of which returns: whatever a serving waits for, and
 /// whether or not it ever ends, it has had such turns alone. The turn in which the device first
 /// fails notifies the witness, and no other turn does: also in a serving that never ends.
-pub fn serve<'b, R, D, P, K, V>(
+#[inline(never)]
+pub fn serve<'d, 'b, R, D, P, K, V>(
     rt: &R,
     alloc: Global,
-    prepared: PreparedGroup<'b, D, P, K>,
+    group: ReadyGroup<'d, 'b, D, P, K>,
     witness: V,
-) -> ServingOutcome<'b, D, K, V>
+) -> ServingOutcome<'d, 'b, D, P, K, V>
 where
     R: Threads + Wait + Clock + Sync,
     D: Disk + Drop,
     P: Policy + Drop + Send,
     K: HeardBy<V> + Drop,
     V: Witness + Drop,
-    // What the keeper has at the end came to it by the turns of the two parts of a clerk with this
-    // policy; or it is as it was, and why is reported.
-    ensures comes { IsServingOutcome (IsDispatched any_cars P.chooses) D.state
-        prepared.entry.policy prepared.entry.keeper result.keeper result.end.fault }
-    // The witness was notified that the device failed, once, where the keeper is broken that
-    // wasn't; else it is as it was.
-    ensures heard { FailureHeard V.hears prepared.entry.keeper.writer.is_broken
-        result.keeper.writer.is_broken witness result.witness }
+    // For the owner: what was safe and answered before is kept at each moment of each turn, and what the
+    // turns gave from then on.
+    ensures keeps { ServingKeeps D.state group.entry.flusher result.flusher }
+    // For who tests it: both parts ran, each by its turns alone, and all that was sent is received and
+    // answered; or no thread could be had, they are as they were, and that is reported.
+    ensures ran { HaveServed (IsDispatched any_cars P.chooses) D.state group.entry.allocator
+        result.allocator group.entry.flusher result.flusher result.end.fault }
+    // The witness was notified that the device failed, once, where the flusher is broken that wasn't; else
+    // it is as it was.
+    ensures heard { FailureHeard V.hears group.entry.flusher.writer.is_broken
+        result.flusher.writer.is_broken witness result.witness }
     // That connections have ended is reported only where as many have at this socket as were to;
     // and where that isn't reported a fault is.
-    ensures ended { IfSome result.end.ended (AreEndedAt prepared.entry.listening prepared.entry.sessions) }
-    ensures counted { result.end.fault ≡ None → IsSome result.end.ended }
+    ensures reports { IsReportOf group.entry.bound result.end }
 {
+    turns_keep_what_was_given::<D>();
     let ServingStart {
-        bound,
-        shortages,
-        keeper,
-        policy,
-    } = prepared.begun();
-    let terminals = MOST_CARS + usize::from(keeper.keeper().building().kiosks());
-    let _safe = keeper.keeper().safe_register();
-    let OpenedDesk {
-        desk,
-        seats,
-        clerk,
+        allocator,
+        flusher,
+        lobby,
         pagers,
+        present,
+        building,
+        bound,
         closer,
         shortages,
-    } = match open(alloc, &bound, shortages, terminals) {
-        Ok(opened) => opened,
-        Err(end) => return unserved(end, keeper, witness),
+    } = group.begun();
+    let parts = Parts {
+        allocator,
+        flusher,
+        fault: None,
+        witness,
     };
-    let present = PresentCars::new();
-    let policy = ServedPolicy::new(policy, &present);
-    let clerk = clerk.at(&desk, keeper, policy);
-    let building = clerk.keeper().building();
-    let lobby = Mutex::new(lobby_of(&clerk, &pagers, seats));
-    let parts = match Parts::of(alloc, clerk, witness) {
-        Ok(parts) => parts,
-        Err((clerk, shortage, witness)) => {
-            return unserved(shortages.unserved(shortage), clerk.leave(), witness);
-        }
-    };
+    let lobby = Mutex::new(lobby);
     let connections = Mutex::new(Connections::new(alloc, closer, shortages));
-    let bells = Bells::new(&pagers);
+    let bells = Bells::new(pagers);
     let closing = Closing::new();
     let shared = Shared {
         building,
@@ -341,13 +288,20 @@ where
         lobby: &lobby,
         bells: &bells,
         closing: &closing,
-        present: &present,
+        present,
         connections: &connections,
     };
-    let (clerk, over, witness) = run(rt, alloc, shared, parts);
+    let (ran, over) = run(rt, alloc, shared, parts);
     let end = connections.into_inner().into_end(over);
+    let Parts {
+        allocator,
+        flusher,
+        fault: _,
+        witness,
+    } = ran;
     ServingOutcome {
-        keeper: clerk.leave(),
+        allocator,
+        flusher,
         end,
         witness,
     }

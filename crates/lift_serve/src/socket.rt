@@ -1,7 +1,7 @@
 //! The listening socket, and a connection's. Here alone a connection is accepted, read and written;
 //! everything else has what keeps it, and what shuts it down.
 
-ghost use Rattle.std.specs.Prelude.{◌≡◌, IfErr};
+ghost use Rattle.std.specs.Prelude.{◌≡◌, IfOk, IfErr};
 ghost use Rattle.std.specs.Io.{ReadsAtMost};
 ghost use Rattle.std.specs.declared.net.tcp.TcpListener.{TcpListener as Listener};
 
@@ -41,6 +41,13 @@ const SENT_AWAY: u64 = 2;
 /// the socket.
 #[derive(Drop)]
 pub struct Listening {
+    accepting: Accepting,
+    closer: ListeningCloser,
+}
+
+/// What connections are accepted by. Contracts see the socket.
+#[derive(Drop)]
+pub(crate) struct Accepting {
     listener: TcpListener,
 }
 
@@ -49,22 +56,36 @@ impl Model for Listening {
 
     ghost Value = { Listener };
 
-    ghost view = { λ l. l.listener };
+    ghost view = { λ l. l.accepting };
+}
+
+impl Model for Accepting {
+    ghost use Rattle.std.specs.declared.net.tcp.TcpListener.{TcpListener as Listener};
+
+    ghost Value = { Listener };
+
+    ghost view = { λ a. a.listener };
 }
 
 impl Listening {
-    /// At this socket.
-    pub fn at(listener: TcpListener) -> Self
-        ensures { result ≡ listener }
+    /// At this socket, of which a second descriptor is had: by that it is shut down.
+    pub fn at(listener: TcpListener) -> io::Result<Self>
+        ensures { IfOk result (λ listening. listening ≡ listener) }
     {
-        Listening { listener }
+        let again = listener.try_clone()?;
+        let view = TcpStream::from(OwnedFd::from(again));
+        Ok(Listening {
+            accepting: Accepting { listener },
+            closer: ListeningCloser { view },
+        })
     }
 
-    /// What shuts it down.
-    pub(crate) fn closer(&self) -> io::Result<ListeningCloser> {
-        let again = self.listener.try_clone()?;
-        let view = TcpStream::from(OwnedFd::from(again));
-        Ok(ListeningCloser { view })
+    /// What connections are accepted by, and what shuts it down.
+    pub(crate) fn apart(self) -> (Accepting, ListeningCloser)
+        ensures { result.0 ≡ self }
+    {
+        let Listening { accepting, closer } = self;
+        (accepting, closer)
     }
 }
 
@@ -91,7 +112,7 @@ pub(crate) struct Arrival {
 impl Arrival {
     /// The next one at the socket of a serving that is bound so, both of whose parts have a thread.
     pub(crate) fn at(bound: &ServingTerms, _both: BothRun) -> io::Result<Arrival> {
-        let (stream, _address) = bound.listening().listener.accept()?;
+        let (stream, _address) = bound.accepting().listener.accept()?;
         Ok(Arrival { stream })
     }
 

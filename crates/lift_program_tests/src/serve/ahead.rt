@@ -178,13 +178,13 @@ fn open_after<
     };
     let keeper = opened(rt, disk, &building);
     let policy = Counting { words: &words };
-    let keeper = served(rt, alloc, keeper, policy, sessions, script, &words).expect(
+    let writer = served(rt, alloc, keeper, policy, sessions, script, &words).expect(
         rt,
         "a fault of serving",
     );
     let is_followed = words.followed.load(Ordering::SeqCst) == 1;
-    assert!(rt; is_followed && !keeper.is_broken());
-    keeper.register().open_count()
+    assert!(rt; is_followed && !writer.is_broken());
+    writer.register().open_count()
 }
 
 /// A call is decided while a sync is held, and a letter comes after the last end.

@@ -5,9 +5,9 @@ ghost use Rattle.std.specs.Thread.{IsSync};
 use crate::serve::callers::{address, follow};
 use crate::serve::words::Words;
 use lift_disk::Disk;
-use lift_keeper::Keeper;
+use lift_keeper::{Keeper, Writer};
 use lift_policy::{Dispatching, Policy};
-use lift_serve::{HeardBy, HeldKeeper, Listening, NoWitness, PreparedGroup, serve};
+use lift_serve::{HeardBy, Listening, NoWitness, prepare, serve};
 use std::alloc::Global;
 use std::net::{Net, TcpListener, TcpStream};
 use std::process::Abort;
@@ -38,7 +38,7 @@ fn bound<R: Net<Listener = TcpListener, Stream = TcpStream>>(rt: &R) -> Option<(
     Some((listener, port))
 }
 
-/// What gives back the keeper of a test.
+/// What gives back the writer of a test.
 #[derive(Drop)]
 struct Own {
     made: (),
@@ -46,8 +46,33 @@ struct Own {
 
 impl HeardBy<NoWitness> for Own {}
 
+/// Serves at a socket until this many connections have ended. The writer after it; none where there was
+/// no room for the group, or another fault than the device's, or where connections have not ended.
+fn served_at<'b, R: Threads + Wait + Clock + Sync, D: Disk + Drop, P: Policy + Drop + Send>(
+    rt: &R,
+    alloc: Global,
+    listener: TcpListener,
+    sessions: u32,
+    keeper: Keeper<'b, D>,
+    policy: Dispatching<P>,
+) -> Option<Writer<'b, D>>
+    requires { keeper.state.batch ≡ [] }
+{
+    let listening = Listening::at(listener).ok()?;
+    let mut room = None;
+    let group = match prepare::<D, P, Own>(alloc, &mut room, listening, sessions, keeper, policy) {
+        Ok(group) => group,
+        Err(_) => return None,
+    };
+    let served = serve(rt, alloc, group, NoWitness);
+    if served.end.fault().is_some() {
+        return None;
+    }
+    Some(served.flusher.into_writer(Own { made: () }))
+}
+
 /// Serves on a socket until this many connections have ended, while a thread follows a script and
-/// another one watches. The keeper after it, where the script was followed; none where there was no
+/// another one watches. The writer after it, where the script was followed; none where there was no
 /// thread for these, or another fault than the device's, or where connections have not ended.
 pub(crate) fn served<
     'b,
@@ -62,14 +87,14 @@ pub(crate) fn served<
     sessions: u32,
     script: &str,
     words: &Words,
-) -> Option<Keeper<'b, D>>
+) -> Option<Writer<'b, D>>
     requires { keeper.state.batch ≡ [] }
 {
     let (listener, port) = bound(rt)?;
     thread::scope(
         thread::scope_env(),
         rt,
-        move |scope| -> Option<Keeper<D>>
+        move |scope| -> Option<Writer<D>>
             requires sync { IsSync R.row }
             requires empty_batch { keeper.state.batch ≡ [] }
         {
@@ -79,18 +104,13 @@ pub(crate) fn served<
                 words.ended.store(1, Ordering::SeqCst);
                 return None;
             }
-            let held = HeldKeeper::new(keeper);
             let policy = Dispatching {
                 policy,
                 absent_last: false,
             };
-            let prepared = PreparedGroup::new(Listening::at(listener), sessions, held, policy);
-            let served = serve(rt, alloc, prepared, NoWitness);
+            let served = served_at(rt, alloc, listener, sessions, keeper, policy);
             words.ended.store(1, Ordering::SeqCst);
-            if served.end.fault().is_some() {
-                return None;
-            }
-            Some(served.keeper.release(Own { made: () }))
+            served
         },
     )
 }

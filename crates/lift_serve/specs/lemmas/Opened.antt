@@ -2,7 +2,6 @@
 use Rattle.std.proofs.Common.{◌≡◌, inl, inr, false, List, [], ◌++◌, refl, sym, ap}
 use Rattle.std.proofs.Common.{subst, ◌∙◌, append_assoc}
 use Rattle.std.proofs.lemmas.List.{append-nil}
-use Rattle.std.specs.Prelude.{Option}
 use mathlib.Core.List.{IsPrefix}
 use Rattle.lift_base.specs.declared.history.Entry.{Entry}
 use Rattle.lift_building.specs.Plan.{Plan}
@@ -19,7 +18,6 @@ use Rattle.lift_keeper.specs.Images.{IsImageOf}
 use Rattle.lift_keeper.specs.Keeper.{KeeperView}
 use Rattle.lift_keeper.specs.Reopening.{Reopens}
 use Rattle.lift_keeper.specs.Writer.{WriterView}
-use Rattle.lift_policy.specs.Eligible.{Choice}
 use Rattle.lift_world.specs.declared.event.Taken.{Taken}
 use Rattle.lift_clerk.specs.Clerk.{ClerkState}
 use Rattle.lift_clerk.specs.Machine.{IsNewClerk}
@@ -27,12 +25,12 @@ use Rattle.lift_clerk.specs.Steps.{group_of}
 use Rattle.lift_clerk.specs.History.{History}
 use Rattle.lift_clerk.specs.Keeping.{ImageKeeps, KeepsAll, KeepsEither, KeepsPrefix, LeavesSafe}
 use Rattle.lift_clerk.specs.lemmas.Keeps.{either_front, keeps_first}
+use Rattle.lift_parts.specs.Allocator.{AllocatorState}
 use Rattle.lift_parts.specs.Flusher.{FlusherState}
 use Rattle.lift_parts.specs.Keeping.{HaveKept, KeepingTurns, NoneYet, OneKept}
-use Rattle.lift_serve.specs.declared.serving.ServeFault.{ServeFault}
-use Rattle.lift_serve.specs.Relaying.{IsServingOutcome, IsRelayedKeeper}
-use Rattle.lift_serve.specs.Keeping.{EachTurnHandsOn, StartsFind, KeepsOver, Served, TurnsHandOn}
-use Rattle.lift_serve.specs.Keeping.{Unserved}
+use Rattle.lift_serve.specs.Keeping.{EachTurnHandsOn, StartsFind, KeepsOver, TurnsHandOn}
+use Rattle.lift_serve.specs.Ready.{IsNewGroup}
+use Rattle.lift_serve.specs.Relaying.{ServingKeeps}
 
 -- After these turns all that was given at the opening has been kept since.
 record Always {D : Type 0} (state : D → DiskState) (plan : Plan) (base : RegisterState) (first : DiskState)
@@ -103,7 +101,7 @@ turns_hand_on state held base f g safe mid given now honest turns =
 
 -- Keeper::open has opened this device, which holds what was found, and that keeps a prefix of what was
 -- accepted, and all that was given.
-module _ {D F P : Type 0} (chooses : P → Choice) (state : D → DiskState) (held : F → DiskState) (plan : Plan) (opened : D) (keeper : KeeperView D)
+module _ {D F P : Type 0} (state : D → DiskState) (held : F → DiskState) (plan : Plan) (opened : D) (keeper : KeeperView D)
     (reopens : Reopens plan (state opened)
     (state keeper.writer.device) keeper.writer.register keeper.writer.half
     keeper.writer.is_in_second_half keeper.writer.used)
@@ -168,25 +166,26 @@ module _ {D F P : Type 0} (chooses : P → Choice) (state : D → DiskState) (he
       (KeepsAll D plan base given) (λ was left kept. (kept.0, given, ([], append-nil given), kept.2))
       recovery
 
-  -- it was served
-  module _ (policy : P) (last : KeeperView D) (r : IsRelayedKeeper chooses state policy keeper last) where
-    begins : IsNewClerk r.before
+  -- it was made ready, and served
+  module _ (policy : P) (a : AllocatorState P) (f g : FlusherState D) (group : IsNewGroup state policy keeper a f) (serving : ServingKeeps state f g) where
+    begins : IsNewClerk group.clerk
     begins = record {
-      seat = r.unused;
-      state = subst (λ (k : KeeperView D). k.state ≡ starting k.writer.register) (sym r.begins)
+      seat = group.unused;
+      state = subst (λ (k : KeeperView D). k.state ≡ starting k.writer.register) (sym group.begins)
           starts;
-      is_whole = subst (λ (k : KeeperView D). k.writer.is_broken ≡ false) (sym r.begins) whole;
-      no_doubt = subst (λ (k : KeeperView D). k.writer.doubt ≡ []) (sym r.begins) no_doubt;
+      is_whole = subst (λ (k : KeeperView D). k.writer.is_broken ≡ false) (sym group.begins) whole;
+      no_doubt = subst (λ (k : KeeperView D). k.writer.doubt ≡ []) (sym group.begins) no_doubt;
     }
 
-    kept : HaveKept state base r.relayed.flusher r.relayed.flusher' safe given
-    kept = r.relayed.keeps base safe given (goes_on r.before r.begins begins)
+    kept : HaveKept state base f g safe given
+    kept = serving base safe given
+        (group.goes_on base safe given (goes_on group.clerk group.begins begins))
 
-    begun : r.relayed.flusher.writer ≡ keeper.writer
-    begun = r.relayed.parts.writer ∙ ap (λ (v : KeeperView D). v.writer) r.begins
+    begun : f.writer ≡ keeper.writer
+    begun = group.parts.writer ∙ ap (λ (v : KeeperView D). v.writer) group.begins
 
-    turned : Always state plan base (state opened) r.relayed.flusher' given kept.now_given
-    turned = always_on state plan base (state opened) r.relayed.flusher r.relayed.flusher' safe
+    turned : Always state plan base (state opened) g given kept.now_given
+    turned = always_on state plan base (state opened) f g safe
         kept.now_safe given kept.now_given
         (ap (λ (v : WriterView D). v.plan) begun ∙ own)
         (subst (λ (v : WriterView D). LeavesOnly (state opened) (state v.device)
@@ -195,33 +194,20 @@ module _ {D F P : Type 0} (chooses : P → Choice) (state : D → DiskState) (he
     cuts : TurnsHandOn held plan kept.turns
     cuts = subst (λ (p : Plan). TurnsHandOn held p kept.turns)
         (ap (λ (v : WriterView D). v.plan) begun ∙ own)
-        (turns_hand_on state held base r.relayed.flusher r.relayed.flusher' safe kept.now_safe given
+        (turns_hand_on state held base f g safe kept.now_safe given
         kept.now_given
         (subst (λ (v : WriterView D). (state v.device).is_honest) (sym begun)
         (reopens.moments.honest.1 honest)) kept.turns)
 
-    ended : r.relayed.flusher'.writer ≡ last.writer
-    ended = sym r.relayed.rejoined.writer ∙ ap (λ (v : KeeperView D). v.writer) r.ends
+    leaves : LeavesSafe f.writer (state f.writer.device)
+    leaves = subst (λ (v : WriterView D). LeavesSafe v (state v.device)) (sym begun) group.leaves
 
-    always : LeavesOnly (state opened) (state last.writer.device) (KeepsAll D plan base given)
-    always = subst (λ (v : WriterView D). LeavesOnly (state opened) (state v.device)
-        (KeepsAll D plan base given)) ended turned.always
-
-    abbrev Ends : WriterView D → Type 0
-    Ends v = LeavesNow (state v.device)
-        (KeepsPrefix D plan base (kept.now_safe ++ v.doubt) kept.now_given)
-
-    leaves : LeavesSafe r.relayed.flusher.writer (state r.relayed.flusher.writer.device)
-    leaves = subst (λ (v : WriterView D). LeavesSafe v (state v.device)) (sym begun) r.leaves
-
-    behind : Ends r.relayed.flusher'.writer
-    behind same left may = either_front plan base kept.now_safe r.relayed.flusher'.writer.doubt
+    ends : LeavesNow (state g.writer.device)
+        (KeepsPrefix D plan base (kept.now_safe ++ g.writer.doubt) kept.now_given)
+    ends same left may = either_front plan base kept.now_safe g.writer.doubt
         kept.now_given left
-        (subst (λ (p : Plan). KeepsEither D p base kept.now_safe r.relayed.flusher'.writer.doubt
+        (subst (λ (p : Plan). KeepsEither D p base kept.now_safe g.writer.doubt
         kept.now_given left) turned.own (kept.kept leaves same left may))
-
-    ends : Ends last.writer
-    ends = subst Ends ended behind
 
   abbrev Keeps : Image → Type 0
   Keeps = KeepsPrefix D plan base accepted given
@@ -244,45 +230,23 @@ module _ {D F P : Type 0} (chooses : P → Choice) (state : D → DiskState) (he
   cut : StartsFind D held plan base accepted given first new
   cut after = starts_keep first new (held after) Keeps was_honest recovery_from
 
-  pub keeps_over : (policy : P) (last : KeeperView D) (fault : Option ServeFault)
-      (comes : IsServingOutcome chooses state policy keeper last fault)
-      → KeepsOver chooses state held plan file policy keeper last fault comes base accepted given
-  keeps_over policy last fault (inl served) =
-      let k = kept policy last served.relayed in
-      let ended = state last.writer.device in
-      let every = always_from ended (always policy last served.relayed) in
-      let at_end = ends policy last served.relayed in
+  pub keeps_over : (policy : P) (a : AllocatorState P) (f g : FlusherState D) → IsNewGroup state policy keeper a f
+      → ServingKeeps state f g → KeepsOver state held plan file f g base accepted given
+  keeps_over policy a f g group serving =
+      let k = kept policy a f g group serving in
+      let same : keeper.writer ≡ f.writer = sym (begun policy a f g group serving) in
+      let every = always_from (state g.writer.device) (turned policy a f g group serving).always in
+      let at_end = ends policy a f g group serving in
       record {
-        recovery = recovery_from;
+        recovery = subst (λ (v : WriterView D). LeavesOnly first (state v.device) Keeps) same recovery_from;
         safe = safe;
         is_front = found.1;
-        register = register;
-        now_safe = k.now_safe;
-        now_given = k.now_given;
-        serving = Served served k (cuts policy last served.relayed);
+        register = subst (λ (v : WriterView D). v.register ≡ register_of base safe) same register;
+        kept = k;
+        cuts = cuts policy a f g group serving;
         now = at_end;
         always = every;
-        next = next_from ended (KeepsPrefix D plan base (k.now_safe ++ last.writer.doubt)
-            k.now_given) every at_end;
-        cut = cut;
-      }
-  keeps_over policy last fault (inr unserved) =
-      let ended = state last.writer.device in
-      let every = always_from ended (subst (λ (v : KeeperView D). LeavesOnly (state opened)
-      (state v.writer.device) All) (sym unserved.keeper_is) recovery_keeps) in
-      let at_end = subst (λ (v : KeeperView D). LeavesNow (state v.writer.device)
-      (KeepsPrefix D plan base (safe ++ v.writer.doubt) given)) (sym unserved.keeper_is) now in
-      record {
-        recovery = recovery_from;
-        safe = safe;
-        is_front = found.1;
-        register = register;
-        now_safe = safe;
-        now_given = given;
-        serving = Unserved unserved;
-        now = at_end;
-        always = every;
-        next = next_from ended (KeepsPrefix D plan base (safe ++ last.writer.doubt) given) every
-            at_end;
-        cut = cut;
+        cut = subst (λ (v : WriterView D). StartsFind D held plan base accepted given first (state v.device)) same cut;
+        next = next_from (state g.writer.device)
+            (KeepsPrefix D plan base (k.now_safe ++ g.writer.doubt) k.now_given) every at_end;
       }

@@ -1,31 +1,15 @@
 //! What a serving runs short of: it is known only from the call that was refused it.
 
-ghost use Rattle.std.specs.Prelude.{◌≡◌, ◌≢◌, ◌≤◌, ◌++◌, ◌∷◌, [], None, Some, OnOk, OnErr};
-ghost use Rattle.std.specs.Prelude.{IfOk, IfErr, List, length, vec_len, vec_capacity};
-ghost use Rattle.lift_desk.specs.Seats.{AreSeatsOf, IsClerkOf, OwesNothing, clerk_of, seats_from};
-ghost use Rattle.lift_base.specs.declared.history.Entry.{Entry};
-ghost use Rattle.lift_register.specs.Register.{RegisterState};
-ghost use Rattle.lift_world.specs.declared.event.Taken.{Taken};
-ghost use Rattle.lift_clerk.specs.History.{History};
-ghost use Rattle.lift_clerk.specs.Steps.{group_of};
-ghost use Rattle.lift_parts.specs.Flusher.{IsFlusher};
-ghost use Rattle.lift_parts.specs.History.{group_after};
-ghost use Rattle.lift_parts.specs.Parts.{AreParts};
+ghost use Rattle.std.specs.Prelude.{◌≡◌, ◌≤◌, ◌++◌, ◌∷◌, [], None, Some, OnOk, OnErr};
+ghost use Rattle.std.specs.Prelude.{IfErr, vec_len, vec_capacity};
 ghost use Rattle.lift_serve.specs.declared.serving.ServeFault.{ServeFault};
 ghost use Rattle.lift_serve.specs.Open.{ended_in, first_told, told_after};
 
 use crate::connections::{CountedEnd, DueEnd};
 use crate::over::Over;
-use crate::pace::Pager;
 use crate::serving::ServeFault;
-use crate::socket::{Listening, ListeningCloser, Peer};
-use crate::unused::UnusedClerkSeat;
-use lift_base::MOST_TERMINALS;
-use lift_desk::{Desk, DeskParts, Seat};
-use lift_disk::Disk;
+use crate::socket::Peer;
 use lift_memory::two_owners;
-use lift_policy::Policy;
-use lift_relay::{Allocator, Flusher, HeldClerk, split_held};
 use std::alloc::Global;
 use std::io::{BufReader, Read};
 use std::marker::Model;
@@ -35,12 +19,10 @@ use std::thread::Scope;
 /// How much is read of a connection at once, in bytes.
 const AHEAD: usize = 512;
 
-/// Evidence that a thread or memory was refused. Only the calls below that were refused it make
-/// one, of which none asks for more than the serving has a use for. It can't be let go: it is
-/// noted, or nobody is served for it.
+/// Evidence that a connection was refused a thread or memory. Only the calls below that were refused it
+/// make one, of which none asks for more than the serving has a use for. It can't be let go: it is noted.
 pub struct Shortage {
     fault: ServeFault,
-    ghost begun: { fault ≢ ServeFault.Network },
 }
 
 impl Model for Shortage {
@@ -69,21 +51,20 @@ fn no_thread() -> Shortage
     }
 }
 
-/// How a serving ended: what it was refused, if anything was, and how the accepting was over, if it
-/// began. Only the `Shortages` make one, of which each serving has one, and which end by it: so nobody
+/// How a serving ended: what it was refused, if anything was, and how the accepting was over. Only the `Shortages` make one, of which each serving has one, and which end by it: so nobody
 /// hides what was refused it, or tells more.
 #[derive(Drop)]
 pub struct ServingEnd {
     fault: Option<ServeFault>,
-    over: Option<Over>,
+    over: Over,
 }
 
 impl Model for ServingEnd {
-    ghost use Rattle.lift_serve.specs.Open.{ServingEndState, ended_at_last};
+    ghost use Rattle.lift_serve.specs.Open.{ServingEndState, ended_in};
 
     ghost Value = { ServingEndState };
 
-    ghost view = { λ e. record { fault = e.fault; ended = ended_at_last e.over } };
+    ghost view = { λ e. record { fault = e.fault; ended = ended_in e.over } };
 }
 
 impl ServingEnd {
@@ -100,7 +81,6 @@ impl ServingEnd {
 /// to it. It can't be let go: how the serving ends is said by it.
 pub struct Shortages {
     first: Option<ServeFault>,
-    ghost begun: { first ≢ Some ServeFault.Network },
 }
 
 impl Model for Shortages {
@@ -113,7 +93,7 @@ impl Model for Shortages {
 }
 
 impl Shortages {
-    /// There is none yet. Only `PreparedGroup::begun` can call this.
+    /// There is none yet. Only `ReadyGroup::begun` can call this.
     pub(super) fn new() -> Self
         ensures { result ≡ None }
     {
@@ -135,7 +115,6 @@ impl Shortages {
     #[tactic(auto, using(crate::proofs::Relayings::told_at_last, crate::proofs::Relayings::told_given_up))]
     pub(crate) fn after(self, over: Over) -> ServingEnd
         ensures fault { result.fault ≡ told_after over self }
-        ensures begun { result.fault ≢ Some ServeFault.Network }
         ensures ended { result.ended ≡ ended_in over }
     {
         let Shortages { first } = self;
@@ -145,23 +124,7 @@ impl Shortages {
             let Shortage { fault } = no_thread();
             Some(fault)
         };
-        ServingEnd {
-            fault,
-            over: Some(over),
-        }
-    }
-
-    /// Nobody was served, for this.
-    pub(crate) fn unserved(self, shortage: Shortage) -> ServingEnd
-        ensures fault { result.fault ≡ Some shortage }
-        ensures ended { result.ended ≡ None }
-    {
-        let Shortages { first: _ } = self;
-        let Shortage { fault } = shortage;
-        ServingEnd {
-            fault: Some(fault),
-            over: None,
-        }
+        ServingEnd { fault, over }
     }
 }
 
@@ -181,18 +144,6 @@ pub(crate) fn read_ahead<I: Read + Drop>(alloc: Global, reader: I) -> Result<Buf
 {
     match BufReader::with_capacity(alloc, AHEAD, reader) {
         Ok(ahead) => Ok(ahead),
-        Err(_) => Err(no_memory()),
-    }
-}
-
-/// A vector with room for a pager for each terminal that there can be.
-pub(crate) fn room_for_pagers(alloc: Global) -> Result<Vec<Pager>, Shortage>
-    ensures none { IfOk result (λ pagers. pagers.items ≡ []) }
-    ensures room { IfOk result (λ pagers. vec_capacity pagers ≡ 63) }
-    ensures lack { IfErr result (λ shortage. shortage ≡ ServeFault.Memory) }
-{
-    match Vec::with_capacity(alloc, MOST_TERMINALS) {
-        Ok(pagers) => Ok(pagers),
         Err(_) => Err(no_memory()),
     }
 }
@@ -225,65 +176,4 @@ pub(crate) fn start_session<'s, E, F: FnOnce() -> CountedEnd + Send + Drop + 's>
     };
     awaited.counted_by(child);
     Ok(())
-}
-
-/// What shuts a listening socket down; or nobody is served.
-pub(crate) fn closer_of(
-    listening: &Listening,
-    shortages: Shortages,
-) -> Result<(ListeningCloser, Shortages), ServingEnd>
-    ensures back { IfOk result (λ made. made.1 ≡ shortages) }
-    ensures network { IfErr result (λ end. end.fault ≡ Some ServeFault.Network) }
-    ensures unserved { IfErr result (λ end. end.ended ≡ None) }
-{
-    match listening.closer() {
-        Ok(closer) => Ok((closer, shortages)),
-        Err(_) => {
-            let Shortages { first: _ } = shortages;
-            Err(ServingEnd {
-                fault: Some(ServeFault::Network),
-                over: None,
-            })
-        }
-    }
-}
-
-/// A desk of so many terminals with all its seats, of which the clerk's are for a clerk alone.
-pub(crate) fn open_desk(
-    alloc: Global,
-    terminals: usize,
-) -> Result<(Desk, Vec<Seat>, UnusedClerkSeat), Shortage>
-    requires { (1 ≤ terminals) × (terminals ≤ 63) }
-    ensures count { IfOk result (λ parts. length parts.0 ≡ terminals) }
-    ensures seats { IfOk result (λ parts. parts.1.items ≡ seats_from 0 parts.0) }
-    ensures seats_at { IfOk result (λ parts. AreSeatsOf parts.0 parts.1.items) }
-    ensures clerk { IfOk result (λ parts. parts.2 ≡ clerk_of parts.0) }
-    ensures clerk_at { IfOk result (λ parts. IsClerkOf parts.0 parts.2) }
-    ensures owes { IfOk result (λ parts. OwesNothing parts.2) }
-    ensures lack { IfErr result (λ shortage. shortage ≡ ServeFault.Memory) }
-{
-    match Desk::open(alloc, terminals) {
-        Ok(DeskParts { desk, seats, clerk }) => Ok((desk, seats, UnusedClerkSeat::new(clerk))),
-        Err(_) => Err(no_memory()),
-    }
-}
-
-/// Both parts of a clerk, which comes back where there was no memory for them.
-pub(crate) fn part<'d, 'b, D: Disk, P: Policy + Drop, K: Drop>(
-    alloc: Global,
-    clerk: HeldClerk<'d, 'b, D, P, K>,
-) -> Result<(Allocator<'d, 'b, P>, Flusher<'d, 'b, D, K>), (HeldClerk<'d, 'b, D, P, K>, Shortage)>
-    ensures parts { IfOk result (λ parts. AreParts clerk.entry parts.0 parts.1) }
-    ensures flusher { IfOk result (λ parts. IsFlusher parts.1) }
-    // The history of the clerk's group goes on as that of the flusher's.
-    ensures history { IfOk result (λ parts. (base : RegisterState) (entries : List Entry)
-        (given : List Taken) → History base (group_of clerk.entry) entries given
-        → History base (group_after parts.1) entries given) }
-    ensures refused { IfErr result (λ back. back.0 ≡ clerk.entry) }
-    ensures lack { IfErr result (λ back. back.1 ≡ ServeFault.Memory) }
-{
-    match split_held(alloc, clerk) {
-        Ok(parts) => Ok(parts),
-        Err((clerk, _)) => Err((clerk, no_memory())),
-    }
 }

@@ -6,19 +6,20 @@ pub returns-clause-served : goal.returns-clause-served
 returns-clause-served g c =
     let served = c.serve-served.result in
     record {
-      last = served.keeper;
-      is_left = sym c.left_by.ensures;
-      comes = c.serve-served.ensures.comes;
+      b = served.allocator;
+      g = served.flusher;
+      is_left = sym c.left_served.ensures;
+      ran = c.serve-served.ensures.ran;
+      keeps = c.serve-served.ensures.keeps;
       told = search rules;
-      ends = c.serve-served.ensures.ended;
-      counted = c.serve-served.ensures.counted;
+      reports = c.serve-served.ensures.reports;
     }
 
 pub returns-clause-at_once : goal.returns-clause-at_once
 returns-clause-at_once g c =
     let contents = g.E.Write.contents in
-    let was = c.args.ready.prepared.keeper.writer.is_broken in
+    let was = c.args.ready.group.flusher.writer.is_broken in
     let served = c.serve-served.result in
-    let is = served.keeper.writer.is_broken in
+    let is = served.flusher.writer.is_broken in
     told_at_once contents c.args.errors served.witness.errors was is served.end.fault c.fault_of.result c.requires (search rules)
     (heard_errors contents was is (record { errors = c.args.errors }) served.witness c.serve-served.ensures.heard)

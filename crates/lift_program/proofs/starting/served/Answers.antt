@@ -1,4 +1,4 @@
-use Rattle.std.proofs.Common.{◌∙◌, ℕ, List, Option, Err, ap, subst, sym}
+use Rattle.std.proofs.Common.{◌∙◌, ℕ, List, Option, Ok, Err, ap, subst, sym}
 use Rattle.std.specs.Io.KnownBytes.{Appends}
 use Rattle.std.specs.declared.net.tcp.TcpListener.{TcpListener as Listener}
 use Rattle.lift_disk.specs.Below.{buffered_state_of}
@@ -25,9 +25,10 @@ returns-in-Ok-clause-end g c =
     let gives : ℕ → Option Listener → Type 0 = g.L.Listens.gives a.openers.socket local in
     let before = g.W.Outflow.contents c.args.writer.now in
     let after = g.W.Outflow.contents c.made_ready.new.writer in
-    let of = c.in-Ok.ready.prepared in
-    λ input words asks. served_end files gives input words before after (Serve a.image a.building a.port a.sessions a.policy) of.keeper of.listening c.in-Ok.ready.port of.sessions of.policy c.serve-serving.result.0
-    asks (c.in-Ok.ensures.port, c.in-Ok.ensures.sessions, c.in-Ok.ensures.policy, c.in-Ok.ensures.ready) c.made_ready.ensures.front c.serve-serving.ensures.port c.serve-serving.ensures.served
+    let of = c.in-Ok.ready.group in
+    λ input words asks. asked_end files gives before after input words (Served (Ok c.serve-serving.result.0)) (Serve a.image a.building a.port a.sessions a.policy) asks
+    (served_end files gives before after a.image.now a.building.now a.port a.sessions a.policy of.allocator of.flusher of.bound c.serve-serving.result.0
+    c.in-Ok.ensures.ready (c.serve-serving.ensures.port ∙ c.in-Ok.ensures.port) c.serve-serving.ensures.served) c.made_ready.ensures.front
 
 pub returns-in-Ok-clause-output : goal.returns-in-Ok-clause-output
 returns-in-Ok-clause-output g c =

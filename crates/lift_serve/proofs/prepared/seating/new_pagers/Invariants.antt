@@ -1,0 +1,10 @@
+use Rattle.std.proofs.Common.{◌≡◌, ◌≤◌, length, vec_capacity}
+use Rattle.lift_serve.specs.Lobby.{AreInOrder}
+use Rattle.lift_serve.proofs.prepared.seating.new_pagers.Given as goal
+
+abbrev pub invariant-loop-index : goal.invariant-loop-index
+invariant-loop-index l = record {
+  count : length l.pagers.items ≡ l.index;
+  room : 63 ≤ vec_capacity l.pagers;
+  in_order : AreInOrder l.pagers.items;
+}

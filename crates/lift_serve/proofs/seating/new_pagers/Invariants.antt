@@ -1,9 +1,0 @@
-use Rattle.std.proofs.Common.{◌≡◌, length}
-use Rattle.lift_serve.specs.Lobby.{AreInOrder}
-use Rattle.lift_serve.proofs.seating.new_pagers.Given as goal
-
-abbrev pub invariant-loop-index : goal.invariant-loop-index
-invariant-loop-index l = record {
-  count : length l.pagers.items ≡ l.index;
-  in_order : AreInOrder l.pagers.items;
-}
