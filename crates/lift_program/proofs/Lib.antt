@@ -1,4 +1,5 @@
 mod Asked
+mod CarriedOut
 mod Commands
 mod AnyDevice
 mod Flushing

@@ -7,7 +7,7 @@ use Rattle.std.specs.Io.KnownBytes.{Appends}
 use Rattle.std.specs.declared.net.tcp.TcpListener.{TcpListener as Listener}
 use Rattle.clap.specs.Words.{Text}
 use Rattle.lift_base.specs.Input.{InputState}
-use Rattle.lift_base.specs.Output.{OutputState}
+use Rattle.lift_base.specs.Output.{OutputState, OutputTally}
 use Rattle.lift_building.specs.Plan.{Plan, shape_of}
 use Rattle.lift_disk.specs.Disk.{RunsOn}
 use Rattle.lift_journal.specs.Calls.{MakesPrefix, format_calls}
@@ -21,8 +21,11 @@ use Rattle.lift_replay.specs.declared.lines.Verdict.{Verdict}
 use Rattle.lift_replay.specs.declared.lines.Verdict.TheVariants.{Good, Bad}
 use Rattle.lift_replay.specs.Reading.{IsInputRead}
 use Rattle.lift_replay.specs.Replaying.{ReportsPrefix, ReportsInput}
+use Rattle.lift_replay.specs.Replaying.{ReportsPrefixOfWhatCame, ReportsWhatCame}
+use Rattle.lift_replay.specs.Writing.{GoesInto, gone_in}
 use Rattle.lift_program.specs.Faults.{fault_text, usage_text}
-use Rattle.lift_program.specs.Output.{IsFlushed, IsWrittenOrFailed, SaysText, WriterHasFailed}
+use Rattle.lift_program.specs.Output.{IsFlushed, IsWrittenOrFailed, SaysText, WasTaken}
+use Rattle.lift_program.specs.Output.{WriterHasFailed}
 use Rattle.lift_program.specs.Serving.{HasKeptLetters, IsServing}
 use Rattle.lift_program.specs.Images.{CommandFiles}
 use Rattle.lift_program.specs.Showing.{IsShown, ShowsPart}
@@ -241,6 +244,49 @@ abbrev pub ReportsAll : (input before after : Option (List ℕ)) → Result Verd
 ReportsAll input before after (Ok verdict) = ReportsInput input before after verdict
 ReportsAll input before after (Err fault) = ReportsPrefix input before after
 
+-- What was written is the report of the bytes that came of a reader, with this verdict; or a prefix of
+-- it.
+abbrev pub ReportsAllThatCame : (came came' : List ℕ) → (before after : Option (List ℕ))
+    → Result Verdict Fault → Type 0
+ReportsAllThatCame came came' before after (Ok verdict) =
+    ReportsWhatCame came came' before after verdict
+ReportsAllThatCame came came' before after (Err fault) =
+    ReportsPrefixOfWhatCame came came' before after
+
+-- How the output was called for a script, by its end: where all was done each call took a byte, and a
+-- flush after them passed that on; where the output is the fault the last call, or that flush, failed;
+-- out of memory none but that flush; and where the script couldn't be read there was none.
+abbrev pub IsCalledFor : {W : Type 0} → (gives : W → List ℕ → Option ℕ → W → Type 0)
+    → (flushes : W → Bool → W → Type 0) → (old new : W) → Result Verdict Fault → Type 0
+IsCalledFor gives flushes old new (Ok verdict) = IsFlushed gives flushes old new
+IsCalledFor gives flushes old new (Err (File Output)) = WriterHasFailed gives flushes old new
+IsCalledFor gives flushes old new (Err (Memory no_memory)) = WasTaken gives flushes old new
+IsCalledFor gives flushes old new (Err fault) = new ≡ old
+
+-- A script was carried out so, over whatever reader and writer: what the writer's calls took is the
+-- report of the bytes that came, or a prefix of it, and that is what was added to a writer which tells
+-- what is in it.
+pub record IsCarriedOut {W : Type 0} (sent : W → OutputTally) (contents : W → Option (List ℕ))
+    (gives : W → List ℕ → Option ℕ → W → Type 0) (flushes : W → Bool → W → Type 0)
+    (came came' : List ℕ) (old new : W) (outcome : Result Verdict Fault) : Type 0 where
+  pub report : ReportsAllThatCame came came' (gone_in sent old) (gone_in sent new) outcome
+  pub goes : GoesInto sent contents old new
+  pub called : IsCalledFor gives flushes old new outcome
+
+-- so it was, where the end is that of a script
+abbrev pub IsScriptEnd : {M S V F O W : Type 0} → (sent : W → OutputTally)
+    → (contents : W → Option (List ℕ)) → (gives : W → List ℕ → Option ℕ → W → Type 0)
+    → (flushes : W → Bool → W → Type 0) → (came came' : List ℕ) → (old new : W)
+    → End M S V F O → Type 0
+IsScriptEnd sent contents gives flushes came came' old new (Replayed outcome unused) =
+    IsCarriedOut sent contents gives flushes came came' old new outcome
+IsScriptEnd sent contents gives flushes came came' old new end = Unit {0}
+
+-- an end of a serving
+abbrev pub IsServingEnd : {M S V F O : Type 0} → End M S V F O → Type 0
+IsServingEnd (Served outcome) = Unit {0}
+IsServingEnd end = ⊥
+
 -- A script couldn't be read: a call of its reader failed, or all were used and its end was not
 -- found.
 abbrev pub IsUnread : {R : Type 0} → InputState R → Type 0
@@ -257,6 +303,12 @@ pub record IsInputLeft {T M S V F O R : Type 0} (remaining : R → Option (List 
   pub unread : result ≡ Err (Replayed (Err (File Input)) unused) → IsUnread new
   pub read : result ≡ Err (Replayed (Err (File Output)) unused) → IsInputRead remaining old new
   pub few_calls : new.calls ≤ 2097152
+
+-- so it is left at an end
+abbrev pub IsInputLeftAt : {M S V F O R : Type 0} → (remaining : R → Option (List ℕ))
+    → (replays : Type 0) → (unused : O) → End M S V F O → (old new : InputState R) → Type 0
+IsInputLeftAt remaining replays unused end old new =
+    IsInputLeft {T = Unit {0}} remaining replays unused (Err end) old new
 
 -- A journal was to be made of so many sectors in a half, over the image at this path, and it came to
 -- this.

@@ -1,12 +1,12 @@
 //! What the program is given, and what its words come to before anything is served.
 
-ghost use Rattle.std.specs.Prelude.{◌≡◌, ◌≢◌, ℕ, List, Option, None, Some, Err, map, IfOk, IfErr};
-ghost use Rattle.std.specs.Prelude.{OnOk};
+ghost use Rattle.std.specs.Prelude.{◌≡◌, ◌≢◌, ℕ, List, [], Option, None, Some, Err, map, IfOk};
+ghost use Rattle.std.specs.Prelude.{IfErr, OnOk};
 ghost use Rattle.lift_program.specs.declared.fault.Role.TheVariants.{Output};
 ghost use Rattle.lift_program.specs.declared.words.Request.TheVariants.{Replay, Serve};
 ghost use Rattle.lift_program.specs.Ends.{IsEndFor, IsEndOf, IsInputLeft, IsOutputOf, IsPassedOn};
 ghost use Rattle.lift_program.specs.Ends.{IsQuietUntil, IsReportOfEnd, IsReportOfFault, IsSocketHad};
-ghost use Rattle.lift_program.specs.Ends.{IsUncalled, SaysPrefix, WritesFor};
+ghost use Rattle.lift_program.specs.Ends.{IsScriptEnd, IsUncalled, SaysPrefix, WritesFor};
 ghost use Rattle.lift_program.specs.Ends.{line_at_once, serving_text, uncalled, failed_for};
 ghost use Rattle.lift_program.specs.Listening.{local};
 ghost use Rattle.lift_program.specs.Output.{IsFlushed, WriterHasFailed};
@@ -95,6 +95,8 @@ fn done<'w, B: TextOpener, I: FileOpener, L: Listens, R: Read + Drop, W: Outflow
         → WriterHasFailed W.gives W.flushes writer.old writer.new) }
     // Nothing is reported at once but of what is served.
     ensures quiet { IfErr result (λ end. line_at_once end ≡ None) }
+    ensures no_script { IfErr result (λ end. IsScriptEnd W.sent W.contents W.gives W.flushes []
+        input.new.came writer.old writer.new end) }
 {
     match request {
         Request::Replay => unreachable!(),
@@ -237,6 +239,9 @@ impl<'w, B: TextOpener, I: FileOpener, L: Listens, S: AsStr, R: Read + Drop, E: 
             (AskForRequest (map S.text self.entry.words.now) Replay) self.entry.files.image result.1
             (uncalled self.entry.reader) result.0 }
         ensures quiet { IfErr result.1 (λ end. line_at_once end ≡ None) }
+        // Of every reader and writer: what was written of a script is the report of the bytes that came.
+        ensures script { IfErr result.1 (λ end. IsScriptEnd W.sent W.contents W.gives W.flushes []
+            result.0.came writer.old writer.new end) }
     {
         let Given {
             files,

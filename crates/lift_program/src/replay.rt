@@ -3,7 +3,9 @@
 ghost use Rattle.std.specs.Prelude.{◌≡◌, ◌≤◌, ◌+◌, true, IfErr, OnOk};
 ghost use Rattle.lift_replay.specs.Reading.{IsInputRead, TakesUpTo, most_bytes};
 ghost use Rattle.lift_program.specs.declared.fault.Role.TheVariants.{Input, Output};
-ghost use Rattle.lift_program.specs.Ends.{IsReplayFault, IsUncalled, IsUnread, ReportsAll};
+ghost use Rattle.lift_replay.specs.Writing.{GoesInto, gone_in};
+ghost use Rattle.lift_program.specs.Ends.{IsCalledFor, IsReplayFault, IsUncalled, IsUnread, ReportsAll};
+ghost use Rattle.lift_program.specs.Ends.{ReportsAllThatCame};
 ghost use Rattle.lift_program.specs.Output.{WriterHasFailed, IsFlushed};
 
 use crate::fault::Fault;
@@ -27,6 +29,11 @@ pub fn replay<R: Read + Drop, W: Outflow>(
     // is a prefix of it.
     ensures report { ReportsAll (R.remaining input.old.reader) (W.contents writer.old)
         (W.contents writer.new) result }
+    // Of every reader and writer that is the report of the bytes which came, in those that were taken.
+    ensures came { ReportsAllThatCame input.old.came input.new.came (gone_in W.sent writer.old)
+        (gone_in W.sent writer.new) result }
+    ensures goes { GoesInto W.sent W.contents writer.old writer.new }
+    ensures called { IsCalledFor W.gives W.flushes writer.old writer.new result }
     ensures fault { IfErr result IsReplayFault }
     ensures unread { result ≡ Err (Fault.File Input) → IsUnread input.new }
     ensures unwritten { result ≡ Err (Fault.File Input)

@@ -1,20 +1,22 @@
 //! From the program's words to its end.
 
-ghost use Rattle.std.specs.Prelude.{ℕ, List, Option, map};
-ghost use Rattle.lift_program.specs.Ends.{IsEndOf, IsOutputOf, KeepsIfServed, TellsLine, line_at_once};
-ghost use Rattle.lift_program.specs.Ends.{line_of};
+ghost use Rattle.std.specs.Prelude.{ℕ, List, [], Option, map};
+ghost use Rattle.lift_program.specs.Ends.{IsEndOf, IsInputLeftAt, IsOutputOf, IsScriptEnd};
+ghost use Rattle.lift_program.specs.Ends.{IsServingEnd, KeepsIfServed, TellsLine, line_at_once};
+ghost use Rattle.lift_program.specs.Ends.{line_of, uncalled};
 ghost use Rattle.lift_program.specs.Listening.{local};
 ghost use Rattle.lift_program.specs.Words.{AskForRequest};
-ghost use Rattle.lift_program.specs.declared.words.Request.TheVariants.{Serve};
+ghost use Rattle.lift_program.specs.declared.words.Request.TheVariants.{Replay, Serve};
 ghost use Rattle.clap.specs.Words.{Text};
 
 use crate::end::{End, EndBy};
 use crate::given::{Given, ToServe};
+use crate::leftover::Leftover;
 use crate::listening::Listens;
 use crate::opening::{Files, FilesView, TextOpener};
 use crate::output::Outflow;
 use crate::serve::serve;
-use lift_base::text::Watched;
+use lift_base::text::{Counted, Watched};
 use lift_disk::FileOpener;
 use std::alloc::Global;
 use std::convert::AsStr;
@@ -50,6 +52,7 @@ fn served<
         result.0 writer.old writer.new }
     // The line of a device that failed was written before the end, and no other.
     ensures at_once { TellsLine E.contents (line_at_once result.0) errors result.1 }
+    ensures of_serving { IsServingEnd result.0 }
 {
     let mut place = None;
     let mut room = None;
@@ -62,14 +65,14 @@ fn served<
     }
 }
 
-/// Does what the words after the program's name ask for, and answers how that ended, whose `status`
-/// is the program's: 0 where all was done, 1 for a bad script or a fault, 2 for other words. A
-/// fault writes its line to `errors`, which comes back, and so do other words; where that fails, only
-/// the status says so. A request for help is answered by how the program is called. What opens the files and the
-/// socket is used up: nothing is opened twice, and no file or socket but these. Only a serving
-/// waits, once it has all that it takes: whatever it waits for, and whether or not it ever ends,
-/// nothing was opened but what the words asked for, and nothing is read of the standard input. One
-/// that ends has kept every letter over power cuts, if its file is an honest device.
+/// Does what the words after the program's name ask for, and answers how that ended, whose `status` is the
+/// program's: 0 where all was done, 1 for a bad script or a fault, 2 for other words. A fault writes its line
+/// to `errors`, which comes back, and so do other words; where that fails, only the status says so. The input
+/// comes back as it was left. A request for help is answered by how the program is called. What opens the files
+/// and the socket is used up: nothing is opened twice, and no file or socket but these. Only a serving waits,
+/// once it has all that it takes: whatever it waits for, and whether or not it ever ends, nothing was opened
+/// but what the words asked for, and nothing is read of the standard input. One that ends has kept every letter
+/// over power cuts, if its file is an honest device.
 #[inline(never)]
 pub fn start<
     F: Threads + Wait + Clock + Sync,
@@ -86,7 +89,7 @@ pub fn start<
     alloc: Global,
     writer: &mut W,
     errors: Watched<E>,
-) -> (EndBy<I, I::Told>, Watched<E>)
+) -> (EndBy<I, I::Told>, Watched<E>, Leftover<Counted<R>>)
     // It did what the words ask for, and nothing else.
     ensures end { IsEndOf (⟦<Files<B, I> as FilesView>⟧.view given.entry.files)
         (L.gives given.entry.socket local) (R.remaining given.entry.reader)
@@ -98,15 +101,21 @@ pub fn start<
     // where it failed.
     ensures output { IsOutputOf W.contents W.gives W.flushes (R.remaining given.entry.reader)
         (map S.text given.entry.words.now) given.entry.files.image result.0 writer.old writer.new }
+    // Of every reader and writer: what the output took of a script is the report of the bytes that came
+    // of the input, or a prefix of it.
+    ensures script { IsScriptEnd W.sent W.contents W.gives W.flushes [] result.2.came writer.old
+        writer.new result.0 }
+    // Only a script is read, as far as its end says.
+    ensures input { IsInputLeftAt R.remaining (AskForRequest (map S.text given.entry.words.now) Replay)
+        given.entry.files.image result.0 (uncalled given.entry.reader) result.2 }
     // Its line was written, and nothing else.
     ensures line { TellsLine E.contents (line_of result.0) errors result.1 }
 {
     let (input, outcome) = given.prepare(alloc, writer);
-    drop(input);
     let (end, mut errors) = match outcome {
         Ok(asked) => served(rt, asked, alloc, writer, errors),
         Err(end) => (end, errors),
     };
     end.tell(&mut errors);
-    (end, errors)
+    (end, errors, input)
 }

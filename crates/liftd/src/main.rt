@@ -30,7 +30,7 @@ fn main(rt: HostRuntime) -> ExitCode {
     let mut errors = Watched::new(rt.stderr());
     let status = match given(&rt) {
         Ok(words) => {
-            let (end, _errors) = start(
+            let (end, _errors, _input) = start(
                 &rt,
                 Given::new(openers(&rt), words.as_slice(), rt.stdin()),
                 rt.alloc(),

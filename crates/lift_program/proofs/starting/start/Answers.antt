@@ -3,13 +3,14 @@ use Rattle.std.specs.declared.net.tcp.TcpListener.{TcpListener as Listener}
 use Rattle.lift_disk.specs.Below.{buffered_state_of}
 use Rattle.lift_disk.specs.Files.{sector_file_state_of}
 use Rattle.lift_program.specs.Images.{CommandFiles, IsTextRead, image_files}
-use Rattle.lift_program.specs.Ends.{IsEndOf, IsOutputOf, TellsLine, line_at_once}
+use Rattle.lift_program.specs.Ends.{IsEndOf, IsInputLeftAt, IsOutputOf, IsScriptEnd, TellsLine, line_at_once, uncalled}
 use Rattle.lift_program.specs.Listening.{local}
 use Rattle.lift_program.specs.Stages.{IsNoText}
 use Rattle.lift_program.specs.Unwritten.{unwritten_state_of}
 use Rattle.lift_program.specs.declared.opening.Files.{Files}
 use Rattle.lift_program.specs.declared.opening.Openers.{Openers}
 use Rattle.lift_program.proofs.Asked.{end_keeps}
+use Rattle.lift_program.proofs.CarriedOut.{left_at, serving_no_script, serving_unread}
 use Rattle.lift_program.proofs.Telling.{told_once}
 use Rattle.lift_program.proofs.starting.start.Goals.{in-Ok, in-Err}
 use Rattle.lift_program.proofs.starting.start.Goals as goal
@@ -46,6 +47,20 @@ returns-clause-output g c =
           (λ (p : Openers g.row.B.Denot g.row.I.Denot g.row.L.Denot × g.row.W.Denot). IsOutputOf g.W.Outflow.contents g.W.Outflow.gives g.W.Outflow.flushes input words p.0.files.image w.served.result.0 p.1 w.served.new.writer)
           (λ i. (openers i, unsaid i)) (w.served.ensures.output input words)))
       | in-Err w ↦ rw w.end-is (rw w.writer-is (rw w.in-Err.is at c.prepare-input.ensures.output))
+    ]
+
+pub returns-clause-script : goal.returns-clause-script
+returns-clause-script g c =
+    elim c.match-outcome.branch [
+      | in-Ok w ↦ rw w.end-is (serving_no_script _ _ _ _ _ _ _ _ w.served.result.0 w.served.ensures.of_serving)
+      | in-Err w ↦ rw w.end-is (rw w.writer-is (rw w.in-Err.is at c.prepare-input.ensures.script))
+    ]
+
+pub returns-clause-input : goal.returns-clause-input
+returns-clause-input g c =
+    elim c.match-outcome.branch [
+      | in-Ok w ↦ rw w.end-is (serving_unread _ _ _ _ _ w.served.result.0 w.served.ensures.of_serving (rw w.in-Ok.is at c.prepare-input.ensures.left).unwaiting)
+      | in-Err w ↦ rw w.end-is (left_at _ _ _ w.in-Err.end _ _ (rw w.in-Err.is at c.prepare-input.ensures.left))
     ]
 
 pub returns-clause-line : goal.returns-clause-line

@@ -1,0 +1,96 @@
+-- What a script came to, of every reader and writer.
+use Rattle.std.proofs.Common.{◌≡◌, ◌≤◌, ℕ, Bool, true, false, List, [], Option, Some, sym, subst, ap, inl, inr, refl, arith}
+use Rattle.std.proofs.lemmas.List.{append-nil}
+use Rattle.std.proofs.KnownBytes.{Appends-kept}
+use Rattle.std.specs.Io.KnownBytes.{Appends, Keeps}
+use Rattle.std.specs.Prelude.{Result, Ok, Err}
+use Rattle.lift_base.specs.Input.{InputState}
+use Rattle.lift_base.specs.Output.{OutputTally, flushed_by}
+use Rattle.lift_replay.specs.Replaying.{ReportsPrefixOfWhatCame, ReportsWhatCame}
+use Rattle.lift_replay.specs.Writing.{GoesInto, IsCalledTill, TakesSomeEachCall, gone_in}
+use Rattle.lift_replay.specs.declared.lines.Verdict.{Verdict}
+use Rattle.lift_replay.specs.declared.lines.Verdict.TheVariants.{Good}
+use Rattle.lift_replay.specs.declared.script.ReplayFault.{ReplayFault}
+use Rattle.lift_replay.specs.declared.script.ReplayFault.TheVariants.{Memory as NoMemory, Read, Write}
+use Rattle.lift_program.specs.Ends.{IsCalledFor, IsFileFault, IsInputLeft, IsInputLeftAt, IsScriptEnd, IsServingEnd, uncalled}
+use Rattle.lift_program.specs.Faults.{of_replay}
+use Rattle.lift_program.specs.declared.end.End.{End}
+use Rattle.lift_program.specs.declared.end.End.TheVariants.{Replayed, Formatted, Shown, Served, OtherWords, NoWords}
+use Rattle.lift_program.specs.declared.fault.Fault.{Fault}
+use Rattle.lift_program.specs.declared.fault.Fault.TheVariants.{File}
+use Rattle.lift_program.specs.declared.fault.Role.TheVariants.{Input, Output}
+use Rattle.lift_program.proofs.Flushing.{err_same}
+
+-- a flush adds nothing to what was taken
+pub gone_kept : {W : Type 0} (sent : W → OutputTally) (mid new : W) (done : Bool) → sent new ≡ flushed_by done (sent mid) → gone_in sent new ≡ gone_in sent mid
+unfolding gone_in
+gone_kept sent mid new true told = ap (λ (t : OutputTally). Some t.gone) told
+gone_kept sent mid new false told = ap (λ (t : OutputTally). Some t.gone) told
+
+-- so the report stays the report,
+pub came_kept : (came came' : List ℕ) (old mid new : Option (List ℕ)) (verdict : Verdict) → new ≡ mid → ReportsWhatCame came came' old mid verdict → ReportsWhatCame came came' old new verdict
+came_kept came came' old mid new verdict same told = subst (λ (g : Option (List ℕ)). ReportsWhatCame came came' old g verdict) (sym same) told
+
+-- all of which is a prefix of it,
+pub came_front : (came came' : List ℕ) (old new : Option (List ℕ)) (verdict : Verdict) → ReportsWhatCame came came' old new verdict → ReportsPrefixOfWhatCame came came' old new
+came_front came came' old new verdict told = (told.0, told.1, (told.2.0, verdict, told.2.1, (told.2.0, ([], append-nil told.2.0), told.2.2)))
+
+-- and what was added stays what was taken
+pub goes_on : {W : Type 0} (sent : W → OutputTally) (contents : W → Option (List ℕ)) (old mid new : W) → GoesInto sent contents old mid → gone_in sent new ≡ gone_in sent mid → Keeps (contents mid) (contents new) → GoesInto sent contents old new
+goes_on sent contents old mid new goes same keeps = (
+  goes.0,
+  subst (λ (g : Option (List ℕ)). Appends (gone_in sent old) g goes.0) (sym same) goes.1,
+  Appends-kept (contents old) (contents mid) (contents new) goes.0 goes.2 keeps,
+)
+
+-- how the output of a script was called that was not carried out to its end
+pub called_till : {W : Type 0} (gives : W → List ℕ → Option ℕ → W → Type 0) (flushes : W → Bool → W → Type 0) (old new : W) (fault : ReplayFault) → IsCalledTill gives old new fault → IsCalledFor gives flushes old new (Err (of_replay fault))
+called_till gives flushes old new (NoMemory no_memory) called = (new, called, inl refl)
+called_till gives flushes old new Read called = called
+called_till gives flushes old new Write called = inl called
+
+-- and of one whose report a flush did not pass on
+pub called_unflushed : {W : Type 0} (gives : W → List ℕ → Option ℕ → W → Type 0) (flushes : W → Bool → W → Type 0) (old mid new : W) (fault : Fault) → TakesSomeEachCall gives old mid → flushes mid false new → IsFileFault Output fault
+    → IsCalledFor gives flushes old new (Err fault)
+called_unflushed gives flushes old mid new fault taken failed (inl is) = subst (λ (f : Fault). IsCalledFor gives flushes old new (Err f)) (sym is) (inr (mid, taken, failed))
+called_unflushed gives flushes old mid new fault taken failed (inr is) = subst (λ (f : Fault). IsCalledFor gives flushes old new (Err f)) (sym is) (mid, taken, inr failed)
+
+-- what is served is no script,
+pub serving_no_script : {M S V F O W : Type 0} (sent : W → OutputTally) (contents : W → Option (List ℕ)) (gives : W → List ℕ → Option ℕ → W → Type 0) (flushes : W → Bool → W → Type 0) (came came' : List ℕ) (old new : W) (end : End M S V F O) → IsServingEnd end
+    → IsScriptEnd sent contents gives flushes came came' old new end
+serving_no_script sent contents gives flushes came came' old new (Replayed outcome unused) never = absurd never
+serving_no_script sent contents gives flushes came came' old new (Formatted outcome) is = tt
+serving_no_script sent contents gives flushes came came' old new (Shown outcome) is = tt
+serving_no_script sent contents gives flushes came came' old new (Served outcome) is = tt
+serving_no_script sent contents gives flushes came came' old new (OtherWords unused) is = tt
+serving_no_script sent contents gives flushes came came' old new (NoWords no_memory unused) is = tt
+
+not_replayed : {M S V F O : Type 0} (end : End M S V F O) (outcome : Result Verdict Fault) (unused : O) → IsServingEnd end → ◌≡◌ {A = Result (Unit {0}) (End M S V F O)} (Err end) (Err (Replayed outcome unused)) → ⊥
+not_replayed {M} {S} {V} {F} {O} end outcome unused is same = subst (λ (e : End M S V F O). IsServingEnd e) (err_same end (Replayed outcome unused) same) is
+
+-- and nothing was read for it
+pub serving_unread : {M S V F O R : Type 0} (remaining : R → Option (List ℕ)) (replays : Type 0) (unused : O) (reader : R) (left : InputState R) (end : End M S V F O) → IsServingEnd end → left ≡ uncalled reader
+    → IsInputLeftAt remaining replays unused end (uncalled reader) left
+serving_unread remaining replays unused reader left end is same = record {
+  unasked = λ none. same;
+  unwaiting = tt;
+  good = λ replayed. absurd (not_replayed end (Ok Good) unused is replayed);
+  unread = λ replayed. absurd (not_replayed end (Err (File Input)) unused is replayed);
+  read = λ replayed. absurd (not_replayed end (Err (File Output)) unused is replayed);
+  few_calls = subst (λ (n : ℕ). n ≤ 2097152) (sym (ap (λ (i : InputState _). i.calls) same)) (omega arith);
+}
+
+-- an input is left at an end as it was left by what came to it
+pub left_at : {T M S V F O R : Type 0} (remaining : R → Option (List ℕ)) (replays : Type 0) (unused : O) (end : End M S V F O) (old new : InputState R) → IsInputLeft {T = T} remaining replays unused (Err end) old new
+    → IsInputLeftAt remaining replays unused end old new
+left_at {T} {M} {S} {V} {F} {O} remaining replays unused end old new left =
+    let so : (outcome : Result Verdict Fault) → ◌≡◌ {A = Result (Unit {0}) (End M S V F O)} (Err end) (Err (Replayed outcome unused)) → ◌≡◌ {A = Result T (End M S V F O)} (Err end) (Err (Replayed outcome unused)) =
+    λ outcome same. ap (λ (e : End M S V F O). Err e) (err_same end (Replayed outcome unused) same) in
+    record {
+      unasked = left.unasked;
+      unwaiting = tt;
+      good = λ same. left.good (so (Ok Good) same);
+      unread = λ same. left.unread (so (Err (File Input)) same);
+      read = λ same. left.read (so (Err (File Output)) same);
+      few_calls = left.few_calls;
+    }
