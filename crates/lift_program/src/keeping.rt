@@ -76,9 +76,6 @@ pub fn left_served<D: Disk + Drop, E: Write + Drop>(
 ) -> Leftover<D>
     ensures { result ≡ flusher.entry.writer.device }
 {
-    Leftover::new(
-        flusher
-            .into_writer(ImageKey { told: PhantomData })
-            .into_disk(),
-    )
+    let writer = flusher.into_writer(ImageKey { told: PhantomData });
+    Leftover::new(writer.into_disk())
 }

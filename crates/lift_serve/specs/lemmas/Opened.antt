@@ -101,7 +101,7 @@ turns_hand_on state held base f g safe mid given now honest turns =
 
 -- Keeper::open has opened this device, which holds what was found, and that keeps a prefix of what was
 -- accepted, and all that was given.
-module _ {D F P : Type 0} (state : D → DiskState) (held : F → DiskState) (plan : Plan) (opened : D) (keeper : KeeperView D)
+module _ {D F : Type 0} (state : D → DiskState) (held : F → DiskState) (plan : Plan) (opened : D) (keeper : KeeperView D)
     (reopens : Reopens plan (state opened)
     (state keeper.writer.device) keeper.writer.register keeper.writer.half
     keeper.writer.is_in_second_half keeper.writer.used)
@@ -145,7 +145,7 @@ module _ {D F P : Type 0} (state : D → DiskState) (held : F → DiskState) (pl
   )
 
   -- whoever begins at a new desk goes on with it
-  goes_on : (clerk : ClerkState D P) → clerk.keeper ≡ keeper → IsNewClerk clerk
+  goes_on : {P : Type 0} (clerk : ClerkState D P) → clerk.keeper ≡ keeper → IsNewClerk clerk
       → History base (group_of clerk) safe given
   goes_on clerk is begins = found.2.goes_on (group_of clerk) (record {
     begins = record {
@@ -167,7 +167,7 @@ module _ {D F P : Type 0} (state : D → DiskState) (held : F → DiskState) (pl
       recovery
 
   -- it was made ready, and served
-  module _ (policy : P) (a : AllocatorState P) (f g : FlusherState D) (group : IsNewGroup state policy keeper a f) (serving : ServingKeeps state f g) where
+  module _ {P : Type 0} (policy : P) (a : AllocatorState P) (f g : FlusherState D) (group : IsNewGroup state policy keeper a f) (serving : ServingKeeps state f g) where
     begins : IsNewClerk group.clerk
     begins = record {
       seat = group.unused;
@@ -230,7 +230,7 @@ module _ {D F P : Type 0} (state : D → DiskState) (held : F → DiskState) (pl
   cut : StartsFind D held plan base accepted given first new
   cut after = starts_keep first new (held after) Keeps was_honest recovery_from
 
-  pub keeps_over : (policy : P) (a : AllocatorState P) (f g : FlusherState D) → IsNewGroup state policy keeper a f
+  pub keeps_over : {P : Type 0} (policy : P) (a : AllocatorState P) (f g : FlusherState D) → IsNewGroup state policy keeper a f
       → ServingKeeps state f g → KeepsOver state held plan file f g base accepted given
   keeps_over policy a f g group serving =
       let k = kept policy a f g group serving in

@@ -40,25 +40,3 @@ returns-in-Ok-clause-output g c =
       unwritten = λ same. absurd (let other = same in cc);
       passed_on = c.in-Ok.ensures.flushed;
     }
-
-pub returns-in-Err-clause-end : goal.returns-in-Err-clause-end
-returns-in-Err-clause-end g c =
-    let a = c.args.asked in
-    let files : CommandFiles = record {
-      image = image_files a.openers.files.image (g.I.FileOpener.stands a.openers.files.image) (g.I.FileOpener.opens a.openers.files.image) (g.I.FileOpener.names a.openers.files.image) (g.I.FileOpener.unnamed a.openers.files.image) g.I.Told.ToldFile.gives g.I.Told.ToldFile.fails g.I.Told.ToldFile.holds (buffered_state_of (sector_file_state_of g.I.Told.ToldFile.holds)) (buffered_state_of (unwritten_state_of g.I.Told.ToldFile.holds));
-      is_text = λ path. IsTextRead (g.B.TextOpener.opens a.openers.files.building path) g.B.Text.Read.remaining;
-      is_no_text = λ path. IsNoText (g.B.TextOpener.opens a.openers.files.building path) g.B.Text.Read.remaining g.B.TextOpener.reads;
-    } in
-    let gives : ℕ → Option Listener → Type 0 = g.L.Listens.gives a.openers.socket local in
-    let before = g.W.Outflow.contents c.args.writer.now in
-    let after = g.W.Outflow.contents c.made_ready.new.writer in
-    λ input words asks. asked_end files gives before after input words (Served (Err c.in-Err.failure)) (Serve a.image a.building a.port a.sessions a.policy) asks
-    (record { port_is = tt; serving = tt; failure = c.in-Err.ensures.failure; refused = c.in-Err.ensures.refused; quiet = c.in-Err.ensures.quiet }) c.made_ready.ensures.front
-
-pub returns-in-Err-clause-output : goal.returns-in-Err-clause-output
-returns-in-Err-clause-output g c = λ input words. record {
-  report = c.in-Err.ensures.report;
-  answered = λ same. absurd (let other = same in cc);
-  unwritten = λ is. c.in-Err.ensures.failed (ap fault_there is);
-  passed_on = tt;
-}
