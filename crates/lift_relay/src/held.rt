@@ -1,13 +1,12 @@
-//! A keeper and its clerk, held for calls that wait.
+//! Parts of a clerk for a key type, and the clerk that they are joined to.
 //!
-//! A call that waits owes nothing where it never returns. So it is given these in their place, by a
-//! key type that it knows nothing of: it can look at them, split and end the group, each by a call that
-//! returns, and reaches neither the seats that answer nor the writer. No call in this file waits.
+//! A call that waits owes nothing where it never returns. So it has such parts, for a key type that it
+//! knows nothing of: it can turn and join them, each by a call that returns, and reaches neither the
+//! seats that answer nor the writer. No call in this file waits.
 
-ghost use Rattle.std.specs.Prelude.{◌≡◌, ◌≢◌, ◌⊎◌, List, [], length, true, IfOk, IfErr, OnErr};
+ghost use Rattle.std.specs.Prelude.{◌≡◌, ◌≢◌, ◌⊎◌, List, [], length, IfOk, IfErr, OnErr};
 ghost use Rattle.lift_base.specs.declared.history.Entry.{Entry};
 ghost use Rattle.lift_register.specs.Register.{RegisterState};
-ghost use Rattle.lift_desk.specs.Seats.{IsClerkOf, OwesNothing};
 ghost use Rattle.lift_world.specs.declared.event.Taken.{Taken};
 ghost use Rattle.lift_clerk.specs.History.{History};
 ghost use Rattle.lift_clerk.specs.Steps.{group_of};
@@ -23,9 +22,7 @@ use crate::flusher::Flusher;
 use crate::line::new_line;
 use arrayvec::ArrayVec;
 use lift_clerk::Clerk;
-use lift_desk::{ClerkSeat, Desk};
 use lift_disk::Disk;
-use lift_keeper::Keeper;
 use lift_memory::Memory;
 use lift_parts::parts_are_clerks;
 use lift_policy::Policy;
@@ -33,23 +30,7 @@ use std::alloc::Global;
 use std::marker::{Model, PhantomData};
 use std::snapshot::Snapshot;
 
-/// A keeper that only who has a `K` gets back. Others can look at it and have it serve at a desk.
-#[derive(Drop)]
-pub struct HeldKeeper<'b, D: Disk, K> {
-    keeper: Keeper<'b, D>,
-    key: PhantomData<K>,
-}
-
-impl<'b, D: Disk, K> Model for HeldKeeper<'b, D, K> {
-    ghost use Rattle.lift_keeper.specs.Keeper.{KeeperView};
-
-    ghost Value = { KeeperView D };
-
-    ghost view = { λ h. h.keeper };
-}
-
-/// A clerk that only who has a `K` gets back. Others can look at it, split it, and end it: it makes no
-/// turn.
+/// A clerk that only who has a `K` gets back.
 #[derive(Drop)]
 pub struct HeldClerk<'d, 'b, D: Disk, P: Policy + Drop, K> {
     clerk: Clerk<'d, 'b, D, P>,
@@ -64,54 +45,6 @@ impl<'d, 'b, D: Disk, P: Policy + Drop, K> Model for HeldClerk<'d, 'b, D, P, K> 
     ghost view = { λ h. h.clerk };
 }
 
-impl<'b, D: Disk, K> HeldKeeper<'b, D, K> {
-    /// This keeper, for whoever has a `K`.
-    pub fn new(keeper: Keeper<'b, D>) -> Self
-        ensures { result ≡ keeper.entry }
-    {
-        HeldKeeper {
-            keeper,
-            key: PhantomData,
-        }
-    }
-
-    /// The keeper, to be read.
-    pub fn keeper(&self) -> &Keeper<'b, D>
-        ensures { result.now ≡ self.now }
-    {
-        &self.keeper
-    }
-
-    /// Its clerk at a desk, whose seats have answered all that they took.
-    pub fn at<'d, P: Policy + Drop>(
-        self,
-        desk: &'d Desk,
-        seat: ClerkSeat,
-        policy: P,
-    ) -> HeldClerk<'d, 'b, D, P, K>
-        requires seated { IsClerkOf desk.now seat }
-        requires answered { OwesNothing seat }
-        requires empty_batch { (self.state.batch ≡ []) ⊎ (self.writer.is_broken ≡ true) }
-        ensures { result ≡ record {
-          desk = desk.now;
-          seat = seat;
-          keeper = self.entry;
-          policy = policy;
-        } }
-    {
-        HeldClerk::new(Clerk::new(desk, seat, self.keeper, policy))
-    }
-
-    /// The keeper, for the key.
-    pub fn release(self, _key: K) -> Keeper<'b, D>
-    where
-        K: Drop,
-        ensures { result ≡ self.entry }
-    {
-        self.keeper
-    }
-}
-
 impl<'d, 'b, D: Disk, P: Policy + Drop, K> HeldClerk<'d, 'b, D, P, K> {
     /// This clerk, for whoever has a `K`.
     pub fn new(clerk: Clerk<'d, 'b, D, P>) -> Self
@@ -121,29 +54,6 @@ impl<'d, 'b, D: Disk, P: Policy + Drop, K> HeldClerk<'d, 'b, D, P, K> {
             clerk,
             key: PhantomData,
         }
-    }
-
-    /// The desk that it scans.
-    pub fn desk(&self) -> &'d Desk
-        ensures { result.now ≡ self.now.desk }
-    {
-        self.clerk.desk()
-    }
-
-    /// Its keeper, to be read.
-    pub fn keeper(&self) -> &Keeper<'b, D>
-        ensures { result.now ≡ self.now.keeper }
-    {
-        self.clerk.keeper()
-    }
-
-    /// Its keeper, as it is. It looks at the desk no more.
-    pub fn leave(self) -> HeldKeeper<'b, D, K>
-        ensures keeper { result ≡ self.entry.keeper }
-        ensures empty_batch { (result.state.batch ≡ []) ⊎ (result.writer.is_broken ≡ true) }
-    {
-        let (_seat, keeper, _policy) = self.clerk.into_parts();
-        HeldKeeper::new(keeper)
     }
 
     /// The clerk, for the key.
@@ -196,26 +106,6 @@ pub fn split_for<'d, 'b, D: Disk, P: Policy + Drop, K>(
     let allocator = Allocator::new(desk, ahead, decider, policy, send);
     let flusher = Flusher::new(desk, seat, writer, receive);
     Ok((allocator, flusher))
-}
-
-/// As `split`, of a clerk that is held: its flusher is for the same key.
-pub fn split_held<'d, 'b, D: Disk, P: Policy + Drop, K>(
-    alloc: Global,
-    clerk: HeldClerk<'d, 'b, D, P, K>,
-) -> Result<(Allocator<'d, 'b, P>, Flusher<'d, 'b, D, K>), (HeldClerk<'d, 'b, D, P, K>, Memory)>
-    ensures parts { IfOk result (λ parts. AreParts clerk.entry parts.0 parts.1) }
-    ensures of_one { IfOk result (λ parts. AreOfOne parts.0 parts.1) }
-    ensures refused { IfErr result (λ back. back.0 ≡ clerk.entry) }
-    ensures flusher { IfOk result (λ parts. IsFlusher parts.1) }
-    // The history of the clerk's group goes on as that of the flusher's.
-    ensures history { IfOk result (λ parts. (base : RegisterState) (safe : List Entry)
-        (given : List Taken) → History base (group_of clerk.entry) safe given
-        → History base (group_after parts.1) safe given) }
-{
-    match split_for(alloc, clerk.clerk) {
-        Ok(parts) => Ok(parts),
-        Err((clerk, memory)) => Err((HeldClerk::new(clerk), memory)),
-    }
 }
 
 /// As `rejoin`, of parts for whatever key: their clerk is held for the same.

@@ -27,7 +27,7 @@ pub use batch::Batch;
 pub use deciding::Scanner;
 pub use flusher::Flusher;
 pub use gate::Gate;
-pub use held::{HeldClerk, HeldKeeper, rejoin_held, split_for, split_held};
+pub use held::{HeldClerk, rejoin_held, split_for};
 pub use lift_parts::{FlushCounts, NotedCommand};
 pub use pair::{RunFault, run};
 pub use refused::{BothRun, NoThread, RunBegun};
