@@ -4,6 +4,11 @@ use Rattle.std.specs.Prelude.{Result, Ok, Err, IfErr, IfOk}
 use Rattle.std.specs.declared.net.tcp.TcpListener.{TcpListener as Listener}
 use Rattle.clap.specs.Words.{Text}
 use Rattle.lift_base.specs.Input.{InputState}
+use Rattle.lift_disk.specs.Disk.{Image, LeavesNow, MayLeave}
+use Rattle.lift_disk.specs.lemmas.Moments.{leaves_weaker}
+use Rattle.lift_disk.specs.lemmas.Starts.{leaves_from, same_leaves, starts_keep, starts_keep_now}
+use Rattle.lift_journal.specs.lemmas.Chains.{all_same}
+use Rattle.lift_clerk.specs.Keeping.{KeepsPrefix}
 use Rattle.lift_policy.specs.declared.dispatching.Dispatching.{Dispatching}
 use Rattle.lift_policy.specs.declared.policies.Shipped.{Shipped}
 use Rattle.lift_replay.specs.Replaying.{ReportsPrefix}
@@ -15,10 +20,10 @@ use Rattle.lift_serve.specs.lemmas.Opened.{keeps_over}
 use Rattle.lift_program.proofs.Flushing.{building_no_output, image_no_output}
 use Rattle.lift_program.proofs.Stages.{fault_there}
 use Rattle.lift_program.proofs.Writing.{report_front}
-use Rattle.lift_program.specs.Ends.{EndOver, IsEndFor, IsEndOf, IsInputLeft, IsOutputOf, IsPassedOn, IsReportOfEnd, IsServeEnd, IsUnmade, KeepsFor, KeepsIfServed, ReportsAll, WritesFor, failed_for, fault_of}
+use Rattle.lift_program.specs.Ends.{EndOver, IsEndFor, IsEndOf, IsInputLeft, IsOutputOf, IsPassedOn, IsReportOfEnd, IsServeEnd, IsUnmade, KeepsFor, KeepsIfServed, LeavesFor, ReportsAll, WritesFor, failed_for, fault_of}
 use Rattle.lift_program.specs.Output.{IsFlushed, WriterHasFailed}
-use Rattle.lift_program.specs.Serving.{IsReadyOver, IsServedOver, file_found}
-use Rattle.lift_program.specs.Stages.{fault_in}
+use Rattle.lift_program.specs.Serving.{HasLeftLetters, IsReadyOver, IsServedOver, file_found}
+use Rattle.lift_program.specs.Stages.{IsLeftAs, fault_in}
 use Rattle.lift_program.specs.declared.fault.Fault.{Fault}
 use Rattle.lift_program.specs.declared.leftover.Failure.{Failure}
 use Rattle.lift_program.specs.declared.leftover.Failure.TheVariants.{NoBuilding, NoImage, Opened}
@@ -155,11 +160,51 @@ served_keeps files gives before after (Serve image building port sessions policy
       keeps = s.keeps;
     }
 
+-- and one that wasn't has left them
+left_letters : (files : CommandFiles) (image building : List ℕ) (fault : Fault) (left : files.image.Served) → IsLeftAs (files.is_text building) (files.image.is_to_be_served image) files.image.served_state fault left → HasLeftLetters files image building left
+left_letters files image building fault left is =
+    let file = files.image.found image is.opened is.fresh in
+    let old = files.image.held file in
+    let opened = files.image.served_state is.opened in
+    let new = files.image.served_state left in
+    let keeps : (honest : old.is_honest) (P : Image → Type 0) → LeavesNow old P → LeavesNow opened P =
+    λ honest P holds. same_leaves old opened P honest (files.image.stays image is.opened is.fresh honest).1 holds in
+    record {
+      plan = is.plan;
+      described = is.building;
+      opened = is.opened;
+      fresh = is.fresh;
+      cut = λ honest base accepted given holds after.
+          let P = KeepsPrefix files.image.Served is.plan base accepted given in
+          let stays = files.image.stays image is.opened is.fresh honest in
+          starts_keep old new (files.image.held after) P honest
+          (leaves_from old opened new P honest stays.0 stays.1
+          (leaves_weaker opened new (MayLeave opened) P (λ was found may. keeps honest P holds was found may) is.moments));
+      next = λ recovered honest base accepted given holds after.
+          let P = KeepsPrefix files.image.Served is.plan base accepted given in
+          let was = (files.image.stays image is.opened is.fresh honest).0 in
+          let reopens = recovered.4 in
+          starts_keep_now new (files.image.held after) P (is.moments.honest.1 was)
+          (λ same found may.
+          subst P (sym (all_same new.is_loose new.image found (reopens.synced was).none_loose may))
+          (keeps honest P holds was new.image (reopens.seen was)));
+    }
+
+served_leaves : (files : CommandFiles) (gives : ℕ → Option Listener → Type 0) (before after : Option (List ℕ)) (request : Request) (failure : Failure files.image.Served files.image.File files.image.Opener)
+    → IsEndFor files gives request before after (Served (Err failure)) → LeavesFor files request failure
+served_leaves files gives before after Replay failure never = absurd never
+served_leaves files gives before after (Format image building half) failure never = absurd never
+served_leaves files gives before after (Show image building) failure never = absurd never
+served_leaves files gives before after (Serve image building port sessions policy) (NoBuilding fault unused) is = tt
+served_leaves files gives before after (Serve image building port sessions policy) (NoImage refused) is = tt
+served_leaves files gives before after (Serve image building port sessions policy) (Opened fault left) is =
+    left_letters files image.now building.now fault left is.failure
+
 pub end_keeps : (files : CommandFiles) (gives : ℕ → Option Listener → Type 0) (input : Option (List ℕ)) (words : List Text) (before after : Option (List ℕ)) (end : EndOver files) → IsEndOf files gives input words before after end → KeepsIfServed files words end
 end_keeps files gives input words before after (Replayed outcome unused) is = tt
 end_keeps files gives input words before after (Formatted outcome) is = tt
 end_keeps files gives input words before after (Shown outcome) is = tt
 end_keeps files gives input words before after (Served (Ok serving)) (request, asks, is, writes) = (request, asks, served_keeps files gives before after request serving is)
-end_keeps files gives input words before after (Served (Err failure)) is = tt
+end_keeps files gives input words before after (Served (Err failure)) (request, asks, is, writes) = (request, asks, served_leaves files gives before after request failure is)
 end_keeps files gives input words before after (OtherWords unused) is = tt
 end_keeps files gives input words before after (NoWords no_memory unused) is = tt

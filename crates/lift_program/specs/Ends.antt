@@ -26,7 +26,7 @@ use Rattle.lift_replay.specs.Writing.{GoesInto, gone_in}
 use Rattle.lift_program.specs.Faults.{fault_text, usage_text}
 use Rattle.lift_program.specs.Output.{IsFlushed, IsWrittenOrFailed, SaysText, WasTaken}
 use Rattle.lift_program.specs.Output.{WriterHasFailed}
-use Rattle.lift_program.specs.Serving.{HasKeptLetters, IsServing}
+use Rattle.lift_program.specs.Serving.{HasKeptLetters, HasLeftLetters, IsServing}
 use Rattle.lift_program.specs.Images.{CommandFiles}
 use Rattle.lift_program.specs.Showing.{IsShown, ShowsPart}
 use Rattle.lift_program.specs.Stages.{HasBuilding, IsBuildingFault, IsNoImage, IsOpeningFault}
@@ -403,10 +403,20 @@ KeepsFor files (Serve image building port sessions policy) serving =
     HasKeptLetters files image.now building.now policy serving
 KeepsFor files request serving = ⊥
 
--- A group that was served has kept every letter.
+-- and what is left of one that isn't, once its image was opened
+abbrev pub LeavesFor : (files : CommandFiles) → Request
+    → Failure files.image.Served files.image.File files.image.Opener → Type 0
+LeavesFor files (Serve image building port sessions policy) (Opened fault left) =
+    HasLeftLetters files image.now building.now left
+LeavesFor files (Serve image building port sessions policy) failure = Unit {0}
+LeavesFor files request failure = ⊥
+
+-- A group that was served has kept every letter, and one that was not has left them.
 abbrev pub KeepsIfServed : (files : CommandFiles) → List Text → EndOver files → Type 0
 KeepsIfServed files words (Served (Ok serving)) =
     (request : Request) × AskForRequest words request × KeepsFor files request serving
+KeepsIfServed files words (Served (Err failure)) =
+    (request : Request) × AskForRequest words request × LeavesFor files request failure
 KeepsIfServed files words end = Unit {0}
 
 -- What was written of a fault: nothing of a building's, an image's, a journal's, or the port's.

@@ -4,6 +4,7 @@ use Rattle.std.specs.declared.net.tcp.TcpListener.{TcpListener as Listener}
 use Rattle.lift_base.specs.declared.history.Entry.{Entry}
 use Rattle.lift_building.specs.Plan.{Plan}
 use Rattle.lift_disk.specs.Disk.{DiskState}
+use Rattle.lift_disk.specs.Starts.{StartsAfter}
 use Rattle.lift_program.specs.Images.{CommandFiles}
 use Rattle.lift_keeper.specs.Keeper.{KeeperView}
 use Rattle.lift_register.specs.Register.{RegisterState}
@@ -15,12 +16,12 @@ use Rattle.lift_policy.specs.declared.policies.Shipped.{Shipped}
 use Rattle.lift_world.specs.declared.event.Taken.{Taken}
 use Rattle.lift_parts.specs.Allocator.{AllocatorState}
 use Rattle.lift_parts.specs.Flusher.{FlusherState}
-use Rattle.lift_serve.specs.Keeping.{HoldsLetters, KeepsOver}
+use Rattle.lift_serve.specs.Keeping.{HoldsLetters, KeepsOver, StartsFind}
 use Rattle.lift_serve.specs.Open.{EndedState, IsReportOf}
 use Rattle.lift_serve.specs.Ready.{IsNewGroup}
 use Rattle.lift_serve.specs.Relaying.{HaveServed, ServingKeeps}
 use Rattle.lift_program.specs.Faults.{served_fault}
-use Rattle.lift_program.specs.Stages.{HasBuilding, HasKeeperOf}
+use Rattle.lift_program.specs.Stages.{HasBuilding, HasKeeperOf, HasRecovered}
 use Rattle.lift_program.specs.declared.serve.Serving.{Serving}
 
 -- The recovery opened a journal on the file that was there at this path, of a building that the text
@@ -107,3 +108,23 @@ pub record HasKeptLetters (files : CommandFiles) (image building : List ℕ) (po
   pub ran : HaveServed IsServedBy files.image.served_state a b f g serving.end.fault
   pub is_left : g.writer.device ≡ serving.left
   pub keeps : KeepsLetters files plan (files.image.found image has.opened has.fresh) f g
+
+-- The file at this path was opened, of a building that was read, and its group isn't served: the device was left so. If
+-- the file is honest and holds these letters, the next start finds a file that holds them, in the same words, at
+-- whatever moment the power goes (`cut`); and, where the recovery had given a register, once all has ended (`next`).
+pub record HasLeftLetters (files : CommandFiles) (image building : List ℕ) (left : files.image.Served) : Type 0 where
+  pub plan : Plan
+  pub described : HasBuilding (files.is_text building) plan
+  pub opened : files.image.Served
+  pub fresh : files.image.is_to_be_served image opened
+  pub cut : (files.image.held (files.image.found image opened fresh)).is_honest → (base : RegisterState)
+      (accepted : List Entry) (given : List Taken)
+      → HoldsLetters files.image.Served plan base accepted given (files.image.held (files.image.found image opened fresh))
+      → StartsFind files.image.Served files.image.held plan base accepted given
+      (files.image.held (files.image.found image opened fresh)) (files.image.served_state left)
+  pub next : HasRecovered plan (files.image.served_state opened) (files.image.served_state left)
+      → (files.image.held (files.image.found image opened fresh)).is_honest → (base : RegisterState)
+      (accepted : List Entry) (given : List Taken)
+      → HoldsLetters files.image.Served plan base accepted given (files.image.held (files.image.found image opened fresh))
+      → (after : files.image.File) → StartsAfter (files.image.served_state left) (files.image.held after)
+      → HoldsLetters files.image.Served plan base accepted given (files.image.held after)

@@ -49,8 +49,8 @@ impl<L> ForServing<L> {
     }
 }
 
-/// A building that is to be served on a port. It can't be let go: `serve` alone takes it. Whoever
-/// serves it tells an `E` that the device failed.
+/// A building that is to be served on a port. It can't be let go: `serve` takes it, and by its group, where the
+/// line of its port can't be written, `left_unserved`. Whoever serves it tells an `E` that the device failed.
 pub(crate) struct Ready<'d, 'b, D: Disk + Drop, E> {
     pub(crate) port: u16,
     pub(crate) group: ReadyGroup<'d, 'b, D, Shipped, ImageKey<E>>,
