@@ -27,8 +27,8 @@ pub struct BothRun {
     made: (),
 }
 
-/// What the gate of a run is told by that both parts have a thread. It can't be let go: so the gate is
-/// told. Only `spawn` below makes one, where it got the thread.
+/// What the gate of a run is told by that both parts have a thread. It can't be let go: it ends by `told`
+/// alone. Only `spawn` below makes one, where it got the thread.
 pub struct RunBegun {
     both: BothRun,
 }

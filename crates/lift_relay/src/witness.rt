@@ -3,7 +3,7 @@
 ghost use Rattle.lift_relay.specs.Heard.{FailureHeard};
 
 /// Evidence that a device has just failed, as it hadn't since it was last opened. Only this file
-/// makes one, in which no call waits: so whoever waits with a witness can't notify it of a failure.
+/// makes one, in which no call waits: so whoever waits with a witness has none to notify it by.
 #[derive(Drop)]
 pub struct Failed {
     made: (),

@@ -149,7 +149,8 @@ pub(crate) struct AllShut {
     made: (),
 }
 
-/// Whether connections are still read. Only `Connections` ends that, after the last end that counts.
+/// Whether connections are still read. Only `Connections` ends that, after the last end that counts or where
+/// all are given up.
 #[derive(Drop)]
 pub(crate) struct Reading {
     is_over: AtomicBool,

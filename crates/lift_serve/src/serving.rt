@@ -84,7 +84,8 @@ fn rest_and_make_room<R: Wait + Clock>(rt: &R, shared: Shared<'_, '_>) {
     thread::sleep(rt, Duration::from_millis(rest));
 }
 
-/// Accepts connections, since both parts have a thread, until all have ended that were to end.
+/// Accepts connections, since both parts have a thread, until all have ended that were to end, or all are
+/// given up.
 fn accept_all<'s, 'd: 's, E, R: Threads + Wait + Clock + Sync>(
     rt: &'s R,
     alloc: Global,
@@ -116,8 +117,8 @@ fn accept_all<'s, 'd: 's, E, R: Threads + Wait + Clock + Sync>(
     unreachable!()
 }
 
-/// Accepts connections, once both parts have a thread, until all have ended that were to end. Once each
-/// thread of one has ended, has both parts end.
+/// Accepts connections, once both parts have a thread, until all have ended that were to end, or all are
+/// given up. Once each thread of one has ended, has both parts end.
 fn welcome<R: Threads + Wait + Clock + Sync>(rt: &R, alloc: Global, shared: Shared<'_, '_>) -> Over
     ensures { IsEndAt shared.entry.bound.now result }
 {
@@ -229,7 +230,7 @@ where
 /// Both parts always come back; where no thread could be had they are as they were.
 ///
 /// The flusher is for whoever has a `K`. So nothing that waits here can call its device, or answer
-/// an ask, but by a turn of it, each of which returns: whatever a serving waits for, and
+/// an ask, but by a turn of it, which does both by calls that return: whatever a serving waits for, and
 /// whether or not it ever ends, it has had such turns alone. The turn in which the device first
 /// fails notifies the witness, and no other turn does: also in a serving that never ends.
 #[inline(never)]

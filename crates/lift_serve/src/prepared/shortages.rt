@@ -51,8 +51,9 @@ fn no_thread() -> Shortage
     }
 }
 
-/// How a serving ended: what it was refused, if anything was, and how the accepting was over. Only the `Shortages` make one, of which each serving has one, and which end by it: so nobody
-/// hides what was refused it, or tells more.
+/// How a serving ended: what it was refused, if anything was, and how the accepting was over. Only the
+/// `Shortages` make one, of which each serving has one, and which end by it: so nobody hides what was refused
+/// it, or tells more.
 #[derive(Drop)]
 pub struct ServingEnd {
     fault: Option<ServeFault>,
