@@ -5,10 +5,11 @@ use denote.Ref.{NamedLft}
 use denote.Struct.Field.{row_field, shr_ref_field, u64-field, bool-field}
 use denote.Param.{number}
 use denote.Param.Send.{IsSend, IsSync, sendable, view_send, shr_send}
-use denote.Param.SendFields.{declared_send, variants_send, as_row_send}
+use denote.Param.SendFields.{declared_send, as_row_send}
 use Rattle.std.proofs.Crossing.{crosses, Arc-send}
 use Rattle.core.proofs.snapshot.Sent.{snapshot_send}
 use Rattle.core.specs.contracts.option.Option as Option
+use Rattle.core.specs.contracts.result.Result as RS
 use Rattle.std.specs.contracts.alloc.Global as Global
 use Rattle.std.specs.contracts.impls.GlobalAllocator.TheImpl as heap
 use Rattle.std.specs.contracts.sync.Arc as Arc
@@ -54,7 +55,6 @@ use Rattle.lift_relay.specs.contracts.gate.AskingAllocator as Asking
 use Rattle.lift_relay.specs.contracts.gate.AskingAllocator.TheInside as asking_inside
 use Rattle.lift_relay.specs.contracts.gate.Closed as Closed
 use Rattle.lift_relay.specs.contracts.gate.Closed.TheInside as closed_inside
-use Rattle.lift_relay.specs.contracts.pair.Allocating as Allocating
 
 unit_send : IsSend unit
 unit_send = search sendable depth 6
@@ -126,9 +126,5 @@ asking_send d b P h s = view_send _ _ _ _ _ (declared_send (asking_inside.the_ty
 closed_send : (d b : NamedLft) (P : RattleType) (h : Ghosts P.Denot) → IsSend P → IsSend (Closed.the_row d b P h)
 closed_send d b P h s = view_send _ _ _ _ _ (declared_send (closed_inside.the_type d b P h) (as_row_send (Allocator.the_field d b P h) (allocator_send d b P h s), tt))
 
-pub allocating_send : (d b : NamedLft) (P : RattleType) (h : Ghosts P.Denot) → IsSend P → IsSend (Allocating.the_row d b P h)
-allocating_send d b P h s =
-    variants_send (Allocating.enum d b P h) (
-      (as_row_send (Asking.the_field d b P h) (asking_send d b P h s), tt),
-      ((as_row_send (Closed.the_field d b P h) (closed_send d b P h s), tt), tt),
-    )
+pub allocating_send : (d b : NamedLft) (P : RattleType) (h : Ghosts P.Denot) → IsSend P → IsSend (RS.the_row (Closed.the_row d b P h) (Asking.the_row d b P h))
+allocating_send d b P h s = search (sendable, crosses, closed_send, asking_send) depth 12

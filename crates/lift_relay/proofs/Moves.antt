@@ -10,7 +10,7 @@ use Rattle.lift_policy.specs.Step.{State}
 use Rattle.lift_parts.specs.Batch.{BatchState, next_turns}
 use Rattle.lift_relay.specs.declared.line.EndView.{EndView}
 use Rattle.lift_parts.specs.Line.{Begins, IsNextBatch}
-use Rattle.lift_relay.specs.Rule.{opening, opening_view, begun_with, sending, receiving, most_batches, with_both_passes, told_both, spent_pass, LineLists, EndFits, IsLineInOrder, IsLineKept, Named, Begun, Sent, Received, SentAllBut, ReceivedBefore, HoldsUnreceived}
+use Rattle.lift_relay.specs.Rule.{opening, opening_view, begun_with, sending, receiving, most_batches, with_both_passes, told_both, spent_pass, LineLists, EndFits, IsLineInOrder, IsLineKept, Opened, Sent, Received, SentAllBut, ReceivedBefore, HoldsUnreceived}
 use Rattle.lift_parts.specs.Line.{BatchesGoOn}
 
 off : {A : Type 0} → false ≡ true → A
@@ -53,7 +53,7 @@ not_begun items views id v begun is at = off (sym (ap (λ (u : EndView). u.begun
 set_only : (views : List EndView) (u w : EndView) (id : ℕ) → id ≡ 0 → views ≡ u ∷ [] → set views id w ≡ w ∷ []
 set_only views u w id first is = ap (λ (p : ℕ × List EndView). set p.1 p.0 w) (λ i. (first i, is i))
 
-pub names : (n id : ℕ) (v : EndView) (batch : BatchState) → v ≡ opening_view → Pushes IsLineKept n id v batch (Named v batch)
+pub names : (n id : ℕ) (v : EndView) (batch : BatchState) → v ≡ opening_view → Pushes IsLineKept n id v batch (Opened v batch)
 names n id v batch first items views few h at =
     ⊎_elim
     (λ is.
@@ -61,7 +61,7 @@ names n id v batch first items views few h at =
     let none : items ≡ [] = sym (ap (λ (u : EndView). u.sent) a.1) ∙ ap (λ (u : EndView). u.sent) first in (
       opening (batch ∷ []),
       inl (set_only views (opening items) (opening (batch ∷ [])) id a.0 is ∙ ap (λ l. opening (l ++ batch ∷ []) ∷ []) (sym none)),
-      refl,
+      inl (ap (λ (u : EndView). u.sent) first, refl),
     ))
     (λ (o : IsLineInOrder items views). off (sym (ap (λ (u : EndView). u.begun) first) ∙ (o.fits id v at).begun))
     h
@@ -77,7 +77,7 @@ one : (batch : BatchState) (lists : LineLists) → EndFits lists 0 (begun_with b
 one batch lists mine zero u e = subst (EndFits lists 0) (some-injective (begun_with batch) u e) mine
 one batch lists mine (suc pass) u e = absurd (some-ne-none u (sym e))
 
-pub starts : (id : ℕ) (v : EndView) (first : BatchState) → v ≡ opening (first ∷ []) → Pops IsLineKept id v (Begun v)
+pub starts : (id : ℕ) (v : EndView) (first : BatchState) → v ≡ opening (first ∷ []) → Pops IsLineKept id v (Opened v)
 starts id v first is batch items views h at =
     ⊎_elim
     (λ only.
@@ -100,10 +100,24 @@ starts id v first is batch items views h at =
       begun_with batch,
       inr (subst (λ (p : List BatchState × List EndView). IsLineInOrder p.0 p.1) (λ i. (sym none i, sym (set_only views (opening (batch ∷ items)) (begun_with batch) id a.0 only) i))
           (record { lists = lists; in_order = refl; few = omega arith; goes_on = (refl, refl); fits = one batch lists mine; four = omega arith })),
-      record { only = ap (λ (u : EndView). u.sent) a.1 ∙ ap (λ l. batch ∷ l) none; begins = refl },
+      inr (record { only = ap (λ (u : EndView). u.sent) a.1 ∙ ap (λ l. batch ∷ l) none; begins = refl }),
     ))
     (λ (o : IsLineInOrder (batch ∷ items) views). off (sym (ap (λ (u : EndView). u.begun) is) ∙ (o.fits id v at).begun))
     h
+
+some_sent : {A : Type 0} (batch : BatchState) → batch ∷ [] ≡ [] → A
+some_sent batch e = absurd (cc)
+
+pub named : (batch : BatchState) (w : EndView) → Opened opening_view batch w → w ≡ opening (batch ∷ [])
+named batch w (inl push) = push.1
+named batch w (inr pop) = some_sent batch (sym pop.only)
+
+pub begun : (first batch : BatchState) (w v : EndView) → Opened opening_view first w → Opened w batch v → v ≡ begun_with first
+begun first batch w v push (inl again) = some_sent first (sym (ap (λ (u : EndView). u.sent) (named first w push)) ∙ again.0)
+begun first batch w v push (inr pop) = pop.begins ∙ ap begun_with (head_of batch first (sym pop.only ∙ ap (λ (u : EndView). u.sent) (named first w push)))
+  where
+    head_of : (x y : BatchState) → x ∷ [] ≡ y ∷ [] → x ≡ y
+    head_of x y e = cc
 
 longer : (first whole : List BatchState) (batch : BatchState) → Begins first whole → Begins first (whole ++ batch ∷ [])
 longer first whole batch b = (b.0 ++ batch ∷ [], ap (λ l. l ++ batch ∷ []) b.1 ∙ append_assoc first b.0 (batch ∷ []))
@@ -261,25 +275,29 @@ pub ends : (id : ℕ) (v : EndView) → v.begun ≡ true → v.sends ≡ true �
 ends id v begun may takes items views h at =
     ⊎_elim (λ is. not_begun items views id v begun is at) (λ o. inr (ends_on id v may takes items views o at)) h
 
+-- what both know in one pass, but of what left the line and of what came into it
+abbrev in_one : EndView → EndView → (gone known : List BatchState) → EndView
+in_one v w gone known = record (with_both_passes v w) { gone = gone; known = known }
+
 -- the sending pass takes in the receiving one, and knows what both know, of what left the line and of what came into it as much as is true
 joins_on : (id other : ℕ) (v w : EndView) (gone known : List BatchState) → v.sends ≡ true → w.receives ≡ true → (items : List BatchState) (views : List EndView) (h : IsLineInOrder items views)
-    → Begins gone h.lists.received → Begins known h.lists.sent → get_elem? views id ≡ some v → other ≢ id
-    → get_elem? (set views id (record v { receives = true; received = w.received; gone = gone; known = known; behind = w.behind; next_turns = w.next_turns })) other ≡ some w
-    → IsLineInOrder items (set (set views id (record v { receives = true; received = w.received; gone = gone; known = known; behind = w.behind; next_turns = w.next_turns })) other spent_pass)
-joins_on id other v w gone known may takes items views h left came at apart at_other =
+    → ((l : LineLists) → v.sent ≡ l.sent → Begins v.gone l.received → w.received ≡ l.received → Begins w.known l.sent → Begins gone l.received × Begins known l.sent)
+    → get_elem? views id ≡ some v → other ≢ id → get_elem? (set views id (in_one v w gone known)) other ≡ some w → IsLineInOrder items (set (set views id (in_one v w gone known)) other spent_pass)
+joins_on id other v w gone known may takes items views h so at apart at_other =
     let l = h.lists in
-    let both : EndView = record v { receives = true; received = w.received; gone = gone; known = known; behind = w.behind; next_turns = w.next_turns } in
+    let both = in_one v w gone known in
     let vs = set views id both in
     let mine = h.fits id v at in
     let a = mine.sends may in
     let was : get_elem? views other ≡ some w = ⊎_elim (λ (x : (other ≡ id) × (both ≡ w)). absurd (apart x.0)) (λ (x : (other ≢ id) × (get_elem? views other ≡ some w)). x.1) (at_set views id other both w at_other) in
     let b = (h.fits other w was).receives takes in
+    let told = so l a.1 a.2 b.1 b.2 in
     let next : LineLists = record l { receiver = id } in
     let Now : ℕ → EndView → Type 0 = λ j u. j ≢ other → EndFits next j u in
     let here : EndFits next id both = record {
       begun = mine.begun;
-      sends = λ _. (a.0, a.1, left, a.3, a.4, a.5, a.6);
-      receives = λ _. (refl, b.1, came, a.3, a.4, b.5, b.6);
+      sends = λ _. (a.0, a.1, told.0, a.3, a.4, a.5, a.6);
+      receives = λ _. (refl, b.1, told.1, a.3, a.4, b.5, b.6);
     } in
     let now : (j : ℕ) (u : EndView) → get_elem? vs j ≡ some u → Now j u = λ j u e.
     ⊎_elim
@@ -297,26 +315,20 @@ joins_on id other v w gone known may takes items views h left came at apart at_o
       fits = fit_set next vs other spent_pass (record { begun = refl; sends = λ p. off p; receives = λ p. off p }) (λ j u off_other e. now j u e off_other);
     }
 
+merges : (id other : ℕ) (v w : EndView) (gone known : List BatchState) → v.begun ≡ true → v.sends ≡ true → w.receives ≡ true
+    → ((l : LineLists) → v.sent ≡ l.sent → Begins v.gone l.received → w.received ≡ l.received → Begins w.known l.sent → Begins gone l.received × Begins known l.sent)
+    → Merges IsLineKept id v other w (in_one v w gone known) spent_pass
+merges id other v w gone known begun may takes so items views h at apart at_other =
+    ⊎_elim (λ is. not_begun items views id v begun is at) (λ o. inr (joins_on id other v w gone known may takes items views o so at apart at_other)) h
+
 pub joins : (id : ℕ) (v : EndView) (other : ℕ) (w : EndView) → v.begun ≡ true → v.sends ≡ true → w.receives ≡ true → Merges IsLineKept id v other w (with_both_passes v w) spent_pass
-joins id v other w begun may takes items views h at apart at_other =
-    ⊎_elim
-    (λ is. not_begun items views id v begun is at)
-    (λ (o : IsLineInOrder items views).
-    let was = ⊎_elim (λ (x : (other ≡ id) × (with_both_passes v w ≡ w)). absurd (apart x.0)) (λ (x : (other ≢ id) × (get_elem? views other ≡ some w)). x.1) (at_set views id other (with_both_passes v w) w at_other) in
-    inr (joins_on id other v w v.gone w.known may takes items views o ((o.fits id v at).sends may).2 ((o.fits other w was).receives takes).2 at apart at_other))
-    h
+joins id v other w begun may takes = merges id other v w v.gone w.known begun may takes (λ l sent left received came. (left, came))
 
 all_of : (xs ys : List BatchState) → xs ≡ ys → Begins xs ys
 all_of xs ys is = ([], sym is ∙ sym (append-nil xs))
 
 pub tells : (id : ℕ) (v : EndView) (other : ℕ) (w : EndView) → v.begun ≡ true → v.sends ≡ true → w.receives ≡ true → Merges IsLineKept id v other w (told_both v w) spent_pass
-tells id v other w begun may takes items views h at apart at_other =
-    ⊎_elim
-    (λ is. not_begun items views id v begun is at)
-    (λ (o : IsLineInOrder items views).
-    let was = ⊎_elim (λ (x : (other ≡ id) × (told_both v w ≡ w)). absurd (apart x.0)) (λ (x : (other ≢ id) × (get_elem? views other ≡ some w)). x.1) (at_set views id other (told_both v w) w at_other) in
-    inr (joins_on id other v w w.received v.sent may takes items views o (all_of w.received o.lists.received ((o.fits other w was).receives takes).1) (all_of v.sent o.lists.sent ((o.fits id v at).sends may).1) at apart at_other))
-    h
+tells id v other w begun may takes = merges id other v w w.received v.sent begun may takes (λ l sent left received came. (all_of w.received l.received received, all_of v.sent l.sent sent))
 
 pub both_learn : (id : ℕ) (v : EndView) → v.begun ≡ true → v.sends ≡ true → v.receives ≡ true → Learns IsLineKept id v (HoldsUnreceived v)
 both_learn id v begun may takes items views h at =

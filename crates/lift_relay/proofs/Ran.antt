@@ -1,5 +1,5 @@
 -- What a run leaves, of both parts.
-use Rattle.std.proofs.Common.{◌≡◌, true, List, [], ◌++◌, length, Option, Some, None, refl, ap, subst, inl, inr, sym, ◌∙◌}
+use Rattle.std.proofs.Common.{◌≡◌, true, List, [], length, Option, Some, None, ap, subst, inl, inr, sym, ◌∙◌}
 use Rattle.std.specs.Prelude.{option_map}
 use Rattle.lift_base.specs.declared.history.Entry.{Entry}
 use Rattle.lift_world.specs.declared.event.Taken.{Taken}
@@ -11,9 +11,9 @@ use Rattle.lift_relay.specs.declared.pair.RunFault.{RunFault}
 use Rattle.lift_relay.specs.declared.pair.RunFault.TheVariants.{Keeper, Spawn}
 use Rattle.lift_parts.specs.Allocator.{AllocatorState}
 use Rattle.lift_parts.specs.Flusher.{FlusherState}
-use Rattle.lift_parts.specs.Turns.{AllocatorTurns, FlusherTurns, NoFlush}
+use Rattle.lift_parts.specs.Turns.{AllocatorTurns, FlusherTurns, NoMore, NoFlush}
 use Rattle.lift_parts.specs.Parts.{AreOfOne}
-use Rattle.lift_relay.specs.Pair.{HaveRun, IsRun, AreSameParts}
+use Rattle.lift_relay.specs.Pair.{HaveRun, IsRun, AreSameParts, TurnsKeepParts}
 use Rattle.lift_clerk.specs.History.{History}
 use Rattle.lift_parts.specs.History.{GoesOnTo, TurnsGoOn, group_after}
 use Rattle.lift_parts.specs.lemmas.Paired.{turns_joined, flushes_joined, same_allocator, same_flusher, still_of_one, faults_broken}
@@ -39,49 +39,46 @@ not_spawn : (first : Option KeeperFault) → is_spawn (fault_of first) → ⊥
 not_spawn None is = is
 not_spawn (Some e) is = is
 
+pub turns_keep : {D P : Type 0} (choice : Choice) (state : D → DiskState) → TurnsKeepParts D P state choice
+turns_keep choice state a b f g before last turns flushes one =
+    let allocator = same_allocator choice a b turns in
+    let flusher = same_flusher state f g before last flushes in
+    record { same_allocator = allocator; same_flusher = flusher; of_one = still_of_one a b f g allocator flusher one }
+
 module _ {D P : Type 0} (choice : Choice) (state : D → DiskState) (a b : AllocatorState P) (f g : FlusherState D) (fault : Option RunFault) where
   pub refused_of : IsRun choice state a b f g fault → fault ≡ Some (Spawn tt) → (b ≡ a) × (g ≡ f)
   refused_of (inl refused) is = refused.1
-  refused_of (inr run) is = absurd (not_spawn run.first (subst is_spawn (sym is ∙ run.is_first) tt))
+  refused_of (inr run) is = absurd (not_spawn run.0.first (subst is_spawn (sym is ∙ run.0.is_first) tt))
 
-  pub ran_of : IsRun choice state a b f g fault → (fault ≡ Some (Spawn tt) → ⊥) → HaveRun choice state a b f g fault
+  pub ran_of : IsRun choice state a b f g fault → (fault ≡ Some (Spawn tt) → ⊥) → HaveRun choice state a b f g fault × (length b.end.sent ≡ length g.end.received)
   ran_of (inl refused) goes = absurd (goes refused.0)
   ran_of (inr run) goes = run
 
   pub broken_of : IsRun choice state a b f g fault → (of : KeeperFault) → fault ≡ Some (Keeper of) → g.writer.is_broken ≡ true
   broken_of (inl refused) of is = absurd (subst is_spawn (sym refused.0 ∙ is) tt)
-  broken_of (inr run) of is = faults_broken state f g None run.first run.flusher (λ e none. absurd (cc)) of (keeper_of run.first of (sym run.is_first ∙ is))
+  broken_of (inr run) of is = faults_broken state f g None run.0.first run.0.flusher (λ e none. absurd (cc)) of (keeper_of run.0.first of (sym run.0.is_first ∙ is))
 
-  pub stay_of : IsRun choice state a b f g fault → AreOfOne a f → AreSameParts a b f g
-  stay_of (inl refused) one =
-      let still : AreSameParts a a f f = record {
-        same_allocator = record { line = refl; desk = refl; plan = refl; policy = refl; start = refl };
-        same_flusher = record { line = refl; desk = refl; plan = refl; half = refl; failures_at_opening = refl };
-        of_one = one;
-      } in
-      subst (λ (p : AllocatorState P × FlusherState D). AreSameParts a p.0 f p.1) (λ i. (sym refused.1.0 i, sym refused.1.1 i)) still
-  stay_of (inr run) one =
-      let allocator = same_allocator choice a b run.allocator in
-      let flusher = same_flusher state f g None run.first run.flusher in
-      record { same_allocator = allocator; same_flusher = flusher; of_one = still_of_one a b f g allocator flusher one }
+  pub stay_of : TurnsKeepParts D P state choice → IsRun choice state a b f g fault → AreOfOne a f → AreSameParts a b f g
+  stay_of law (inl refused) one =
+      subst (λ (p : AllocatorState P × FlusherState D). AreSameParts a p.0 f p.1) (λ i. (sym refused.1.0 i, sym refused.1.1 i)) (law a a f f None None NoMore NoFlush one)
+  stay_of law (inr run) one = law a b f g None run.0.first run.0.allocator run.0.flusher one
 
 -- What a run adds to what has happened: nothing, if no thread could be made.
 pub goes_on : {D P : Type 0} (choice : Choice) (state : D → DiskState) (a b : AllocatorState P) (f g : FlusherState D) (fault : Option RunFault) → TurnsGoOn D state
     → IsRun choice state a b f g fault → (base : RegisterState) (safe : List Entry) (given : List Taken) → History base (group_after f) safe given → GoesOnTo f g base safe given
 goes_on {D} choice state a b f g fault law (inl refused) base safe given h =
     subst (λ (x : FlusherState D). GoesOnTo f x base safe given) (sym refused.1.1) (law f f None None NoFlush base safe given h)
-goes_on choice state a b f g fault law (inr run) base safe given h = law f g None run.first run.flusher base safe given h
+goes_on choice state a b f g fault law (inr run) base safe given h = law f g None run.0.first run.0.flusher base safe given h
 
 -- a drain after the turns of both parts
 pub have_run : {D P : Type 0} (chooses : P → Choice) (state : D → DiskState) (a b c : AllocatorState P) (f g h : FlusherState D) (first last : Option KeeperFault) (fault : Option RunFault)
     → AllocatorTurns (chooses a.policy) a b → FlusherTurns state f None g first → AllocatorTurns (chooses b.policy) b c → FlusherTurns state g first h last
-    → c.hand ≡ [] → length c.end.sent ≡ length h.end.received → fault ≡ fault_of last → HaveRun (chooses a.policy) state a c f h fault
-have_run {D} {P} chooses state a b c f g h first last fault turns flushes rest drain none all is = record {
+    → c.hand ≡ [] → fault ≡ fault_of last → HaveRun (chooses a.policy) state a c f h fault
+have_run {D} {P} chooses state a b c f g h first last fault turns flushes rest drain none is = record {
   first = last;
   is_first = is;
   allocator = turns_joined (chooses a.policy) a b c turns
       (subst (λ (p : P). AllocatorTurns (chooses p) b c) (same_allocator (chooses a.policy) a b turns).policy rest);
   flusher = flushes_joined state f g h None first last flushes drain;
   nothing_in_hand = none;
-  all_received = all;
 }

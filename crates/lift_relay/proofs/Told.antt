@@ -1,5 +1,5 @@
 -- An allocator that is told what a terminal has asked: what it took stays.
-use Rattle.std.proofs.Common.{◌≡◌, ℕ, zero, suc, ◌+◌, ◌≤◌, List, [], ◌∷◌, ◌++◌, refl, sym, ap, ◌∙◌, subst, arith}
+use Rattle.std.proofs.Common.{◌≡◌, ℕ, zero, suc, ◌+◌, List, [], ◌∷◌, ◌++◌, refl, sym, ap, ◌∙◌, subst, arith}
 use Rattle.atomic_table.specs.Seated.{TableId}
 use Rattle.lift_desk.specs.Seats.{ClerkPlace, IsClerkOf, view_at, clerk_with}
 use Rattle.lift_desk.specs.Steps.{with_told_asks}

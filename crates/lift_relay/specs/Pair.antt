@@ -1,43 +1,33 @@
 -- What both parts do in a run, each on its own thread.
 use Rattle.std.specs.Prelude.{◌≡◌, ◌⊎◌, [], length, Option, Some, None, option_map}
+use Rattle.std.specs.Prelude.{Result, Ok, Err}
 use Rattle.lift_disk.specs.Disk.{DiskState}
 use Rattle.lift_policy.specs.Eligible.{Choice}
 use Rattle.lift_keeper.specs.declared.fault.KeeperFault.{KeeperFault}
-use Rattle.lift_relay.specs.declared.pair.Allocating.{Allocating}
-use Rattle.lift_relay.specs.declared.pair.Allocating.TheVariants.{Idle, Ran}
 use Rattle.lift_relay.specs.declared.pair.RunFault.{RunFault}
 use Rattle.lift_relay.specs.declared.pair.RunFault.TheVariants.{Keeper, Spawn}
-use Rattle.lift_relay.specs.declared.pair.Turned.{Turned}
-use Rattle.lift_relay.specs.declared.pair.Turned.TheVariants.{Refused, Done}
 use Rattle.lift_parts.specs.Turns.{AllocatorTurns, FlusherTurns, IsSameAllocator, IsSameFlusher}
 use Rattle.lift_parts.specs.Allocator.{AllocatorState}
 use Rattle.lift_parts.specs.Flusher.{FlusherState}
 use Rattle.lift_parts.specs.Parts.{AreOfOne}
 
--- the part as it was, or after its turns
-abbrev pub ComesFrom : {P : Type 0} → Choice → AllocatorState P → Allocating P → Type 0
-ComesFrom choice old (Idle now) = now ≡ old
-ComesFrom choice old (Ran now) = AllocatorTurns choice old now
+-- the part after its turns, or as it was
+abbrev pub ComesFrom : {P : Type 0} → Choice → AllocatorState P
+    → Result (AllocatorState P) (AllocatorState P) → Type 0
+ComesFrom choice old (Ok now) = AllocatorTurns choice old now
+ComesFrom choice old (Err now) = now ≡ old
 
--- this, where the part had its turns
-abbrev pub IfRan : {P : Type 0} → Type 0 → Allocating P → Type 0
-IfRan closed (Idle now) = Unit {0}
-IfRan closed (Ran now) = closed
-
--- this, where both parts had theirs
-abbrev pub IfDone : {P : Type 0} → Type 0 → Turned P → Type 0
-IfDone closed (Refused allocator no_thread) = Unit {0}
-IfDone closed (Done allocator first) = closed
-
--- no thread could be made, and both parts are as they were; or each has had its turns
+-- each part has had its turns; or no thread could be made, and both are as they were
 abbrev pub HaveTurned : {D P : Type 0} → Choice → (D → DiskState) → AllocatorState P
-    → FlusherState D → Turned P → FlusherState D → Type 0
-HaveTurned choice state a f (Refused b no_thread) g = (b ≡ a) × (g ≡ f)
-HaveTurned choice state a f (Done b first) g = AllocatorTurns choice a b
-    × FlusherTurns state f None g first
+    → FlusherState D
+    → Result (AllocatorState P × Option KeeperFault) (AllocatorState P × Unit {0})
+    → FlusherState D → Type 0
+HaveTurned choice state a f (Ok ran) g = AllocatorTurns choice a ran.0
+    × FlusherTurns state f None g ran.1
+HaveTurned choice state a f (Err idle) g = (idle.0 ≡ a) × (g ≡ f)
 
--- Each part had its turns, what was in hand then was sent, and all that was sent was received. The
--- fault is the flusher's first, if it had one.
+-- Each part had its turns, and what was in hand then was sent. The fault is the flusher's first, if
+-- it had one.
 pub record HaveRun {D P : Type 0} (choice : Choice) (state : D
     → DiskState) (a b : AllocatorState P) (f g : FlusherState D)
     (fault : Option RunFault) : Type 0 where
@@ -46,7 +36,6 @@ pub record HaveRun {D P : Type 0} (choice : Choice) (state : D
   pub allocator : AllocatorTurns choice a b
   pub flusher : FlusherTurns state f None g first
   pub nothing_in_hand : b.hand ≡ []
-  pub all_received : length b.end.sent ≡ length g.end.received
 
 -- The parts stay what they were: each is where it was and works for what it did, and both are of one.
 -- So they can be joined, or run again.
@@ -55,8 +44,15 @@ pub record AreSameParts {D P : Type 0} (a b : AllocatorState P) (f g : FlusherSt
   pub same_flusher : IsSameFlusher f g
   pub of_one : AreOfOne b g
 
--- No thread could be made, and both parts are as they were; or both have run.
+-- whatever turns parts of one have had, they stay the same parts
+abbrev pub TurnsKeepParts : (D P : Type 0) → (D → DiskState) → Choice → Type 0
+TurnsKeepParts D P state choice = (a b : AllocatorState P) (f g : FlusherState D)
+    (before last : Option KeeperFault) → AllocatorTurns choice a b
+    → FlusherTurns state f before g last → AreOfOne a f → AreSameParts a b f g
+
+-- No thread could be made, and both parts are as they were; or both have run, and as many batches were
+-- received as were sent.
 abbrev pub IsRun : {D P : Type 0} → Choice → (D → DiskState) → AllocatorState P → AllocatorState P
     → FlusherState D → FlusherState D → Option RunFault → Type 0
 IsRun choice state a b f g fault = ((fault ≡ Some (Spawn tt)) × ((b ≡ a) × (g ≡ f)))
-    ⊎ HaveRun choice state a b f g fault
+    ⊎ (HaveRun choice state a b f g fault × (length b.end.sent ≡ length g.end.received))

@@ -40,14 +40,10 @@ opening_view = opening []
 
 -- the pass once the line has begun with this batch
 abbrev pub begun_with : BatchState → EndView
-begun_with first = record {
+begun_with first = record (opening []) {
   begun = true;
   sends = true;
   receives = true;
-  sent = [];
-  received = [];
-  gone = [];
-  known = [];
   building = first.building;
   desk = first.desk;
   ahead = first.before;
@@ -74,14 +70,7 @@ with_both_passes v w = record v {
 
 -- the same, and each end is told where the other stands
 abbrev pub told_both : EndView → EndView → EndView
-told_both v w = record v {
-  receives = true;
-  received = w.received;
-  gone = w.received;
-  known = v.sent;
-  behind = w.behind;
-  next_turns = w.next_turns;
-}
+told_both v w = record (with_both_passes v w) { gone = w.received; known = v.sent }
 
 -- a pass that was taken in by another
 abbrev pub spent_pass : EndView
@@ -131,14 +120,14 @@ pub record IsLineInOrder (items : List BatchState) (views : List EndView) : Type
 abbrev pub IsLineKept : List BatchState → List EndView → Type 0
 IsLineKept items views = (views ≡ opening items ∷ []) ⊎ IsLineInOrder items views
 
--- the first batch is pushed, before the line begins
-abbrev pub Named : EndView → BatchState → EndView → Type 0
-Named v batch w = w ≡ opening (batch ∷ [])
-
--- it is popped, and the line begins with it
+-- a batch is popped, and the line begins with it
 pub record Begun (v : EndView) (batch : BatchState) (w : EndView) : Type 0 where
   pub only : v.sent ≡ batch ∷ []
   pub begins : w ≡ begun_with batch
+
+-- before the line begins, the first batch is pushed, and then popped
+abbrev pub Opened : EndView → BatchState → EndView → Type 0
+Opened v batch w = ((v.sent ≡ []) × (w ≡ opening (batch ∷ []))) ⊎ Begun v batch w
 
 -- one push: the batch comes after fewer than four others
 pub record Sent (v : EndView) (batch : BatchState) (w : EndView) : Type 0 where

@@ -15,10 +15,9 @@ ghost use Rattle.lift_parts.specs.Queued.{Queued};
 
 use crate::batch::Batch;
 use crate::deciding::Scanner;
-use crate::held::HeldClerk;
 use crate::line::{ReceiveEnd, SendEnd};
 use crate::settling::Settler;
-use lift_clerk::Counts;
+use lift_clerk::{Clerk, Counts};
 use lift_decider::Decider;
 use lift_desk::{Desk, Seat, TakeSeat};
 use lift_disk::Disk;
@@ -156,11 +155,12 @@ impl<'d, 'b, P: Policy + Drop> Allocator<'d, 'b, P> {
         (self, receiver, ())
     }
 
-    /// The clerk of this part and of the half of the other that answers, held for the same key.
-    pub(crate) fn join<D: Disk, K>(
+    /// The clerk of this part and of the half of the other that answers, for the key.
+    pub(crate) fn join<D: Disk, K: Drop>(
         self,
         settler: Settler<'d, 'b, D, K>,
-    ) -> HeldClerk<'d, 'b, D, P, K>
+        key: K,
+    ) -> Clerk<'d, 'b, D, P>
         requires desk { settler.desk ≡ self.desk }
         requires answered { OwesNothing settler.seat }
         requires plan { settler.writer.plan ≡ self.plan }
@@ -173,7 +173,7 @@ impl<'d, 'b, P: Policy + Drop> Allocator<'d, 'b, P> {
           policy = self.entry.policy;
         } }
     {
-        self.scanner.join(settler)
+        self.scanner.join(settler, key)
     }
 
     /// Tries once to send the batch that is in hand, if there is one. Whether none is left.

@@ -11,11 +11,10 @@ ghost use Rattle.lift_relay.specs.Scanner.{HasScanned};
 
 use crate::basis::Basis;
 use crate::batch::Batch;
-use crate::held::HeldClerk;
 use crate::line::SendEnd;
 use crate::scan::AheadParts;
 use crate::settling::Settler;
-use lift_clerk::Counts;
+use lift_clerk::{Clerk, Counts};
 use lift_decider::Decider;
 use lift_desk::{Desk, Seat, TakeSeat};
 use lift_disk::Disk;
@@ -133,11 +132,12 @@ impl<'d, 'b, P: Policy + Drop> Scanner<'d, 'b, P> {
         self.desk.len()
     }
 
-    /// The clerk of what it is made of and of the half that answers, held for the same key.
-    pub(crate) fn join<D: Disk, K>(
+    /// The clerk of what it is made of and of the half that answers, for the key.
+    pub(crate) fn join<D: Disk, K: Drop>(
         self,
         settler: Settler<'d, 'b, D, K>,
-    ) -> HeldClerk<'d, 'b, D, P, K>
+        key: K,
+    ) -> Clerk<'d, 'b, D, P>
         requires desk { settler.desk ≡ self.desk }
         requires answered { OwesNothing settler.seat }
         requires plan { settler.writer.plan ≡ self.plan }
@@ -150,6 +150,6 @@ impl<'d, 'b, P: Policy + Drop> Scanner<'d, 'b, P> {
           policy = self.entry.policy;
         } }
     {
-        settler.join(self.parts.seat, self.parts.decider, self.parts.policy)
+        settler.join(self.parts.seat, self.parts.decider, self.parts.policy, key)
     }
 }

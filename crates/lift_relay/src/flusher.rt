@@ -14,12 +14,12 @@ ghost use Rattle.lift_parts.specs.History.{FlushKeeps};
 ghost use Rattle.lift_relay.specs.Heard.{FailureHeard};
 
 use crate::allocator::Allocator;
-use crate::held::HeldClerk;
 use crate::line::ReceiveEnd;
 use crate::places::with_both;
 use crate::relay::Key;
 use crate::settling::Settler;
 use crate::witness::{HeardBy, Witness};
+use lift_clerk::Clerk;
 use lift_desk::{ClerkSeat, Desk, Lender, Seat};
 use lift_disk::Disk;
 use lift_keeper::{KeeperFault, Writer};
@@ -31,8 +31,8 @@ use std::sync::Wait;
 
 /// Makes batches safe in the order in which they were sent, and answers them. Contracts see its
 /// desk's tables, its seats there, its writer and its end of the line. Its own call, which may wait,
-/// has the end of the line alone; the seats and the writer are its settler's. Only who has a `K`
-/// gets back the clerk that it is joined to.
+/// has the end of the line alone; the seats and the writer are its settler's. Only who has a `K` joins
+/// it to a clerk.
 #[derive(Drop)]
 pub struct Flusher<'d, 'b, D: Disk, K = Key> {
     settler: Settler<'d, 'b, D, K>,
@@ -164,11 +164,14 @@ impl<'d, 'b, D: Disk, K> Flusher<'d, 'b, D, K> {
         self.settler.tell_terminal(seat)
     }
 
-    /// The clerk of both parts, held for the same key.
+    /// The clerk of both parts, for the key.
     pub(crate) fn join<P: Policy + Drop>(
         self,
         allocator: Allocator<'d, 'b, P>,
-    ) -> HeldClerk<'d, 'b, D, P, K>
+        key: K,
+    ) -> Clerk<'d, 'b, D, P>
+    where
+        K: Drop,
         requires desk { self.desk ≡ allocator.desk }
         requires answered { OwesNothing self.seat }
         requires plan { self.writer.plan ≡ allocator.plan }
@@ -181,7 +184,7 @@ impl<'d, 'b, D: Disk, K> Flusher<'d, 'b, D, K> {
           policy = allocator.entry.policy;
         } }
     {
-        allocator.join(self.settler)
+        allocator.join(self.settler, key)
     }
 
     /// One turn: receives one batch, makes it safe, then looks once more at each of its commands'

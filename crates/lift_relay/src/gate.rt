@@ -88,19 +88,13 @@ pub(crate) struct Closed<'d, 'b, P: Policy + Drop> {
     allocator: Allocator<'d, 'b, P>,
 }
 
-/// A question to the gate, to be asked once. One comes with an allocator that begins, and one from
-/// telling the gate of each turn.
-#[derive(Drop)]
-pub(crate) struct Question {
-    made: (),
-}
-
 /// A turn of the allocator of which the gate is still to be told.
 pub(crate) struct UntoldTurn {
     sent_before: u64,
 }
 
-/// Evidence that the gate has said to go on, for one turn.
+/// Evidence that the gate has said to go on, for one turn. It is asked where an allocator begins, and
+/// where it was told of a turn.
 #[derive(Drop)]
 pub(crate) struct Yes {
     made: (),
@@ -143,12 +137,14 @@ impl<'d, 'b, P: Policy + Drop> AskingAllocator<'d, 'b, P> {
         AskingAllocator { allocator }
     }
 
-    /// The allocator, to turn in place, and the first question to its gate.
-    pub(crate) fn begin(self) -> (TurningAllocator<'d, 'b, P>, Question)
-        ensures { result.0 ≡ self.entry }
+    /// The allocator, to turn in place, and the gate's first answer.
+    pub(crate) fn begin<G: Gate>(self, gate: &G) -> (TurningAllocator<'d, 'b, P>, Result<Yes, No>)
+        ensures same { result.0 ≡ self.entry }
+        ensures goes { IfOk result.1 (λ _. G.opened gate.now) }
+        ensures closes { IfErr result.1 (λ _. G.closed gate.now) }
     {
         let allocator = self.allocator;
-        (TurningAllocator { allocator }, Question { made: () })
+        (TurningAllocator { allocator }, ask(gate))
     }
 
     /// The allocator, where no thread could be made for it.
@@ -159,17 +155,15 @@ impl<'d, 'b, P: Policy + Drop> AskingAllocator<'d, 'b, P> {
     }
 }
 
-impl Question {
-    /// Asks the gate.
-    pub(crate) fn ask<G: Gate>(self, gate: &G) -> Result<Yes, No>
-        ensures goes { IfOk result (λ _. G.opened gate.now) }
-        ensures closes { IfErr result (λ _. G.closed gate.now) }
-    {
-        if gate.go_on() {
-            Ok(Yes { made: () })
-        } else {
-            Err(No { made: () })
-        }
+// Asks the gate.
+fn ask<G: Gate>(gate: &G) -> Result<Yes, No>
+    ensures goes { IfOk result (λ _. G.opened gate.now) }
+    ensures closes { IfErr result (λ _. G.closed gate.now) }
+{
+    if gate.go_on() {
+        Ok(Yes { made: () })
+    } else {
+        Err(No { made: () })
     }
 }
 
@@ -185,14 +179,21 @@ impl<'d, 'b, P: Policy + Drop> TurningAllocator<'d, 'b, P> {
         UntoldTurn { sent_before }
     }
 
-    /// Tells the gate what the turn did. Of one that sent nothing and has a batch in hand there is
-    /// nothing to tell.
-    pub(crate) fn tell<R: Wait, G: Gate>(&self, rt: &R, turn: UntoldTurn, gate: &G) -> Question
+    /// Tells the gate what the turn did, and asks it again. Of a turn that sent nothing and has a batch
+    /// in hand there is nothing to tell.
+    pub(crate) fn tell<R: Wait, G: Gate>(
+        &self,
+        rt: &R,
+        turn: UntoldTurn,
+        gate: &G,
+    ) -> Result<Yes, No>
         // How many batches were sent, where the turn sent any.
         ensures sent { turn.sent_before < length self.now.end.sent
             → G.knows_sent gate.now (length self.now.end.sent) }
         ensures idle { length self.now.end.sent ≤ turn.sent_before → self.now.hand ≡ []
             → G.knows_allocator_idle gate.now }
+        ensures goes { IfOk result (λ _. G.opened gate.now) }
+        ensures closes { IfErr result (λ _. G.closed gate.now) }
     {
         let UntoldTurn { sent_before } = turn;
         let sent = self.allocator.sent();
@@ -203,7 +204,7 @@ impl<'d, 'b, P: Policy + Drop> TurningAllocator<'d, 'b, P> {
         } else {
             gate.allocator_idles(rt);
         }
-        Question { made: () }
+        ask(gate)
     }
 
     /// The allocator, which turns no more.

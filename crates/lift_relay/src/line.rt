@@ -52,11 +52,16 @@ impl Protocol<Batch, EndView> for InOrder {
     ghost first = { opening_view };
 }
 
+// A batch without commands, which names the building, the desk and the first state, goes through.
+impl Outcome<Batch, EndView> for InOrder {
+    ghost use Rattle.lift_relay.specs.Rule.{Opened};
+
+    ghost then = { Opened };
+}
+
 // The first pass sends, and the new one receives. Before they part, the first learns what the queue
 // holds.
-struct Ends;
-
-impl Split<EndView> for Ends {
+impl Split<EndView> for InOrder {
     ghost use Rattle.lift_relay.specs.Rule.{sending, receiving};
 
     ghost left = { sending };
@@ -64,80 +69,19 @@ impl Split<EndView> for Ends {
     ghost right = { receiving };
 }
 
-impl Lesson<Batch, EndView> for Ends {
+impl Lesson<Batch, EndView> for InOrder {
     ghost use Rattle.lift_relay.specs.Rule.{HoldsUnreceived};
 
     ghost fact = { HoldsUnreceived };
 }
 
 // The sending pass takes in the receiving one.
-struct Together;
-
-impl Join<EndView> for Together {
+impl Join<EndView> for InOrder {
     ghost use Rattle.lift_relay.specs.Rule.{with_both_passes, spent_pass};
 
     ghost both = { with_both_passes };
 
     ghost spent = { spent_pass };
-}
-
-// The same, and each learns where the other stands.
-struct EndsTold;
-
-impl Join<EndView> for EndsTold {
-    ghost use Rattle.lift_relay.specs.Rule.{told_both, spent_pass};
-
-    ghost both = { told_both };
-
-    ghost spent = { spent_pass };
-}
-
-// A batch without commands names the building, the desk and the first state.
-struct FirstBatch;
-
-impl Outcome<Batch, EndView> for FirstBatch {
-    ghost use Rattle.lift_relay.specs.Rule.{Named};
-
-    ghost then = { Named };
-}
-
-// The line has begun there.
-struct LineStart;
-
-impl Outcome<Batch, EndView> for LineStart {
-    ghost use Rattle.lift_relay.specs.Rule.{Begun};
-
-    ghost then = { Begun };
-}
-
-// A batch joins at the back; where it does not, the sender learns what the queue holds.
-struct Sends;
-
-impl Outcome<Batch, EndView> for Sends {
-    ghost use Rattle.lift_relay.specs.Rule.{Sent};
-
-    ghost then = { Sent };
-}
-
-impl Lesson<Batch, EndView> for Sends {
-    ghost use Rattle.lift_relay.specs.Rule.{SentAllBut};
-
-    ghost fact = { SentAllBut };
-}
-
-// A batch leaves at the front; where none does, the receiver learns what the queue holds.
-struct Receives;
-
-impl Outcome<Batch, EndView> for Receives {
-    ghost use Rattle.lift_relay.specs.Rule.{Received};
-
-    ghost then = { Received };
-}
-
-impl Lesson<Batch, EndView> for Receives {
-    ghost use Rattle.lift_relay.specs.Rule.{ReceivedBefore};
-
-    ghost fact = { ReceivedBefore };
 }
 
 type LineSide = Side<RuledArrayQueue<Batch, EndView, InOrder>, Pass<Batch, EndView>>;
@@ -161,6 +105,28 @@ impl Model for SendEnd {
     ghost invariant = { IsSendEnd };
 }
 
+// A batch joins at the back; where it does not, the sender learns what the queue holds.
+impl Outcome<Batch, EndView> for SendEnd {
+    ghost use Rattle.lift_relay.specs.Rule.{Sent};
+
+    ghost then = { Sent };
+}
+
+impl Lesson<Batch, EndView> for SendEnd {
+    ghost use Rattle.lift_relay.specs.Rule.{SentAllBut};
+
+    ghost fact = { SentAllBut };
+}
+
+// It takes in the other end, and each learns where the other stands.
+impl Join<EndView> for SendEnd {
+    ghost use Rattle.lift_relay.specs.Rule.{told_both, spent_pass};
+
+    ghost both = { told_both };
+
+    ghost spent = { spent_pass };
+}
+
 /// The flusher's end. Contracts see which line it is of, what was received, and where that leads.
 #[derive(Drop)]
 pub struct ReceiveEnd {
@@ -180,18 +146,31 @@ impl Model for ReceiveEnd {
     ghost invariant = { IsReceiveEnd };
 }
 
+// A batch leaves at the front; where none does, the receiver learns what the queue holds.
+impl Outcome<Batch, EndView> for ReceiveEnd {
+    ghost use Rattle.lift_relay.specs.Rule.{Received};
+
+    ghost then = { Received };
+}
+
+impl Lesson<Batch, EndView> for ReceiveEnd {
+    ghost use Rattle.lift_relay.specs.Rule.{ReceivedBefore};
+
+    ghost fact = { ReceivedBefore };
+}
+
 /// A line of four batches, which goes on from the state and the turns, for the building and the
 /// desk, that this batch names. The batch itself isn't sent. An error comes where a growth was
 /// refused; that none comes otherwise isn't proved (`passed_queue`).
 pub fn new_line(alloc: Global, first: Batch) -> Result<(SendEnd, ReceiveEnd), Memory>
     ensures { IfOk result (λ ends. IsLine first ends.0 ends.1) }
 {
-    let (queue, mut pass) = passed_queue::<Batch, EndView, InOrder, FirstBatch, LineStart>(
+    let (queue, mut pass) = passed_queue::<Batch, EndView, InOrder, InOrder, InOrder>(
         alloc,
         MOST_BATCHES,
         first,
     )?;
-    let other = queue.another::<Ends>(&mut pass);
+    let other = queue.another::<InOrder>(&mut pass);
     let (line, theirs) = two_owners(alloc, queue)?;
     Ok((
         SendEnd {
@@ -215,7 +194,7 @@ impl SendEnd {
         ensures { MatchResult result (λ _. SendsOne self.old batch self.new) (λ back.
             (back ≡ batch) × FindsNoRoom self.old self.new) }
     {
-        self.side.push::<Batch, Sends, R>(rt, batch)?;
+        self.side.push::<Batch, SendEnd, R>(rt, batch)?;
         self.count += 1;
         Ok(())
     }
@@ -237,7 +216,7 @@ impl SendEnd {
         ensures queued { Queued self.new result }
     {
         let ReceiveEnd { side, count } = receiver;
-        let met = self.side.meet::<Together, Ends>(side);
+        let met = self.side.meet::<InOrder, InOrder>(side);
         ReceiveEnd { side: met, count }
     }
 
@@ -254,7 +233,7 @@ impl SendEnd {
             side: theirs,
             count,
         } = receiver;
-        let told = self.side.meet::<EndsTold, Ends>(theirs);
+        let told = self.side.meet::<SendEnd, InOrder>(theirs);
         ReceiveEnd { side: told, count }
     }
 }
@@ -266,7 +245,7 @@ impl ReceiveEnd {
         ensures { MatchOption result (FindsNone self.old self.new) (λ batch.
             ReceivesOne self.old batch self.new) }
     {
-        let batch = self.side.pop::<Batch, Receives, R>(rt)?;
+        let batch = self.side.pop::<Batch, ReceiveEnd, R>(rt)?;
         self.count += 1;
         Some(batch)
     }

@@ -1,7 +1,7 @@
 //! Both parts on two threads.
 
 ghost use Rattle.std.specs.Prelude.{◌≡◌, ◌≢◌, ◌<◌, ◌≤◌, List, [], length, true, false, Some, None};
-ghost use Rattle.std.specs.Prelude.{Result};
+ghost use Rattle.std.specs.Prelude.{Result, IfOk};
 ghost use Rattle.lift_base.specs.declared.history.Entry.{Entry};
 ghost use Rattle.lift_register.specs.Register.{RegisterState};
 ghost use Rattle.lift_keeper.specs.declared.fault.KeeperFault.{KeeperFault};
@@ -11,8 +11,7 @@ ghost use Rattle.lift_parts.specs.Queued.{Queued};
 ghost use Rattle.lift_parts.specs.Parts.{AreOfOne};
 ghost use Rattle.lift_parts.specs.Turns.{AllocatorTurns, FlusherTurns, IsFlush, IsSending};
 ghost use Rattle.lift_parts.specs.Turns.{first_of};
-ghost use Rattle.lift_relay.specs.Pair.{ComesFrom};
-ghost use Rattle.lift_relay.specs.Pair.{HaveTurned, IfDone, IfRan, IsRun, HaveRun, AreSameParts};
+ghost use Rattle.lift_relay.specs.Pair.{ComesFrom, HaveTurned, IsRun, HaveRun, AreSameParts};
 ghost use Rattle.lift_relay.specs.Heard.{FailureHeard};
 ghost use Rattle.lift_clerk.specs.History.{History};
 ghost use Rattle.lift_parts.specs.History.{GoesOnTo, group_after};
@@ -22,6 +21,7 @@ use crate::flusher::Flusher;
 use crate::gate::{AskingAllocator, Closed, Gate};
 use crate::places::with_both;
 use crate::refused::{NoThread, spawn};
+use crate::tie::turns_keep_parts;
 use crate::witness::{HeardBy, Witness};
 use lift_disk::Disk;
 use lift_keeper::KeeperFault;
@@ -51,14 +51,14 @@ fn allocate<'d, 'b, R: Wait, G: Gate, P: Policy + Drop>(
     ensures turns { AllocatorTurns (P.chooses allocator.entry.policy) allocator.entry result }
     ensures closed { G.closed gate.now }
 {
-    let (mut turning, mut question) = allocator.begin();
+    let (mut turning, mut answer) = allocator.begin(gate);
     for _ in rt.forever() {
-        let yes = match question.ask(gate) {
+        let yes = match answer {
             Ok(yes) => yes,
             Err(no) => return turning.closed(no),
         };
         let turn = turning.turn(rt, yes);
-        question = turning.tell(rt, turn, gate);
+        answer = turning.tell(rt, turn, gate);
     }
     unreachable!()
 }
@@ -156,12 +156,8 @@ fn drain<R: Wait, D: Disk, P: Policy + Drop, K: HeardBy<V>, V: Witness>(
     first
 }
 
-/// What the allocating thread gives back: the part as it was, or after its turns.
-#[derive(Drop)]
-enum Allocating<'d, 'b, P: Policy + Drop> {
-    Idle(AskingAllocator<'d, 'b, P>),
-    Ran(Closed<'d, 'b, P>),
-}
+/// What the allocating thread gives back: the part after its turns, or as it was.
+type Allocating<'d, 'b, P> = Result<Closed<'d, 'b, P>, AskingAllocator<'d, 'b, P>>;
 
 #[derive(Drop)]
 struct OfPart<'d, 'b, P: Policy + Drop>(Snapshot<AskingAllocator<'d, 'b, P>>);
@@ -172,30 +168,12 @@ impl<'d, 'b, P: Policy + Drop> Promise<Allocating<'d, 'b, P>> for OfPart<'d, 'b,
     ghost kept_by = { λ p r. ComesFrom (P.chooses p.0.value.policy) p.0.value r };
 }
 
-/// Turns while the gate goes on, if it may run at all.
-fn allocate_if<'d, 'b, R: Wait, G: Gate, P: Policy + Drop>(
-    rt: &R,
-    may_run: &AtomicBool,
-    allocator: AskingAllocator<'d, 'b, P>,
-    gate: &G,
-) -> Allocating<'d, 'b, P>
-    ensures comes { ComesFrom (P.chooses allocator.entry.policy) allocator.entry result }
-    ensures closed { IfRan (G.closed gate.now) result }
-{
-    if !may_run.load(Ordering::SeqCst) {
-        return Allocating::Idle(allocator);
-    }
-    Allocating::Ran(allocate(rt, allocator, gate))
-}
-
-/// Whether both parts had their turns, and the allocator.
-#[derive(Drop)]
-enum Turned<'d, 'b, P: Policy + Drop> {
-    /// No thread could be made.
-    Refused(AskingAllocator<'d, 'b, P>, NoThread),
-    /// They had, and this is the flusher's first fault.
-    Done(Closed<'d, 'b, P>, Option<KeeperFault>),
-}
+/// The allocator after the turns of both parts, with the flusher's first fault; or as it was, where no
+/// thread could be made.
+type Turned<'d, 'b, P> = Result<
+    (Closed<'d, 'b, P>, Option<KeeperFault>),
+    (AskingAllocator<'d, 'b, P>, NoThread),
+>;
 
 /// Both parts after their turns on two threads. Where no thread could be made, they are as they
 /// were.
@@ -217,7 +195,7 @@ where
         flusher.entry result.0 result.1 }
     ensures heard { FailureHeard V.hears
         flusher.entry.writer.is_broken result.1.writer.is_broken witness result.2 }
-    ensures closed { IfDone (G.closed gate.now) result.0 }
+    ensures closed { IfOk result.0 (λ _. G.closed gate.now) }
 {
     let may_run = AtomicBool::new(true);
     let flag = &may_run;
@@ -229,24 +207,28 @@ where
                 allocator.entry flusher.entry result.0 result.1 }
             ensures heard { FailureHeard V.hears
                 flusher.entry.writer.is_broken result.1.writer.is_broken witness result.2 }
-            ensures closed { IfDone (G.closed gate.entry.now) result.0 }
+            ensures closed { IfOk result.0 (λ _. G.closed gate.entry.now) }
         {
             let promise = OfPart(Snapshot::of(&allocator));
             let work = move || -> Allocating<P>
                 ensures comes { ComesFrom (P.chooses allocator.entry.policy) allocator.entry result }
-                ensures closed { IfRan (G.closed gate.entry.now) result }
-            { allocate_if(rt, flag, allocator, gate) };
+                ensures closed { IfOk result (λ _. G.closed gate.entry.now) }
+            {
+                if flag.load(Ordering::SeqCst) {
+                    Ok(allocate(rt, allocator, gate))
+                } else {
+                    Err(allocator)
+                }
+            };
             match spawn(scope, promise, work) {
                 Ok((child, begun)) => {
                     gate.both_run(begun);
                     let first = flush(rt, &mut flusher, gate, &mut witness);
                     match child.join(rt) {
-                        Allocating::Idle(allocator) => {
-                            let allocator = allocate(rt, allocator, gate);
-                            (Turned::Done(allocator, first), flusher, witness)
-                        }
-                        Allocating::Ran(allocator) => {
-                            (Turned::Done(allocator, first), flusher, witness)
+                        Ok(ran) => (Ok((ran, first)), flusher, witness),
+                        Err(idle) => {
+                            let ran = allocate(rt, idle, gate);
+                            (Ok((ran, first)), flusher, witness)
                         }
                     }
                 }
@@ -254,13 +236,9 @@ where
                     // The closure alone has the allocator, and hands it back unturned.
                     flag.store(false, Ordering::SeqCst);
                     match unmade() {
-                        Allocating::Idle(allocator) => {
-                            (Turned::Refused(allocator, no_thread), flusher, witness)
-                        }
                         // (never: the flag is down, so it has not run; its gate was told nothing)
-                        Allocating::Ran(allocator) => {
-                            (Turned::Done(allocator, None), flusher, witness)
-                        }
+                        Ok(ran) => (Ok((ran, None)), flusher, witness),
+                        Err(idle) => (Err((idle, no_thread)), flusher, witness),
                     }
                 }
             }
@@ -295,11 +273,11 @@ where
 {
     let (turned, mut flusher, mut witness) = turn_both(rt, allocator, flusher, gate, witness);
     match turned {
-        Turned::Refused(allocator, no_thread) => {
+        Err((allocator, no_thread)) => {
             let fault = Some(RunFault::Spawn(no_thread));
             (allocator.back(no_thread), flusher, (witness, fault))
         }
-        Turned::Done(mut allocator, first) => {
+        Ok((mut allocator, first)) => {
             let fault = match drain(rt, &mut allocator, &mut flusher, first, &mut witness) {
                 Some(fault) => Some(RunFault::Keeper(fault)),
                 None => None,
@@ -362,6 +340,7 @@ where
         → GoesOnTo flusher.old flusher.new base safe given }
 {
     flushes_are_steps::<D>();
+    turns_keep_parts::<D, P>();
     let told = with_both(
         allocator,
         flusher,

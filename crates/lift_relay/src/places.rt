@@ -4,24 +4,16 @@ ghost use Rattle.std.specs.Prelude.{◌≡◌};
 
 use core::mem::replace_with;
 
-/// A place, and the work to be done on what lies there.
-#[derive(Drop)]
-struct Lent<'x, B, W> {
-    place: &'x mut B,
-    work: W,
-}
-
-/// Does the work on a value and on the one that lies in a place.
+/// Does the work on a value and on the one that lies in a place, which is lent for it.
 fn work_at<'x, A, B, R, W: FnOnce(A, B) -> (A, B, R)>(
     a: A,
-    lent: Lent<'x, B, W>,
+    lent: (&'x mut B, W),
 ) -> (A, (&'x mut B, R))
-    requires { W.pre lent.work a lent.place.now }
-    ensures done { W.post lent.entry.work a lent.entry.place.now
-        (result.0, result.1.0.now, result.1.1) }
-    ensures same { result.1.0.ghost_name ≡ lent.entry.place.ghost_name }
+    requires { W.pre lent.1 a lent.0.now }
+    ensures done { W.post lent.entry.1 a lent.entry.0.now (result.0, result.1.0.now, result.1.1) }
+    ensures same { result.1.0.ghost_name ≡ lent.entry.0.ghost_name }
 {
-    let Lent { place, work } = lent;
+    let (place, work) = lent;
     let (a, answer) = replace_with(
         place,
         (a, work),
@@ -50,12 +42,12 @@ pub fn with_both<A, B, R, W: FnOnce(A, B) -> (A, B, R)>(a: &mut A, b: &mut B, wo
 {
     let (b, answer) = replace_with(
         a,
-        Lent { place: b, work },
-        |a: A, lent: Lent<B, W>| -> (A, (&mut B, R))
-            requires { W.pre lent.work a lent.place.now }
-            ensures done { W.post lent.entry.work a lent.entry.place.now
+        (b, work),
+        |a: A, lent: (&mut B, W)| -> (A, (&mut B, R))
+            requires { W.pre lent.1 a lent.0.now }
+            ensures done { W.post lent.entry.1 a lent.entry.0.now
                 (result.0, result.1.0.now, result.1.1) }
-            ensures same { result.1.0.ghost_name ≡ lent.entry.place.ghost_name }
+            ensures same { result.1.0.ghost_name ≡ lent.entry.0.ghost_name }
         { work_at(a, lent) },
     );
     take_back(b);

@@ -5,39 +5,33 @@ ghost use Rattle.std.specs.Prelude.{◌≡◌, List};
 ghost use Rattle.crossbeam_queue.specs.Fifo.{Pushes, Pops, Learns, Held, Merges, Forks};
 ghost use Rattle.crossbeam_queue.specs.Passes.{view, IsSamePass, IsPassOf, ruled_capacity};
 
-use crate::side::{MetBy, PoppedBy, PushedBy};
+use crate::side::{MetBy, TriedBy};
 use crossbeam_queue::protocol::{Join, Lesson, Outcome, Protocol, Split};
 use crossbeam_queue::{Pass, RuledArrayQueue};
 use std::sync::Wait;
 
-impl<T, V, P: Protocol<T, V>, M: Outcome<T, V> + Lesson<T, V>> PushedBy<Pass<T, V>, T, M>
+impl<T, V, P: Protocol<T, V>, M: Outcome<T, V> + Lesson<T, V>> TriedBy<Pass<T, V>, T, M>
     for RuledArrayQueue<T, V, P> {
     ghost may_push = { λ queue pass item. IsPassOf queue pass
         × Pushes P.holds (ruled_capacity queue) pass.id (view pass) item (M.then (view pass) item)
         × Learns P.holds pass.id (view pass) (M.fact (view pass)) };
 
-    ghost pushed = { λ queue old item new. IsSamePass old new × M.then (view old) item (view new) };
-
-    // At one moment of the try it was full.
-    ghost was_full = { λ queue old new. IsSamePass old new × (view new ≡ view old)
-        × Held (ruled_capacity queue) (M.fact (view old)) };
-
-    fn push_by<R: Wait>(&self, rt: &R, pass: &mut Pass<T, V>, item: T) -> Result<(), T> {
-        self.push_as::<M, R>(rt, pass, item)
-    }
-}
-
-impl<T, V, P: Protocol<T, V>, M: Outcome<T, V> + Lesson<T, V>> PoppedBy<Pass<T, V>, T, M>
-    for RuledArrayQueue<T, V, P> {
     ghost may_pop = { λ queue pass. IsPassOf queue pass
         × Pops P.holds pass.id (view pass) (M.then (view pass))
         × Learns P.holds pass.id (view pass) (M.fact (view pass)) };
 
-    ghost popped = { λ queue old item new. IsSamePass old new × M.then (view old) item (view new) };
+    ghost went = { λ queue old item new. IsSamePass old new × M.then (view old) item (view new) };
 
-    // At one moment of the try it was empty.
+    // At one moment of the try it was full, or empty.
+    ghost was_full = { λ queue old new. IsSamePass old new × (view new ≡ view old)
+        × Held (ruled_capacity queue) (M.fact (view old)) };
+
     ghost was_empty = { λ queue old new. IsSamePass old new × (view new ≡ view old)
         × Held 0 (M.fact (view old)) };
+
+    fn push_by<R: Wait>(&self, rt: &R, pass: &mut Pass<T, V>, item: T) -> Result<(), T> {
+        self.push_as::<M, R>(rt, pass, item)
+    }
 
     fn pop_by<R: Wait>(&self, rt: &R, pass: &mut Pass<T, V>) -> Option<T> {
         self.pop_as::<M, R>(rt, pass)

@@ -13,7 +13,6 @@ ghost use Rattle.lift_relay.specs.Heard.{FailureHeard};
 ghost use Rattle.lift_relay.specs.Settler.{AreDue, SettlesBatch};
 
 use crate::batch::Batch;
-use crate::held::HeldClerk;
 use crate::witness::{HeardBy, Witness, tell_of};
 use arrayvec::ArrayVec;
 use lift_base::{MOST_ENTRIES, Terminal};
@@ -30,7 +29,7 @@ use std::marker::{Model, PhantomData};
 /// Makes batches safe and answers them. No call of it waits: so what it ensures holds, and no answer
 /// stands before its batch is safe, whatever a thread does that has it; and none but Unknown is stored
 /// without the evidence of a commit. The seats and the writer are reached by its calls alone, and after
-/// them by those of the clerk that it is joined to, which only who has a `K` gets back.
+/// them by those of the clerk that it is joined to, for a `K`.
 #[derive(Drop)]
 pub struct Settler<'d, 'b, D: Disk, K> {
     desk: &'d Desk,
@@ -237,13 +236,16 @@ impl<'d, 'b, D: Disk, K> Settler<'d, 'b, D, K> {
         writer
     }
 
-    /// The clerk of this half, of the seats ahead of it, and of what decides, held for the same key.
+    /// The clerk of this half, of the seats ahead of it, and of what decides, for the key.
     pub(crate) fn join<P: Policy + Drop>(
         self,
         ahead: TakeSeat,
         decider: Decider<'b>,
         policy: P,
-    ) -> HeldClerk<'d, 'b, D, P, K>
+        _key: K,
+    ) -> Clerk<'d, 'b, D, P>
+    where
+        K: Drop,
         requires seated { IsClerkOf self.desk ahead }
         requires answered { OwesNothing self.seat }
         requires plan { decider.plan ≡ self.writer.plan }
@@ -264,6 +266,6 @@ impl<'d, 'b, D: Disk, K> Settler<'d, 'b, D, K> {
             key: _,
         } = self;
         let seat = desk.join(ahead, seat.into_seat());
-        HeldClerk::new(Clerk::new(desk, seat, Keeper::whole(decider, writer), policy))
+        Clerk::new(desk, seat, Keeper::whole(decider, writer), policy)
     }
 }

@@ -11,40 +11,32 @@ ghost use Rattle.lift_parts.specs.Line.{tried, no_tries};
 use std::marker::Model;
 use std::sync::{Arc, Wait};
 
-/// What takes items in, by passes `S`. `M` says what a push comes to.
-pub trait PushedBy<S, T, M> {
-    // A push may be tried.
+/// What takes items in and gives them out, by passes `S`. `M` says what a try comes to.
+pub trait TriedBy<S, T, M> {
+    // A push, or a pop, may be tried.
     ghost may_push: { Self → S → T → Type 0 };
 
-    // It went through: of the pass before it and after it.
-    ghost pushed: { Self → S → T → S → Type 0 };
+    ghost may_pop: { Self → S → Type 0 };
 
-    // It was refused.
+    // This item went through: of the pass before it and after it.
+    ghost went: { Self → S → T → S → Type 0 };
+
+    // A push was refused, or a pop.
     ghost was_full: { Self → S → S → Type 0 };
+
+    ghost was_empty: { Self → S → S → Type 0 };
 
     /// Tries once to push an item, which else comes back.
     fn push_by<R: Wait>(&self, rt: &R, pass: &mut S, item: T) -> Result<(), T>
         requires { may_push self.now pass.old item }
-        ensures { MatchResult result (λ _. pushed self.now pass.old item pass.new)
+        ensures { MatchResult result (λ _. went self.now pass.old item pass.new)
             (λ back. (back ≡ item) × was_full self.now pass.old pass.new) };
-}
-
-/// What gives items out, by passes `S`. `M` says what a pop comes to.
-pub trait PoppedBy<S, T, M> {
-    // A pop may be tried.
-    ghost may_pop: { Self → S → Type 0 };
-
-    // It gave this item: of the pass before it and after it.
-    ghost popped: { Self → S → T → S → Type 0 };
-
-    // It gave none.
-    ghost was_empty: { Self → S → S → Type 0 };
 
     /// Tries once to pop an item.
     fn pop_by<R: Wait>(&self, rt: &R, pass: &mut S) -> Option<T>
         requires { may_pop self.now pass.old }
         ensures { MatchOption result (was_empty self.now pass.old pass.new)
-            (λ item. popped self.now pass.old item pass.new) };
+            (λ item. went self.now pass.old item pass.new) };
 }
 
 /// Whose passes may meet, by `J`, and part again, by `K`.
@@ -98,11 +90,11 @@ impl<Q, S> Side<Q, S> {
     /// Tries once to push an item.
     pub fn push<T, M, R: Wait>(&mut self, rt: &R, item: T) -> Result<(), T>
     where
-        Q: PushedBy<S, T, M>,
+        Q: TriedBy<S, T, M>,
         requires { Q.may_push self.old.line self.old.pass item }
         ensures line { self.new.line ≡ self.old.line }
         ensures pushed { MatchResult result
-            (λ _. Q.pushed self.old.line self.old.pass item self.new.pass
+            (λ _. Q.went self.old.line self.old.pass item self.new.pass
             × (self.new.tries ≡ tried self.old.tries false))
             (λ back. (back ≡ item) × Q.was_full self.old.line self.old.pass self.new.pass
             × (self.new.tries ≡ tried self.old.tries true)) }
@@ -123,13 +115,13 @@ impl<Q, S> Side<Q, S> {
     /// Tries once to pop an item.
     pub fn pop<T, M, R: Wait>(&mut self, rt: &R) -> Option<T>
     where
-        Q: PoppedBy<S, T, M>,
+        Q: TriedBy<S, T, M>,
         requires { Q.may_pop self.old.line self.old.pass }
         ensures line { self.new.line ≡ self.old.line }
         ensures popped { MatchOption result
             (Q.was_empty self.old.line self.old.pass self.new.pass
             × (self.new.tries ≡ tried self.old.tries true))
-            (λ item. Q.popped self.old.line self.old.pass item self.new.pass
+            (λ item. Q.went self.old.line self.old.pass item self.new.pass
             × (self.new.tries ≡ tried self.old.tries false)) }
     {
         self.odd = !self.odd;

@@ -1,4 +1,4 @@
-//! A flusher's turn as the machine of events takes it.
+//! A flusher's turn as the machine of events takes it, and what turns of both parts keep.
 
 ghost use Rattle.std.specs.Prelude.{◌≡◌, ◌⊎◌, List, Ok, Err, IfOk};
 ghost use Rattle.lift_base.specs.declared.history.Entry.{Entry};
@@ -13,6 +13,7 @@ ghost use Rattle.lift_parts.specs.Turns.{IsFlush};
 ghost use Rattle.lift_parts.specs.History.{group_after};
 ghost use Rattle.lift_parts.specs.Past.{FlushLeadsOn};
 ghost use Rattle.lift_relay.specs.Heard.{FailureHeard};
+ghost use Rattle.lift_relay.specs.Pair.{TurnsKeepParts};
 
 use crate::flusher::Flusher;
 use crate::witness::{HeardBy, Witness};
@@ -20,6 +21,7 @@ use lift_disk::Disk;
 use lift_journal::JournalFault;
 use lift_keeper::KeeperFault;
 use lift_parts::{FlushCounts, flushes_are_steps};
+use lift_policy::Policy;
 use std::sync::Wait;
 
 /// One turn of the flusher, with what it gives for the machine's turns.
@@ -48,3 +50,9 @@ pub fn turn_flusher_once<R: Wait, D: Disk, K: HeardBy<V>, V: Witness>(
     flushes_are_steps::<D>();
     flusher.turn(rt, witness)
 }
+
+/// Whatever turns both parts have had, each is where it was and works for what it did. So parts that
+/// come of one split still do: they can be joined, told or run.
+pub fn turns_keep_parts<D: Disk, P: Policy>()
+    ensures { (policy : P) → TurnsKeepParts D P D.state (P.chooses policy) }
+{}

@@ -20,7 +20,6 @@ use Rattle.lift_parts.specs.declared.counts.FlushCounts.{FlushCounts}
 use Rattle.lift_parts.specs.Flusher.{FlusherState}
 use Rattle.lift_parts.specs.Keeping.{HaveKept, TurnsKeep}
 use Rattle.lift_parts.specs.History.{group_after}
-use Rattle.lift_parts.specs.Parts.{AreOfOne}
 use Rattle.lift_parts.specs.Turns.{FlusherTurns, IsFlush, NoFlush, OneFlush, first_of}
 use Rattle.lift_serve.specs.declared.serving.ServeFault.{ServeFault}
 use Rattle.lift_serve.specs.declared.serving.ServeFault.TheVariants.{Thread}
@@ -89,17 +88,12 @@ serving_keeps {D} choice state law a b f began g fault same run =
     subst (λ (x : FlusherState D). ServingKeeps state x g) same (λ base safe given history. kept_on choice state law a b began g base safe given history fault run)
 
 -- parts that no thread could be made for are as they were
-pub not_run : {D P : Type 0} (choice : Choice) (state : D → DiskState) (a : AllocatorState P) (f : FlusherState D) → AreOfOne a f → HaveRunOrNot choice state a a f f (Some (Spawn tt))
-not_run choice state a f of_one = record {
+pub not_run : {D P : Type 0} (choice : Choice) (state : D → DiskState) (a : AllocatorState P) (f : FlusherState D) → HaveRunOrNot choice state a a f f (Some (Spawn tt))
+not_run choice state a f = record {
   refused = λ spawn. (refl, refl);
   ran = λ other. absurd (other refl);
   received = λ other. absurd (other refl);
   broken = λ of is. absurd (not_spawn of (sym is));
-  stay = record {
-    same_allocator = record { line = refl; desk = refl; plan = refl; policy = refl; start = refl };
-    same_flusher = record { line = refl; desk = refl; plan = refl; half = refl; failures_at_opening = refl };
-    of_one = of_one;
-  };
 }
 
 -- a crash leaves what a keeper says is safe, or that with what is in doubt

@@ -14,7 +14,7 @@ use Rattle.lift_parts.specs.Allocator.{AllocatorState}
 use Rattle.lift_parts.specs.Flusher.{FlusherState}
 use Rattle.lift_parts.specs.History.{group_after}
 use Rattle.lift_parts.specs.Keeping.{HaveKept}
-use Rattle.lift_relay.specs.Pair.{HaveRun, AreSameParts}
+use Rattle.lift_relay.specs.Pair.{HaveRun}
 use Rattle.lift_serve.specs.declared.serving.ServeFault.{ServeFault}
 use Rattle.lift_serve.specs.declared.serving.ServeFault.TheVariants.{Thread}
 
@@ -27,7 +27,6 @@ pub record HaveRunOrNot {D P : Type 0} (choice : Choice) (state : D
   pub ran : fault ≢ Some (Spawn tt) → HaveRun choice state a b f g fault
   pub received : fault ≢ Some (Spawn tt) → b.end.sent ≡ g.end.received
   pub broken : (of : KeeperFault) → fault ≡ Some (Keeper of) → g.writer.is_broken ≡ true
-  pub stay : AreSameParts a b f g
 
 -- whether a turn of the flusher failed
 abbrev pub has_failed : Option RunFault → Bool

@@ -6,8 +6,9 @@ use Rattle.lift_relay.proofs.pair.allocate.Goals as goal
 
 pub loop-init : goal.loop-init
 loop-init g c = record {
-  turns = subst (λ (a : AllocatorState g.row.P.Denot). AllocatorTurns (g.P.Policy.chooses c.args.allocator.policy) c.args.allocator a) (sym c.begin-turning.ensures) NoMore;
-  policy = ap (λ (a : AllocatorState g.row.P.Denot). a.policy) c.begin-turning.ensures;
+  turns = subst (λ (a : AllocatorState g.row.P.Denot). AllocatorTurns (g.P.Policy.chooses c.args.allocator.policy) c.args.allocator a) (sym c.begin-turning.ensures.same) NoMore;
+  policy = ap (λ (a : AllocatorState g.row.P.Denot). a.policy) c.begin-turning.ensures.same;
+  closes = c.begin-turning.ensures.closes;
 }
 
 pub loop-preserved : goal.loop-preserved
@@ -19,4 +20,5 @@ loop-preserved g c =
     record {
       turns = turns_more chooses c.args.allocator c.loop.turning c.turn-turn.new.self counts i.policy i.turns turn;
       policy = same_policy (chooses c.loop.turning.policy) c.loop.turning c.turn-turn.new.self counts turn ∙ i.policy;
+      closes = c.tell-answer.ensures.closes;
     }

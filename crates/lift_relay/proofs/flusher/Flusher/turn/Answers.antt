@@ -1,4 +1,4 @@
-use Rattle.std.proofs.Common.{◌≡◌, true, ℕ, List, sym, ap, ◌∙◌, subst}
+use Rattle.std.proofs.Common.{true, ℕ, List, sym, ap, ◌∙◌, subst}
 use Rattle.lift_policy.specs.Step.{State}
 use Rattle.lift_keeper.specs.Calls.{CommitCalls}
 use Rattle.lift_parts.specs.Flusher.{FlusherState, AllAnsweredBy}

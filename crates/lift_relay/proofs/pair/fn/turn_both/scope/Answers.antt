@@ -13,31 +13,31 @@ use Rattle.lift_relay.specs.lemmas.Heard.{heard_none}
 use Rattle.lift_relay.proofs.Crosses.{asking_send, allocating_send}
 use Rattle.lift_relay.proofs.pair.fn.turn_both.scope.Goals as goal
 
-pub returns-in-Idle : goal.returns-in-Idle
-returns-in-Idle g c =
+pub returns-in-Err-join : goal.returns-in-Err-join
+returns-in-Err-join g c =
     let kept : c.in-Ok.child.promise.0.value ≡ c.captures.allocator = search rules in
     record {
       turned = (
-        subst (λ (a : AllocatorState g.row.P.Denot). AllocatorTurns (g.P.Policy.chooses a.policy) a c.allocate-allocator.result) (c.in-Idle.ensures ∙ kept) c.allocate-allocator.ensures.turns,
+        subst (λ (a : AllocatorState g.row.P.Denot). AllocatorTurns (g.P.Policy.chooses a.policy) a c.allocate-ran.result) (c.in-Err-join.ensures ∙ kept) c.allocate-ran.ensures.turns,
         c.flush-first.ensures.turns,
       );
       heard = c.flush-first.ensures.heard;
       closed = c.flush-first.ensures.closed;
     }
 
-pub returns-in-Idle-2 : goal.returns-in-Idle-2
-returns-in-Idle-2 g c =
+pub returns-in-Err-2 : goal.returns-in-Err-2
+returns-in-Err-2 g c =
     let back : c.in-Err.unmade.2 ≡ c.captures.allocator = search rules in
-    record { turned = (c.in-Idle-2.ensures.comes ∙ back, refl); heard = heard_none g.V.Witness.hears c.captures.flusher.writer.is_broken c.captures.witness; closed = tt }
+    record { turned = (c.in-Err-2.ensures.comes ∙ back, refl); heard = heard_none g.V.Witness.hears c.captures.flusher.writer.is_broken c.captures.witness; closed = tt }
 
-pub returns-in-Ran-2 : goal.returns-in-Ran-2
-returns-in-Ran-2 g c =
+pub returns-in-Ok-2 : goal.returns-in-Ok-2
+returns-in-Ok-2 g c =
     let back : c.in-Err.unmade.2 ≡ c.captures.allocator = search rules in
     let gate : c.in-Err.unmade.3 ≡ c.captures.gate = search rules in
     record {
-      turned = (subst (λ (a : AllocatorState g.row.P.Denot). AllocatorTurns (g.P.Policy.chooses a.policy) a c.in-Ran-2.allocator) back c.in-Ran-2.ensures.comes, NoFlush);
+      turned = (subst (λ (a : AllocatorState g.row.P.Denot). AllocatorTurns (g.P.Policy.chooses a.policy) a c.in-Ok-2.ran) back c.in-Ok-2.ensures.comes, NoFlush);
       heard = heard_none g.V.Witness.hears c.captures.flusher.writer.is_broken c.captures.witness;
-      closed = subst (λ x. g.G.Gate.closed x.now) gate c.in-Ran-2.ensures.closed;
+      closed = subst (λ x. g.G.Gate.closed x.now) gate c.in-Ok-2.ensures.closed;
     }
 
 -- what the thread's closure captures
@@ -55,4 +55,4 @@ spawn-requires-send-F g c = λ κs h.
     let rt : IsSync (param 0 g.row.R) = c.requires-raw.1.1.1.1.1.1.1.0 in
     let gate : IsSync (param 1 g.row.G) = c.requires-raw.1.1.1.1.1.1.1.1 in
     let flag : IsSync AtomicBool.the_row = flag_is.the_sync in
-    param_send 2 _ (arg_send _ no _ (captures_send _ _ _ _ _ (shr_send _ _ _ rt) (shr_send _ _ _ flag) (asking_send _ _ (param 3 g.row.P) _ p) (shr_send _ _ _ gate)))
+    param_send 2 _ (arg_send _ no _ (captures_send _ _ _ _ _ (shr_send _ _ _ flag) (shr_send _ _ _ rt) (asking_send _ _ (param 3 g.row.P) _ p) (shr_send _ _ _ gate)))

@@ -14,7 +14,7 @@ use Rattle.lift_parts.specs.Batch.{BatchState, turns_of, commands_in, replies_in
 use Rattle.lift_parts.specs.Line.{ReceiveState}
 use Rattle.lift_parts.specs.Flusher.{AllAnsweredBy}
 use Rattle.lift_relay.proofs.Flushed.{answered_first}
-use Rattle.lift_relay.proofs.held.split_for.Goals as goal
+use Rattle.lift_relay.proofs.relay.split_for.Goals as goal
 
 pub new-flusher-requires-clause-all_answered : goal.new-flusher-requires-clause-all_answered
 new-flusher-requires-clause-all_answered g c =

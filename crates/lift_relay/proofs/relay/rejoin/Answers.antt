@@ -3,7 +3,7 @@ use Rattle.lift_parts.specs.Allocator.{AllocatorState}
 use Rattle.lift_parts.specs.Flusher.{FlusherState}
 use Rattle.lift_parts.specs.Parts.{IsRejoined}
 use Rattle.lift_relay.proofs.Queues.{all_received, same_state}
-use Rattle.lift_relay.proofs.held.rejoin_held.Goals as goal
+use Rattle.lift_relay.proofs.relay.rejoin.Goals as goal
 
 pub returns-clause-joined : goal.returns-clause-joined
 returns-clause-joined g c =
