@@ -10,13 +10,12 @@ use Rattle.lift_disk.specs.declared.outcome.Outcome.TheVariants.{Keep, Lose, Fil
 use Rattle.lift_register.specs.Balanced.{open_count}
 use Rattle.lift_replay.specs.declared.device_action.DeviceAction.{DeviceAction}
 use Rattle.lift_replay.specs.declared.device_action.DeviceAction.TheVariants.{Fuse, Cut}
-use Rattle.lift_replay.specs.DeviceAction.{AskToDo, IsActionInRange, IsOutcomeInRange, outcome_words, IsArmed, DoesToDevice, cut_by, action_text, after_action}
+use Rattle.lift_replay.specs.DeviceAction.{AskToDo, SayOutcome, IsArmed, DoesToDevice, cut_by, action_text, after_action}
 use Rattle.lift_replay.specs.Group.{ScriptGroup, FailedBatch, left_by, recovered}
 use Rattle.lift_replay.specs.Report.{cut_text}
-use Rattle.lift_replay.specs.Shows.{AreInStep, IsFound, Stands, IsKeeperOf, Shows}
+use Rattle.lift_replay.specs.Shows.{AreInStep, Stands, IsKeeperOf, Shows}
 use Rattle.lift_replay.specs.Told.{ScriptClerk, device_of}
 use Rattle.lift_replay.proofs.Found.{IsDecided, Within, within, either, worded}
-use Rattle.lift_replay.proofs.Groups.{left_as}
 use Rattle.lift_replay.proofs.Heads.{IsOneOf, word_at, byte_at, decimal_one}
 use Rattle.lift_replay.proofs.Recovered.{left_unchanged, may_unchanged}
 
@@ -25,30 +24,29 @@ abbrev pub action_words : List (List ℕ)
 action_words = codes "fuse" ∷ codes "cut" ∷ []
 
 pub action_head : (words : List (List ℕ)) (action : DeviceAction) → AskToDo words action → IsOneOf (word_at 0 words) action_words
-action_head words (Fuse calls) p = inl (ap (word_at 0) p)
-action_head words (Cut outcome) p = inr (inl (ap (word_at 0) p))
+action_head words (Fuse calls) p = inl (ap (word_at 0) p.1)
+action_head words (Cut outcome) p = inr (inl (ap (word_at 0) p.2))
 
-outcome_one : (a b : Outcome) → IsOutcomeInRange a → IsOutcomeInRange b → outcome_words a ≡ outcome_words b → a ≡ b
-outcome_one Keep Keep r s e = refl
-outcome_one Keep Lose r s e = absurd (let no : ◌≡◌ {A = ℕ} 107 108 = ap (byte_at 0) e in omega (arith, no))
-outcome_one Keep (Fill n) r s e = absurd (let no : ◌≡◌ {A = ℕ} 107 102 = ap (byte_at 0) e in omega (arith, no))
-outcome_one Lose Keep r s e = absurd (let no : ◌≡◌ {A = ℕ} 108 107 = ap (byte_at 0) e in omega (arith, no))
-outcome_one Lose Lose r s e = refl
-outcome_one Lose (Fill n) r s e = absurd (let no : ◌≡◌ {A = ℕ} 108 102 = ap (byte_at 0) e in omega (arith, no))
-outcome_one (Fill m) Keep r s e = absurd (let no : ◌≡◌ {A = ℕ} 102 107 = ap (byte_at 0) e in omega (arith, no))
-outcome_one (Fill m) Lose r s e = absurd (let no : ◌≡◌ {A = ℕ} 102 108 = ap (byte_at 0) e in omega (arith, no))
-outcome_one (Fill m) (Fill n) r s e = ap Fill (decimal_one m n (omega (arith, r)) (omega (arith, s)) (ap (word_at 1) e))
+outcome_one : (words : List (List ℕ)) (a b : Outcome) → SayOutcome words a → SayOutcome words b → a ≡ b
+outcome_one words Keep Keep p q = refl
+outcome_one words Keep Lose p q = absurd (let no : ◌≡◌ {A = ℕ} 107 108 = ap (byte_at 0) (sym p ∙ q) in omega (arith, no))
+outcome_one words Keep (Fill n) p q = absurd (let no : ◌≡◌ {A = ℕ} 107 102 = ap (byte_at 0) (sym p ∙ q.1) in omega (arith, no))
+outcome_one words Lose Keep p q = absurd (let no : ◌≡◌ {A = ℕ} 108 107 = ap (byte_at 0) (sym p ∙ q) in omega (arith, no))
+outcome_one words Lose Lose p q = refl
+outcome_one words Lose (Fill n) p q = absurd (let no : ◌≡◌ {A = ℕ} 108 102 = ap (byte_at 0) (sym p ∙ q.1) in omega (arith, no))
+outcome_one words (Fill m) Keep p q = absurd (let no : ◌≡◌ {A = ℕ} 102 107 = ap (byte_at 0) (sym p.1 ∙ q) in omega (arith, no))
+outcome_one words (Fill m) Lose p q = absurd (let no : ◌≡◌ {A = ℕ} 102 108 = ap (byte_at 0) (sym p.1 ∙ q) in omega (arith, no))
+outcome_one words (Fill m) (Fill n) p q = ap Fill (decimal_one m n (let b = p.0 in omega (arith, b)) (let b = q.0 in omega (arith, b)) (ap (word_at 1) (sym p.1 ∙ q.1)))
 
 -- words do one thing at most
-pub action_one : (words : List (List ℕ)) (a b : DeviceAction) → IsActionInRange a → IsActionInRange b → AskToDo words a → AskToDo words b → a ≡ b
-action_one words (Fuse calls) (Fuse calls2) r s p q =
-    let e = sym p ∙ q in
-    ap (λ x. Fuse x) (decimal_one calls calls2 (let b = r in omega (arith, b)) (let b = s in omega (arith, b)) (ap (word_at 1) e))
-action_one words (Fuse calls) (Cut outcome2) r s p q = absurd (let e : ◌≡◌ {A = ℕ} 102 99 = ap (byte_at 0) (sym p ∙ q) in omega (arith, e))
-action_one words (Cut outcome) (Fuse calls2) r s p q = absurd (let e : ◌≡◌ {A = ℕ} 99 102 = ap (byte_at 0) (sym p ∙ q) in omega (arith, e))
-action_one words (Cut outcome) (Cut outcome2) r s p q =
-    let e = sym p ∙ q in
-    ap (λ x. Cut x) (outcome_one outcome outcome2 r s (ap (drop 1) e))
+pub action_one : (words : List (List ℕ)) (a b : DeviceAction) → AskToDo words a → AskToDo words b → a ≡ b
+action_one words (Fuse calls) (Fuse calls2) p q =
+    ap (λ x. Fuse x) (decimal_one calls calls2 (let b = p.0 in omega (arith, b)) (let b = q.0 in omega (arith, b)) (ap (word_at 1) (sym p.1 ∙ q.1)))
+action_one words (Fuse calls) (Cut outcome2) p q = absurd (let e : ◌≡◌ {A = ℕ} 102 99 = ap (byte_at 0) (sym p.1 ∙ q.2) in omega (arith, e))
+action_one words (Cut outcome) (Fuse calls2) p q = absurd (let e : ◌≡◌ {A = ℕ} 99 102 = ap (byte_at 0) (sym p.2 ∙ q.1) in omega (arith, e))
+action_one words (Cut outcome) (Cut outcome2) p q =
+    let same : q.0 ≡ p.0 = ap (drop 1) (sym q.2 ∙ p.2) in
+    ap (λ x. Cut x) (outcome_one p.0 outcome outcome2 p.1 (subst (λ ws. SayOutcome ws outcome2) same q.1))
 
 -- the ways in which a line may do something to the device
 module _ (line : List ℕ) where
@@ -77,25 +75,25 @@ module _ (line : List ℕ) where
   ways = either _ _ fused (either _ _ (worded line (codes "cut") (codes "keep" ∷ [])) (either _ _ (worded line (codes "cut") (codes "lose" ∷ [])) filled))
 
   abbrev pub SpellsThis : DeviceAction → Type 0
-  SpellsThis action = (words : List (List ℕ)) × AreWords line words × AskToDo words action × IsActionInRange action
+  SpellsThis action = (words : List (List ℕ)) × AreWords line words × AskToDo words action
 
   abbrev pub Does : Type 0
   Does = (action : DeviceAction) × SpellsThis action
 
   does_of : Ways → Does
-  does_of (inl (calls, c, are)) = (Fuse calls, (_, are, refl, omega (arith, c)))
-  does_of (inr (inl are)) = (Cut Keep, (_, are, refl, tt))
-  does_of (inr (inr (inl are))) = (Cut Lose, (_, are, refl, tt))
-  does_of (inr (inr (inr (byte, b, are)))) = (Cut (Fill byte), (_, are, refl, b))
+  does_of (inl (calls, c, are)) = (Fuse calls, (_, are, (omega (arith, c), refl)))
+  does_of (inr (inl are)) = (Cut Keep, (_, are, (codes "keep" ∷ [], refl, refl)))
+  does_of (inr (inr (inl are))) = (Cut Lose, (_, are, (codes "lose" ∷ [], refl, refl)))
+  does_of (inr (inr (inr (byte, b, are)))) = (Cut (Fill byte), (_, are, (codes "fill" ∷ decimal byte ∷ [], (b, refl), refl)))
 
   as_words : (words others : List (List ℕ)) → words ≡ others → AreWords line words → AreWords line others
   as_words words others is are = subst (AreWords line) is are
 
   way_of : (action : DeviceAction) → SpellsThis action → Ways
-  way_of (Fuse calls) (words, are, p, range) = inl (calls, omega (arith, range), as_words words _ p are)
-  way_of (Cut Keep) (words, are, p, range) = inr (inl (as_words words _ p are))
-  way_of (Cut Lose) (words, are, p, range) = inr (inr (inl (as_words words _ p are)))
-  way_of (Cut (Fill byte)) (words, are, p, range) = inr (inr (inr (byte, range, as_words words _ p are)))
+  way_of (Fuse calls) (words, are, p) = inl (calls, (let range = p.0 in omega (arith, range)), as_words words _ p.1 are)
+  way_of (Cut Keep) (words, are, (last, say, p)) = inr (inl (as_words words _ (p ∙ ap (λ l. codes "cut" ∷ l) say) are))
+  way_of (Cut Lose) (words, are, (last, say, p)) = inr (inr (inl (as_words words _ (p ∙ ap (λ l. codes "cut" ∷ l) say) are)))
+  way_of (Cut (Fill byte)) (words, are, (last, say, p)) = inr (inr (inr (byte, say.0, as_words words _ (p ∙ ap (λ l. codes "cut" ∷ l) say.1) are)))
 
   pub action_decided : IsDecided Does
   action_decided = elim ways [ inl way ↦ inl (does_of way) | inr none ↦ inr (λ does. none (way_of does.0 does.1)) ]
@@ -114,8 +112,8 @@ arms plan g calls old new None armed stands is = (
 )
 arms plan g calls old new (Some s) armed stands is = (
   ap (λ (c : ScriptClerk). c.keeper.writer.is_broken) armed.rest ∙ stands.0,
-  λ outcome image left may. subst (λ f. IsFound plan f image) (sym (left_as g.failed g (Some calls) g.terminals outcome))
-      (stands.1 outcome image (left_unchanged outcome (device_of old) (device_of new) image armed.unchanged left) (may_unchanged (device_of old) (device_of new) image armed.unchanged may)),
+  λ outcome image left may.
+      stands.1 outcome image (left_unchanged outcome (device_of old) (device_of new) image armed.unchanged left) (may_unchanged (device_of old) (device_of new) image armed.unchanged may),
 )
 
 -- what comes of it: the group that is computed, or a power cut of the group as it is

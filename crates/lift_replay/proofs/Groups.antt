@@ -1,6 +1,7 @@
 -- What a turn makes of a script's group.
 use Rattle.std.proofs.Common.{◌≡◌, ◌⊎◌, ◌↔◌, ℕ, suc, ◌+◌, ◌-◌, ◌<◌, ◌≤◌, ◌==◌, Bool, true, false, cond, List, [], ◌∷◌, ◌++◌, length, Option, Some, None, refl, sym, ap, ◌∙◌, subst, inl, inr, arith}
-use Rattle.std.specs.Prelude.{nat_le, codes, if◌then◌else◌, MatchBool}
+use Rattle.std.specs.Prelude.{nat_le, not, ◌&&◌, codes, if◌then◌else◌, MatchBool}
+use Rattle.std.specs.Option.{option_map, option_map_or}
 use Rattle.std.proofs.lemmas.Bool.{false≢true, true≢false, eqb-true, eqb-false, ne_eqb, leb-true, le-leb}
 use Rattle.std.proofs.lemmas.Bool.Decides.{leb_tells}
 use Rattle.lift_base.specs.declared.command.Reply.{Reply}
@@ -23,14 +24,14 @@ use Rattle.lift_policy.specs.Laws.{StepsAreDecisions}
 use Rattle.lift_policy.specs.Run.{Run, unknowns}
 use Rattle.lift_policy.specs.Step.{State}
 use Rattle.lift_keeper.specs.Cuts.{FailsAtMark}
-use Rattle.lift_keeper.specs.Writer.{IsFailedCommit, commit_call_count, commit_used, commit_second, has_room}
+use Rattle.lift_keeper.specs.Writer.{IsFailedCommit, FailsInAppend, commit_call_count, commit_used, commit_second, has_room}
 use Rattle.lift_disk.specs.Faults.{FusedDisk, fuse_state_of}
 use Rattle.lift_keeper.specs.Keeper.{KeeperView}
 use Rattle.lift_clerk.specs.declared.counts.Counts.{Counts}
 use Rattle.lift_clerk.specs.Turn.{IsTurn, IsFailedTurn, IsBrokenTurn, without_batch}
 use Rattle.lift_clerk.specs.lemmas.Visiting.{length-served}
 use Rattle.lift_clerk.specs.Visits.{Visit, LooksAndAnswers, commands_of as commands_at}
-use Rattle.lift_replay.specs.Group.{Asking, ScriptGroup, FailedBatch, Found, half, waiting_from, waiting_commands, having_heard, heard_replies_text, state_by, replies_by, state_to_decide_on, state_decided, calls_for, passes, passing_after, calls_to_fail, after_turn, after_failure, after_commit, commit_text, turned, turn_told, by_mark, at_mark, found_while_whole, folded, with_room, with_batch, in_folding, in_append, room_for, found_after_cut}
+use Rattle.lift_replay.specs.Group.{Asking, ScriptGroup, FailedBatch, Found, half, waiting_from, waiting_commands, having_heard, heard_replies_text, state_by, replies_by, state_to_decide_on, state_decided, calls_for, after_turn, after_failure, fault_told, turned, turn_told, is_past, folded, with_room, with_batch, in_folding, in_append, room_for, found_after_cut}
 use Rattle.lift_replay.specs.Report.{turn_text, fault_text}
 use Rattle.lift_replay.specs.Terminals.{AllHear, AreTold, seat_at}
 use Rattle.lift_replay.specs.Told.{ScriptClerk, OutcomeTells, TurnTells, HasCommitted, HasFailedCommit, device_of}
@@ -106,67 +107,93 @@ takes_all terminals seats told after places turned known visits replies heard st
 -- a run that a mark divides has failed: what each cut leaves
 module _ (plan : Plan) (old new : DiskState) (P Q : Found) (unmarks : Bool) (offset mark made whole : ℕ) (honest : new.is_honest) (is : whole ≡ offset + mark)
     (stops : FailsAtMark (IsFound plan P) (IsFound plan Q) unmarks whole old new) (calls : new.calls ≡ old.calls + offset + made) (most : made ≤ mark + 2) where
-  abbrev M : Found
-  M = if unmarks then P else Q
+  abbrev Past : Bool → Image → Type 0
+  Past b image = IsFound plan (if b then Q else P) image
 
-  abbrev O : Found
-  O = if unmarks then Q else P
+  -- before the mark's write a cut leaves what was there
+  is_early : (outcome : Outcome) → made ≤ mark → is_past outcome mark made unmarks ≡ false
+  is_early Keep early = beyond (mark + 2) made (omega (arith, early))
+  is_early Lose early = refl
+  is_early (Fill byte) early = ap (λ b. b && (if byte == 165 then not unmarks else unmarks)) (beyond (mark + 1) made (omega (arith, early)))
 
-  one_of : (b : Bool) (first second : Found) (image : Image) → MatchBool b (IsFound plan first image) (IsFound plan second image) → IsFound plan (if b then first else second) image
-  one_of true first second image found = found
-  one_of false first second image found = found
+  marked : (b : Bool) (image : Image) → MatchBool b (IsFound plan P image) (IsFound plan Q image) → Past (not b) image
+  marked true image found = found
+  marked false image found = found
 
-  after_mark : (outcome : Outcome) (image : Image) (b : Bool) → nat_le (mark + 2) made ≡ b → mark < made → IsLeftBy outcome new image → IsFound plan (by_mark outcome b P Q M O) image
-  after_mark Keep image true written past left = subst (IsFound plan Q) (sym left) (stops.keeps_new (let w = le_of (mark + 2) made written in omega (arith, calls, is, most, w)))
-  after_mark Keep image false written past left = subst (IsFound plan P) (sym left) (stops.keeps_old (let w = past_of (mark + 2) made written in omega (arith, calls, is, past, w)))
-  after_mark Lose image b written past left = subst (IsFound plan P) (sym left) (stops.loses (omega (arith, calls, is, past)))
-  after_mark (Fill byte) image b written past left = filled (byte == 165) refl
+  unmarked : (b : Bool) (image : Image) → MatchBool b (IsFound plan Q image) (IsFound plan P image) → Past b image
+  unmarked true image found = found
+  unmarked false image found = found
+
+  after_mark : (outcome : Outcome) (image : Image) → mark < made → IsLeftBy outcome new image → Past (is_past outcome mark made unmarks) image
+  after_mark Keep image past left = kept (nat_le (mark + 2) made) refl
     where
-      filled : (c : Bool) → (byte == 165) ≡ c → IsFound plan (if c then M else O) image
-      filled true e = subst (λ n. IsFilled n new image → IsFound plan M image) (sym (eqb-true byte 165 e)) (λ is_filled. one_of unmarks P Q image (stops.fills_mark (omega (arith, calls, is, past)) image is_filled)) left
-      filled false e = one_of unmarks Q P image (stops.fills_other (omega (arith, calls, is, past)) byte image (eqb-false byte 165 e) left)
-
-  pub left_at_mark : (outcome : Outcome) (image : Image) → IsLeftBy outcome new image → MayLeave new image → IsFound plan (at_mark outcome mark made P Q M O) image
-  left_at_mark outcome image left may = cases (nat_le made mark) refl
+      kept : (b : Bool) → nat_le (mark + 2) made ≡ b → Past b image
+      kept true written = subst (IsFound plan Q) (sym left) (stops.keeps_new (let w = le_of (mark + 2) made written in omega (arith, calls, is, most, w)))
+      kept false written = subst (IsFound plan P) (sym left) (stops.keeps_old (let w = past_of (mark + 2) made written in omega (arith, calls, is, past, w)))
+  after_mark Lose image past left = subst (IsFound plan P) (sym left) (stops.loses (omega (arith, calls, is, past)))
+  after_mark (Fill byte) image past left =
+      subst (λ b. Past (b && (if byte == 165 then not unmarks else unmarks)) image) (sym (within (mark + 1) made (omega (arith, past)))) (filled (byte == 165) refl)
     where
-      cases : (b : Bool) → nat_le made mark ≡ b → IsFound plan (if b then P else by_mark outcome (nat_le (mark + 2) made) P Q M O) image
-      cases true e = stops.early (let w = le_of made mark e in omega (arith, calls, is, w)) honest image may
-      cases false e = after_mark outcome image (nat_le (mark + 2) made) refl (let w = past_of made mark e in omega (arith, w)) left
+      filled : (c : Bool) → (byte == 165) ≡ c → Past (if c then not unmarks else unmarks) image
+      filled true e = subst (λ n. IsFilled n new image → Past (not unmarks) image) (sym (eqb-true byte 165 e)) (λ is_filled. marked unmarks image (stops.fills_mark (omega (arith, calls, is, past)) image is_filled)) left
+      filled false e = unmarked unmarks image (stops.fills_other (omega (arith, calls, is, past)) byte image (eqb-false byte 165 e) left)
+
+  pub left_at_mark : (outcome : Outcome) (image : Image) → IsLeftBy outcome new image → MayLeave new image → Past (is_past outcome mark made unmarks) image
+  left_at_mark outcome image left may = elim (leb_tells made mark) [
+    | inl below ↦ (let early = below.1 in subst (λ b. Past b image) (sym (is_early outcome early)) (stops.early (omega (arith, calls, is, early)) honest image may))
+    | inr above ↦ after_mark outcome image above.1 left
+  ]
 
 -- what each cut leaves of a commit that has failed
 module _ (plan : Plan) (g : ScriptGroup) (s : FailedBatch) (old new : DiskState) (honest : new.is_honest)
-    (stops : IsFailedCommit plan half g.is_in_second_half g.used g.register s.batch old new) (calls : new.calls ≡ old.calls + s.made) (some : 0 < length s.batch)
-    (most : s.made ≤ commit_call_count g.register g.used half (length s.batch)) where
-  room_is : (b : Bool) → has_room g.used half (length s.batch) ≡ b → (room_for g s.batch ≡ 0) ⊎ (room_for g s.batch ≡ sectors_for (length (base_records g.register)) + 4)
-  room_is true e = inl (ap (λ c. cond c 0 (sectors_for (length (base_records g.register)) + 4)) e)
-  room_is false e = inr (ap (λ c. cond c 0 (sectors_for (length (base_records g.register)) + 4)) e)
+    (stops : IsFailedCommit plan half g.safe.is_in_second_half g.safe.used g.safe.register s.batch old new) (calls : new.calls ≡ old.calls + s.made) (some : 0 < length s.batch)
+    (most : s.made ≤ commit_call_count g.safe.register g.safe.used half (length s.batch)) where
+  abbrev room : Found
+  room = with_room g.safe (length s.batch)
 
-  all_calls : s.made ≤ room_for g s.batch + (body_size (length s.batch) + 4)
-  all_calls = subst (λ c. s.made ≤ cond c 0 (room_for g s.batch + (body_size (length s.batch) + 4))) (ne_eqb (length s.batch) 0 (λ z. omega (arith, z, some))) most
+  room_is : (b : Bool) → has_room g.safe.used half (length s.batch) ≡ b → (room_for g.safe s.batch ≡ 0) ⊎ (room_for g.safe s.batch ≡ sectors_for (length (base_records g.safe.register)) + 4)
+  room_is true e = inl (ap (λ c. cond c 0 (sectors_for (length (base_records g.safe.register)) + 4)) e)
+  room_is false e = inr (ap (λ c. cond c 0 (sectors_for (length (base_records g.safe.register)) + 4)) e)
 
-  fold_left : (outcome : Outcome) (image : Image) → s.made ≤ room_for g s.batch → IsLeftBy outcome new image → MayLeave new image → IsFound plan (in_folding outcome g s.made) image
+  all_calls : s.made ≤ room_for g.safe s.batch + (body_size (length s.batch) + 4)
+  all_calls = subst (λ c. s.made ≤ cond c 0 (room_for g.safe s.batch + (body_size (length s.batch) + 4))) (ne_eqb (length s.batch) 0 (λ z. omega (arith, z, some))) most
+
+  fold_left : (outcome : Outcome) (image : Image) → s.made ≤ room_for g.safe s.batch → IsLeftBy outcome new image → MayLeave new image → IsFound plan (in_folding outcome g.safe s.made) image
   fold_left outcome image early left may =
       let stop = stops.folding (omega (arith, calls, early)) in
-      left_at_mark plan old new (found_while_whole g) (folded g) g.is_in_second_half 0 (sectors_for (length (base_records g.register)) + 2) s.made (sectors_for (length (base_records g.register)) + 2) honest (omega arith) stop
+      left_at_mark plan old new g.safe (folded g.safe) g.safe.is_in_second_half 0 (sectors_for (length (base_records g.safe.register)) + 2) s.made (sectors_for (length (base_records g.safe.register)) + 2) honest (omega arith) stop
       (omega (arith, calls)) (omega (arith, few)) outcome image left may
     where
-      few : s.made ≤ sectors_for (length (base_records g.register)) + 4
-      few = elim (room_is (has_room g.used half (length s.batch)) refl) [ inl none ↦ omega (arith, none, early) | inr some_room ↦ omega (arith, some_room, early) ]
+      few : s.made ≤ sectors_for (length (base_records g.safe.register)) + 4
+      few = elim (room_is (has_room g.safe.used half (length s.batch)) refl) [ inl none ↦ omega (arith, none, early) | inr some_room ↦ omega (arith, some_room, early) ]
 
-  append_left : (outcome : Outcome) (image : Image) → room_for g s.batch < s.made → IsLeftBy outcome new image → MayLeave new image
-      → IsFound plan (in_append outcome g s.batch (s.made - room_for g s.batch)) image
+  append_left : (outcome : Outcome) (image : Image) → room_for g.safe s.batch < s.made → IsLeftBy outcome new image → MayLeave new image
+      → IsFound plan (in_append outcome room s.batch (s.made - room_for g.safe s.batch)) image
   append_left outcome image late left may =
-      left_at_mark plan old new (with_room g (length s.batch)) (with_batch g s.batch) false
-      (room_for g s.batch) (body_size (length s.batch) + 2) (s.made - room_for g s.batch) (room_for g s.batch + (body_size (length s.batch) + 2)) honest refl
-      (stops.adding (omega (arith, calls, late))) (omega (arith, calls, late)) (omega (arith, all_calls, late)) outcome image left may
-
-  pub cut_as : (outcome : Outcome) (image : Image) → IsLeftBy outcome new image → MayLeave new image → IsFound plan (found_after_cut (Some s) outcome g) image
-  cut_as outcome image left may = cases (nat_le s.made (room_for g s.batch)) refl
+      left_at_mark plan old new room (with_batch room s.batch) false
+      (room_for g.safe s.batch) (body_size (length s.batch) + 2) (s.made - room_for g.safe s.batch) (room_for g.safe s.batch + (body_size (length s.batch) + 2)) honest refl
+      (adds (has_room g.safe.used half (length s.batch)) (stops.adding (omega (arith, calls, late)))) (omega (arith, calls, late)) (omega (arith, all_calls, late)) outcome image left may
     where
-      cases : (b : Bool) → nat_le s.made (room_for g s.batch) ≡ b
-          → IsFound plan (if b then in_folding outcome g s.made else in_append outcome g s.batch (s.made - room_for g s.batch)) image
-      cases true e = fold_left outcome image (le_of s.made (room_for g s.batch) e) left may
-      cases false e = append_left outcome image (past_of s.made (room_for g s.batch) e) left may
+      adds : (b : Bool)
+          → FailsInAppend plan half (if b then g.safe.is_in_second_half else not g.safe.is_in_second_half) (if b then g.safe.used else sectors_for (length (base_records g.safe.register))) g.safe.register s.batch (room_for g.safe s.batch) old new
+          → FailsAtMark (IsFound plan (if b then g.safe else folded g.safe)) (IsFound plan (with_batch (if b then g.safe else folded g.safe) s.batch)) false (room_for g.safe s.batch + (body_size (length s.batch) + 2)) old new
+      adds true fails = fails
+      adds false fails = fails
+
+  pub cut_as : (outcome : Outcome) (image : Image) → IsLeftBy outcome new image → MayLeave new image → IsFound plan (found_after_cut (Some s) outcome g.safe) image
+  cut_as outcome image left may = cases (nat_le s.made (room_for g.safe s.batch)) refl
+    where
+      cases : (b : Bool) → nat_le s.made (room_for g.safe s.batch) ≡ b
+          → IsFound plan (if b then in_folding outcome g.safe s.made else in_append outcome room s.batch (s.made - room_for g.safe s.batch)) image
+      cases true e = fold_left outcome image (le_of s.made (room_for g.safe s.batch) e) left may
+      cases false e = append_left outcome image (past_of s.made (room_for g.safe s.batch) e) left may
+
+-- whether so many calls pass a fuse, and how many are made where they don't
+abbrev passes : Option ℕ → ℕ → Bool
+passes passing need = option_map_or (nat_le need) passing true
+
+abbrev calls_to_fail : Option ℕ → ℕ
+calls_to_fail passing = option_map_or suc passing 0
 
 -- whether a turn's commit passes the fuse
 pub passes_all : (passing : Option ℕ) (need : ℕ) (old new : DiskState) → old.is_inert → IsFused passing old → new.calls ≡ old.calls + need → NoneFails old new → passes passing need ≡ true
@@ -181,7 +208,7 @@ passes_all (Some left) need old new inert fused calls none = elim (leb_tells nee
 
 -- the fuse after it
 pub fused_on : (passing : Option ℕ) (need : ℕ) (old new : DiskState) → passes passing need ≡ true → IsFused passing old → new.calls ≡ old.calls + need → NoneFails old new
-    → ((call : ℕ) → new.calls < call → new.fails_at call ↔ old.fails_at call) → IsFused (passing_after passing need) new
+    → ((call : ℕ) → new.calls < call → new.fails_at call ↔ old.fails_at call) → IsFused (option_map (λ left. left - need) passing) new
 fused_on None need old new ok fused calls none keeps = record {
   told = λ call past. ((λ f. (fused.told call (omega (arith, past, calls))).0 ((keeps call past).0 f)), (λ f. absurd f));
   short = none.short ∙ fused.short;
@@ -218,15 +245,9 @@ stops_at passing need old new inert fused long most last = last_call passing fus
         ] in
         record { failed = beyond need left (omega (arith, past, most)); calls = here; most = omega (arith, here, most) }
 
--- the terminals and the fuse are nothing to what a cut leaves
-pub left_as : (x : Option FailedBatch) (g : ScriptGroup) (passing : Option ℕ) (terminals : List Asking) (outcome : Outcome) → found_after_cut x outcome (record g { passing = passing; terminals = terminals }) ≡ found_after_cut x outcome g
-left_as None g passing terminals outcome = refl
-left_as (Some s) g passing terminals outcome = refl
-
 pub with_terminals : (plan : Plan) (g : ScriptGroup) (keeper : KeeperView FusedDisk) (terminals : List Asking) (s : Option FailedBatch) → Stands s plan g keeper → Stands s plan (record g { terminals = terminals }) keeper
 with_terminals plan g keeper terminals None stands = stands
-with_terminals plan g keeper terminals (Some s) stands =
-    (stands.0, λ outcome image left may. subst (λ f. IsFound plan f image) (sym (left_as g.failed g g.passing terminals outcome)) (stands.1 outcome image left may))
+with_terminals plan g keeper terminals (Some s) stands = stands
 
 is_broken_not : (b : Bool) → b ≡ true → b ≡ false → ⊥
 is_broken_not b yes_it no_it = true≢false (sym yes_it ∙ no_it)
@@ -243,6 +264,13 @@ module _ (computed : StepsAreDecisions IsEtdChoice etd_pick) (plan : Plan) (g : 
   abbrev Result : Option FailedBatch → Type 0
   Result s = (text ≡ turn_told s plan g) × IsKeeperOf plan (turned s plan g) now.keeper × AreInStep (turned s plan g).terminals after new.seat
 
+  -- by whether the commit is made
+  abbrev By : Bool → List ℕ
+  By b = if b then turn_text (length (waiting_commands g)) (length (state_decided plan g).batch) ++ heard_replies_text (waiting_commands g) (replies_by plan (state_to_decide_on g) (waiting_commands g)) else fault_told g 1
+
+  abbrev Made : Bool → ScriptGroup
+  Made b = if b then after_turn g (state_decided plan g) else after_failure g (state_decided plan g)
+
   long_now : (device_of now).is_short ≡ false
   long_now = subst (λ (k : KeeperView FusedDisk). (fuse_state_of k.writer.device).is_short ≡ false) same_keeper long
 
@@ -256,9 +284,9 @@ module _ (computed : StepsAreDecisions IsEtdChoice etd_pick) (plan : Plan) (g : 
       let accepted : counts.accepted ≡ length (state_decided plan g).batch = turn.accepted ∙ ap (λ (s : State). length s.batch) is.1 in
       let need : (device_of now).calls ≡ (device_of old).calls + calls_for g (state_decided plan g) =
       made.calls ∙ ap (λ r. (device_of old).calls + commit_call_count r old.keeper.writer.used old.keeper.writer.half counts.accepted) shows.keeper.register
-      ∙ ap (λ u. (device_of old).calls + commit_call_count g.register u old.keeper.writer.half counts.accepted) stands.2
-      ∙ ap (λ h. (device_of old).calls + commit_call_count g.register g.used h counts.accepted) shows.keeper.half_is
-      ∙ ap (λ n. (device_of old).calls + commit_call_count g.register g.used half n) accepted in
+      ∙ ap (λ u. (device_of old).calls + commit_call_count g.safe.register u old.keeper.writer.half counts.accepted) stands.2
+      ∙ ap (λ h. (device_of old).calls + commit_call_count g.safe.register g.safe.used h counts.accepted) shows.keeper.half_is
+      ∙ ap (λ n. (device_of old).calls + commit_call_count g.safe.register g.safe.used half n) accepted in
       let ok = passes_all g.passing (calls_for g (state_decided plan g)) (device_of old) (device_of now) tt stands.4 need made.none_fails in
       let kept : IsKeeperOf plan (after_turn g (state_decided plan g)) now.keeper = record {
         same_plan = outcome.place.plan ∙ shows.keeper.same_plan;
@@ -268,22 +296,22 @@ module _ (computed : StepsAreDecisions IsEtdChoice etd_pick) (plan : Plan) (g : 
           made.whole,
           turn.after ∙ ap without_batch is.1,
           made.used ∙ ap (λ r. commit_used r old.keeper.writer.used old.keeper.writer.half counts.accepted) shows.keeper.register
-              ∙ ap (λ u. commit_used g.register u old.keeper.writer.half counts.accepted) stands.2
-              ∙ ap (λ h. commit_used g.register g.used h counts.accepted) shows.keeper.half_is
-              ∙ ap (λ n. commit_used g.register g.used half n) accepted,
+              ∙ ap (λ u. commit_used g.safe.register u old.keeper.writer.half counts.accepted) stands.2
+              ∙ ap (λ h. commit_used g.safe.register g.safe.used h counts.accepted) shows.keeper.half_is
+              ∙ ap (λ n. commit_used g.safe.register g.safe.used half n) accepted,
           made.second ∙ ap (λ b. commit_second b old.keeper.writer.used old.keeper.writer.half counts.accepted) stands.3
-              ∙ ap (λ u. commit_second g.is_in_second_half u old.keeper.writer.half counts.accepted) stands.2
-              ∙ ap (λ h. commit_second g.is_in_second_half g.used h counts.accepted) shows.keeper.half_is
-              ∙ ap (λ n. commit_second g.is_in_second_half g.used half n) accepted,
+              ∙ ap (λ u. commit_second g.safe.is_in_second_half u old.keeper.writer.half counts.accepted) stands.2
+              ∙ ap (λ h. commit_second g.safe.is_in_second_half g.safe.used h counts.accepted) shows.keeper.half_is
+              ∙ ap (λ n. commit_second g.safe.is_in_second_half g.safe.used half n) accepted,
           fused_on g.passing (calls_for g (state_decided plan g)) (device_of old) (device_of now) ok stands.4 need made.none_fails outcome.place.fuse,
         );
       } in
-      let told : text ≡ commit_text true plan g (state_decided plan g) =
+      let told : text ≡ By true =
       outcome.shown ∙ ap (λ l. l ++ outcome.heard) (head ∙ ap (λ n. turn_text n counts.accepted) (turn.taken ∙ ap length takes.commands) ∙ ap (turn_text (length (waiting_commands g))) accepted)
       ∙ ap (λ l. turn_text (length (waiting_commands g)) (length (state_decided plan g).batch) ++ l) (takes.text ∙ ap (heard_replies_text (waiting_commands g)) is.0) in (
-        told ∙ ap (λ b. commit_text b plan g (state_decided plan g)) (sym ok),
-        subst (λ b. IsKeeperOf plan (after_commit b g (state_decided plan g)) now.keeper) (sym ok) kept,
-        subst (λ b. AreInStep (after_commit b g (state_decided plan g)).terminals after new.seat) (sym ok) takes.in_step,
+        told ∙ ap By (sym ok),
+        subst (λ b. IsKeeperOf plan (Made b) now.keeper) (sym ok) kept,
+        subst (λ b. AreInStep (Made b).terminals after new.seat) (sym ok) takes.in_step,
       )
 
   commit_failed : (s : Option FailedBatch) → Stands s plan g old.keeper → IsFailedTurn IsEtdChoice old now → HasFailedCommit old now → outcome.head ≡ fault_text (codes "turn") 1 → Result s
@@ -296,16 +324,16 @@ module _ (computed : StepsAreDecisions IsEtdChoice etd_pick) (plan : Plan) (g : 
       let batch : now.keeper.state.batch ≡ (state_decided plan g).batch = ap (λ (s : State). s.batch) is.1 in
       let doubt : now.keeper.writer.doubt ≡ (state_decided plan g).batch = turn.doubt ∙ batch in
       let need : (device_of now).calls ≤ (device_of old).calls + calls_for g (state_decided plan g) =
-      subst (λ n. (device_of now).calls ≤ (device_of old).calls + commit_call_count g.register g.used half n) (ap length batch)
-      (subst (λ h. (device_of now).calls ≤ (device_of old).calls + commit_call_count g.register g.used h (length now.keeper.state.batch)) shows.keeper.half_is
-      (subst (λ u. (device_of now).calls ≤ (device_of old).calls + commit_call_count g.register u old.keeper.writer.half (length now.keeper.state.batch)) stands.2
+      subst (λ n. (device_of now).calls ≤ (device_of old).calls + commit_call_count g.safe.register g.safe.used half n) (ap length batch)
+      (subst (λ h. (device_of now).calls ≤ (device_of old).calls + commit_call_count g.safe.register g.safe.used h (length now.keeper.state.batch)) shows.keeper.half_is
+      (subst (λ u. (device_of now).calls ≤ (device_of old).calls + commit_call_count g.safe.register u old.keeper.writer.half (length now.keeper.state.batch)) stands.2
       (subst (λ r. (device_of now).calls ≤ (device_of old).calls + commit_call_count r old.keeper.writer.used old.keeper.writer.half (length now.keeper.state.batch)) shows.keeper.register stop.calls))) in
       let fuse = stops_at g.passing (calls_for g (state_decided plan g)) (device_of old) (device_of now) tt stands.4 long_now need stop.last_fails in
-      let stops : IsFailedCommit plan half g.is_in_second_half g.used g.register (state_decided plan g).batch (device_of old) (device_of now) =
-      subst (λ (p : Plan). IsFailedCommit p half g.is_in_second_half g.used g.register (state_decided plan g).batch (device_of old) (device_of now)) shows.keeper.same_plan
-      (subst (λ h. IsFailedCommit old.keeper.writer.plan h g.is_in_second_half g.used g.register (state_decided plan g).batch (device_of old) (device_of now)) shows.keeper.half_is
-      (subst (λ b. IsFailedCommit old.keeper.writer.plan old.keeper.writer.half b g.used g.register (state_decided plan g).batch (device_of old) (device_of now)) stands.3
-      (subst (λ u. IsFailedCommit old.keeper.writer.plan old.keeper.writer.half old.keeper.writer.is_in_second_half u g.register (state_decided plan g).batch (device_of old) (device_of now)) stands.2
+      let stops : IsFailedCommit plan half g.safe.is_in_second_half g.safe.used g.safe.register (state_decided plan g).batch (device_of old) (device_of now) =
+      subst (λ (p : Plan). IsFailedCommit p half g.safe.is_in_second_half g.safe.used g.safe.register (state_decided plan g).batch (device_of old) (device_of now)) shows.keeper.same_plan
+      (subst (λ h. IsFailedCommit old.keeper.writer.plan h g.safe.is_in_second_half g.safe.used g.safe.register (state_decided plan g).batch (device_of old) (device_of now)) shows.keeper.half_is
+      (subst (λ b. IsFailedCommit old.keeper.writer.plan old.keeper.writer.half b g.safe.used g.safe.register (state_decided plan g).batch (device_of old) (device_of now)) stands.3
+      (subst (λ u. IsFailedCommit old.keeper.writer.plan old.keeper.writer.half old.keeper.writer.is_in_second_half u g.safe.register (state_decided plan g).batch (device_of old) (device_of now)) stands.2
       (subst (λ r. IsFailedCommit old.keeper.writer.plan old.keeper.writer.half old.keeper.writer.is_in_second_half old.keeper.writer.used r (state_decided plan g).batch (device_of old) (device_of now)) shows.keeper.register
       (subst (λ d. IsFailedCommit old.keeper.writer.plan old.keeper.writer.half old.keeper.writer.is_in_second_half old.keeper.writer.used old.keeper.writer.register d (device_of old) (device_of now)) doubt stop.fails))))) in
       let failed : FailedBatch = record { made = calls_to_fail g.passing; batch = (state_decided plan g).batch } in
@@ -318,12 +346,12 @@ module _ (computed : StepsAreDecisions IsEtdChoice etd_pick) (plan : Plan) (g : 
           cut_as plan g failed (device_of old) (device_of now) tt stops fuse.calls (subst (λ b. 0 < length b) batch turn.some) fuse.most,
         );
       } in
-      let told : text ≡ commit_text false plan g (state_decided plan g) =
+      let told : text ≡ By false =
       outcome.shown ∙ ap (λ l. l ++ outcome.heard) head
       ∙ ap (λ l. fault_text (codes "turn") 1 ++ l) (takes.text ∙ ap (heard_replies_text (waiting_commands g)) (ap unknowns takes.commands)) in (
-        told ∙ ap (λ b. commit_text b plan g (state_decided plan g)) (sym fuse.failed),
-        subst (λ b. IsKeeperOf plan (after_commit b g (state_decided plan g)) now.keeper) (sym fuse.failed) kept,
-        subst (λ b. AreInStep (after_commit b g (state_decided plan g)).terminals after new.seat) (sym fuse.failed) takes.in_step,
+        told ∙ ap By (sym fuse.failed),
+        subst (λ b. IsKeeperOf plan (Made b) now.keeper) (sym fuse.failed) kept,
+        subst (λ b. AreInStep (Made b).terminals after new.seat) (sym fuse.failed) takes.in_step,
       )
 
   was_broken : (s : Option FailedBatch) → Stands s plan g old.keeper → old.keeper.writer.is_broken ≡ true → IsBrokenTurn old now → outcome.head ≡ fault_text (codes "turn") 5 → g.failed ≡ s → Result s

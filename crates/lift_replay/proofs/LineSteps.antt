@@ -1,5 +1,6 @@
 -- What a line makes of a script's group.
 use Rattle.std.proofs.Common.{◌≡◌, ◌≢◌, ℕ, suc, ◌+◌, ◌<◌, ◌==◌, true, false, cond, List, [], ◌∷◌, ◌++◌, length, Option, Some, None, refl, sym, ap, ◌∙◌, subst, inl, inr, arith, get_or-set_other, slice_set, length-append}
+use Rattle.std.specs.Prelude.{codes}
 use Rattle.std.specs.Option.{is_some}
 use Rattle.std.proofs.lemmas.List.{length-set, append_assoc, append-nil}
 use Rattle.std.proofs.lemmas.Grind.{get_or-set_at}
@@ -24,18 +25,19 @@ use Rattle.lift_replay.specs.declared.lines.End.TheVariants.{Run as Over, Cut as
 use Rattle.lift_replay.specs.declared.lines.Verdict.{Verdict}
 use Rattle.lift_replay.specs.declared.lines.Verdict.TheVariants.{Bad}
 use Rattle.lift_replay.specs.Running.{TellsLines, Continues, LinesEnd}
-use Rattle.lift_replay.specs.Grammar.{IsKnown, IsLineInRange, IsSkipped, Spells}
-use Rattle.lift_replay.specs.Group.{Asking, ScriptGroup, FailedBatch, asking_at, asking_more, after_ask, after_asking, asked_text, ask_text, unasked, policy_view, left_by, recovered}
+use Rattle.lift_replay.specs.Grammar.{AskFor, IsKnown, IsSkipped, Spells}
+use Rattle.lift_replay.specs.Group.{Asking, ScriptGroup, FailedBatch, asking_at, asking_more, after_ask, after_asking, ask_text, unasked, state_to_decide_on, left_by, recovered}
 use Rattle.lift_replay.specs.Lines.{Tells, LineTells, end_by, end_of, line_text}
 use Rattle.lift_replay.specs.Lines.{after as after_line}
-use Rattle.lift_replay.specs.Report.{spent_text, bad_text, cut_text}
+use Rattle.lift_replay.specs.Report.{told_text, bad_text, cut_text}
 use Rattle.lift_replay.specs.Query.{shown_text}
 use Rattle.lift_replay.specs.declared.query.Query.{Query}
 use Rattle.lift_replay.specs.Terminals.{no_seat, seat_at, told_seat, having_asked}
 use Rattle.lift_replay.specs.Told.{ScriptClerk, Asks, HasAsked, KeepsKeeper, ScriptRests, device_of}
 use Rattle.lift_replay.specs.Shows.{WaitsFor, IsInStep, AreInStep, Stands, IsKeeperOf, Shows}
 use Rattle.lift_replay.proofs.InStep.{waits_not, waits_so}
-use Rattle.lift_replay.specs.Ask.{asked_command}
+use Rattle.lift_policy.specs.declared.command.Command.{Command}
+use Rattle.lift_replay.specs.Ask.{asked_by, asked_command}
 use Rattle.lift_replay.specs.DeviceAction.{cut_by}
 use Rattle.lift_disk.specs.declared.outcome.Outcome.{Outcome}
 use Rattle.lift_replay.proofs.Asks.{ask_inside}
@@ -72,8 +74,11 @@ module _ (terminals : List Asking) (seats after : List TerminalSeat) (places kno
   abbrev asking : Ask
   asking = record { number = number; body = body }
 
+  abbrev command : Command
+  command = asked_by t number body
+
   abbrev Asked : List ℕ → Option Ask → Type 0
-  Asked text w = (text ≡ ask_text w a.turns t number) × AreInStep (slice_set terminals t (asking_more w a.turns asking)) after known
+  Asked text w = (text ≡ ask_text (record { turns = a.turns; waiting = w }) command) × AreInStep (slice_set terminals t (asking_more (record { turns = a.turns; waiting = w }) asking)) after known
 
   here : IsInStep a (seat_at seats t).view (view_at places t)
   here = step.each t inside
@@ -95,7 +100,7 @@ module _ (terminals : List Asking) (seats after : List TerminalSeat) (places kno
   asks text None is (inl waits) = absurd (waits_not a (seat_at seats t).view (view_at places t) here is waits.0)
   asks text None is (inr (inl spent)) =
       let all : (a.turns == 1048575) ≡ true = eq-eqb a.turns 1048575 (sym here.turns ∙ spent.1) in (
-        spent.4 ∙ ap (λ b. cond b (spent_text t number) []) (sym all),
+        spent.4 ∙ ap (λ b. cond b (told_text t number (codes "SPENT")) []) (sym all),
         subst (λ b. AreInStep (slice_set terminals t (cond b (record { turns = a.turns; waiting = None }) (record { turns = suc a.turns; waiting = Some asking }))) after known) (sym all)
             (stays None is spent.2 spent.3),
       )
@@ -120,7 +125,7 @@ module _ (terminals : List Asking) (seats after : List TerminalSeat) (places kno
         even = here.even;
         waits = (h.in_range, ap (λ l. l ++ word ∷ []) same ∙ ap (λ n. (view_at places t).taken ++ ask_word (suc n) number body ∷ []) (ap length same));
       } in (
-        after_asking.3 ∙ ap (λ b. cond b (spent_text t number) []) (sym left),
+        after_asking.3 ∙ ap (λ b. cond b (told_text t number (codes "SPENT")) []) (sym left),
         subst (λ b. AreInStep (slice_set terminals t (cond b (record { turns = a.turns; waiting = None }) (record { turns = suc a.turns; waiting = Some asking }))) after known) (sym left)
             (step_at terminals seats after places known t (record { turns = suc a.turns; waiting = Some asking }) step inside
             (ap length h.seat ∙ length-set h.asked t _ ∙ ap length h.asks ∙ length-set seats t _)
@@ -133,12 +138,12 @@ module _ (terminals : List Asking) (seats after : List TerminalSeat) (places kno
       )
 
   pub asks_shows : (text : List ℕ) → Asks seats after places known t number body text
-      → (text ≡ ask_text a.waiting a.turns t number) × AreInStep (after_ask terminals t asking) after known
+      → (text ≡ ask_text a command) × AreInStep (after_ask terminals command) after known
   asks_shows text told = asks text a.waiting refl told
 
 -- what is shown while nothing has failed
 shown_is : (plan : Plan) (g : ScriptGroup) (keeper : KeeperView FusedDisk) (query : Query) (s : Option FailedBatch) → Stands s plan g keeper
-    → shown_text keeper.writer.is_broken plan (view_of keeper.state) query ≡ shown_text (is_some s) plan (policy_view g) query
+    → shown_text keeper.writer.is_broken plan (view_of keeper.state) query ≡ shown_text (is_some s) plan (view_of (state_to_decide_on g)) query
 shown_is plan g keeper query None stands = ap (λ b. shown_text b plan (view_of keeper.state) query) stands.0 ∙ ap (λ t. shown_text false plan (view_of t) query) stands.1
 shown_is plan g keeper query (Some s) stands = ap (λ b. shown_text b plan (view_of keeper.state) query) stands.0
 
@@ -154,28 +159,27 @@ module _ (computed : StepsAreDecisions IsEtdChoice etd_pick) (plan : Plan) (g : 
   rests : ScriptRests old new seats after → Shows plan g new after
   rests is = subst (λ c. Shows plan g c after) (sym is.clerk) (subst (Shows plan g old) (sym is.terminals) shows)
 
-  asks_so : (t number : ℕ) (body : Body) (told : List ℕ) → t < 16 + length plan.kiosks → Asks seats after old.seat new.seat t number body told → KeepsKeeper old new
-      → (told ≡ asked_text g t number) × Shows plan (after_asking g t number body) new after
-  asks_so t number body told below asks keeps =
-      let result = asks_shows g.terminals seats after old.seat new.seat t number body shows.terminals (omega (arith, below, count, shows.terminals.seat_count)) told asks in
+  asks_so : (c : Command) (told : List ℕ) → c.terminal < 16 + length plan.kiosks → Asks seats after old.seat new.seat c.terminal c.number c.body told → KeepsKeeper old new
+      → (told ≡ ask_text (asking_at g.terminals c.terminal) c) × Shows plan (after_asking g c) new after
+  asks_so c told below asks keeps =
+      let result = asks_shows g.terminals seats after old.seat new.seat c.terminal c.number c.body shows.terminals (omega (arith, below, count, shows.terminals.seat_count)) told asks in
       let same : new.keeper ≡ old.keeper = ap (λ (c : ScriptClerk). c.keeper) keeps in
-      let kept : IsKeeperOf plan (after_asking g t number body) old.keeper = record {
+      let kept : IsKeeperOf plan (after_asking g c) old.keeper = record {
         same_plan = shows.keeper.same_plan;
         half_is = shows.keeper.half_is;
         register = shows.keeper.register;
-        stands = with_terminals plan g old.keeper (after_asking g t number body).terminals g.failed shows.keeper.stands;
+        stands = with_terminals plan g old.keeper (after_asking g c).terminals g.failed shows.keeper.stands;
       } in (
         result.0,
-        record { keeper = subst (IsKeeperOf plan (after_asking g t number body)) (sym same) kept; terminals = result.1 },
+        record { keeper = subst (IsKeeperOf plan (after_asking g c)) (sym same) kept; terminals = result.1 },
       )
 
-  pub tells_shows : (wanted : ScriptLine) (told : List ℕ) → IsLineInRange wanted → IsKnown plan wanted → Tells plan old new seats after wanted told → Carried wanted told
-  tells_shows (AskThis ask) told range known tells =
-      let c = asked_command ask in
-      asks_so c.terminal c.number c.body told (ask_inside plan ask range known) tells.0 tells.1
-  tells_shows Turn told range known tells = turn_shows computed plan g old new seats after told shows tells long
-  tells_shows (Show query) told range known tells = (tells.0 ∙ shown_is plan g old.keeper query g.failed shows.keeper.stands, rests tells.1)
-  tells_shows (Device action) told range known tells = (tells.0, action_comes plan g old new seats after action shows tells.1 tells.2)
+  pub tells_shows : (wanted : ScriptLine) (told : List ℕ) (words : List (List ℕ)) → AskFor words wanted → IsKnown plan wanted → Tells plan old new seats after wanted told → Carried wanted told
+  tells_shows (AskThis ask) told words asks known tells =
+      asks_so (asked_command ask) told (ask_inside plan words ask asks known) tells.0 tells.1
+  tells_shows Turn told words asks known tells = turn_shows computed plan g old new seats after told shows tells long
+  tells_shows (Show query) told words asks known tells = (tells.0 ∙ shown_is plan g old.keeper query g.failed shows.keeper.stands, rests tells.1)
+  tells_shows (Device action) told words asks known tells = (tells.0, action_comes plan g old new seats after action shows tells.1 tells.2)
 
 -- what a line tells, where another follows, and where it is the last
 module _ (computed : StepsAreDecisions IsEtdChoice etd_pick) (plan : Plan) (g : ScriptGroup) (old new : ScriptClerk) (seats after : List TerminalSeat)
@@ -208,11 +212,11 @@ module _ (computed : StepsAreDecisions IsEtdChoice etd_pick) (plan : Plan) (g : 
   line_goes_on (inr (inl (wanted, spells, known, tells, end, other))) = by_line wanted spells known tells end
     where
       by_line : (w : ScriptLine) → Spells line w → IsKnown plan w → Tells plan old new seats after w told → None ≡ end_of w → GoesOn
-      by_line (AskThis ask) sp kn te en = let c = tells_shows computed plan g old new seats after shows count long (AskThis ask) told sp.3 kn te in (after_line plan g (AskThis ask), c.1, carries (AskThis ask) told sp kn other c.0)
-      by_line Turn sp kn te en = let c = tells_shows computed plan g old new seats after shows count long Turn told sp.3 kn te in (after_line plan g Turn, c.1, carries Turn told sp kn other c.0)
-      by_line (Show query) sp kn te en = let c = tells_shows computed plan g old new seats after shows count long (Show query) told sp.3 kn te in (g, c.1, carries (Show query) told sp kn other c.0)
+      by_line (AskThis ask) sp kn te en = let c = tells_shows computed plan g old new seats after shows count long (AskThis ask) told sp.0 sp.2 kn te in (after_line plan g (AskThis ask), c.1, carries (AskThis ask) told sp kn other c.0)
+      by_line Turn sp kn te en = let c = tells_shows computed plan g old new seats after shows count long Turn told sp.0 sp.2 kn te in (after_line plan g Turn, c.1, carries Turn told sp kn other c.0)
+      by_line (Show query) sp kn te en = let c = tells_shows computed plan g old new seats after shows count long (Show query) told sp.0 sp.2 kn te in (g, c.1, carries (Show query) told sp kn other c.0)
       by_line (Device action) sp kn te en =
-          let c = tells_shows computed plan g old new seats after shows count long (Device action) told sp.3 kn te in
+          let c = tells_shows computed plan g old new seats after shows count long (Device action) told sp.0 sp.2 kn te in
           by_power (cut_by action) c.1 en
         where
           by_power : (power : Option Outcome) → Comes plan g new after action power → None ≡ end_by power → GoesOn
@@ -235,7 +239,7 @@ module _ (computed : StepsAreDecisions IsEtdChoice etd_pick) (plan : Plan) (g : 
       by_line Turn sp kn te en = absurd (cc)
       by_line (Show query) sp kn te en = absurd (cc)
       by_line (Device action) sp kn te en =
-          let c = tells_shows computed plan g old new seats after shows count long (Device action) told sp.3 kn te in
+          let c = tells_shows computed plan g old new seats after shows count long (Device action) told sp.0 sp.2 kn te in
           by_power (cut_by action) c.1 en
         where
           by_power : (power : Option Outcome) → Comes plan g new after action power → Some end ≡ end_by power → LinesEnd plan so_far first script (before ++ told) number behind new after end

@@ -6,7 +6,7 @@ use Rattle.lift_building.specs.Plan.{Plan}
 use Rattle.lift_replay.specs.declared.line.ScriptLine.{ScriptLine}
 use Rattle.lift_replay.specs.declared.line.ScriptLine.TheVariants.{Ask, Turn, Show, Device}
 use Rattle.lift_replay.specs.declared.lines.Verdict.{Verdict}
-use Rattle.lift_replay.specs.Grammar.{AskFor, IsKnown, IsLineInRange, Spells}
+use Rattle.lift_replay.specs.Grammar.{AskFor, IsKnown, Spells}
 use Rattle.lift_replay.specs.Group.{ScriptGroup}
 use Rattle.lift_replay.specs.Lines.{line_text, after}
 use Rattle.lift_replay.specs.Running.{TellsLines}
@@ -30,31 +30,30 @@ head words (Show query) p = query_head words query p
 head words (Device action) p = action_head words action p
 
 -- words ask for one thing at most
-asks_one : (words : List (List ℕ)) (a b : ScriptLine) → IsLineInRange a → IsLineInRange b → AskFor words a → AskFor words b → a ≡ b
-asks_one words (Ask a) (Ask b) r s p q = ap Ask (ask_one words a b r s p q)
-asks_one words Turn Turn r s p q = refl
-asks_one words (Show a) (Show b) r s p q = ap Show (query_one words a b r s p q)
-asks_one words (Device a) (Device b) r s p q = ap Device (action_one words a b r s p q)
-asks_one words (Ask a) Turn r s p q = absurd (apart_heads (heads (Ask a)) (heads Turn) refl (word_at 0 words) (head words (Ask a) p) (head words Turn q))
-asks_one words (Ask a) (Show b) r s p q = absurd (apart_heads (heads (Ask a)) (heads (Show b)) refl (word_at 0 words) (head words (Ask a) p) (head words (Show b) q))
-asks_one words (Ask a) (Device b) r s p q = absurd (apart_heads (heads (Ask a)) (heads (Device b)) refl (word_at 0 words) (head words (Ask a) p) (head words (Device b) q))
-asks_one words Turn (Ask b) r s p q = absurd (apart_heads (heads Turn) (heads (Ask b)) refl (word_at 0 words) (head words Turn p) (head words (Ask b) q))
-asks_one words Turn (Show b) r s p q = absurd (apart_heads (heads Turn) (heads (Show b)) refl (word_at 0 words) (head words Turn p) (head words (Show b) q))
-asks_one words Turn (Device b) r s p q = absurd (apart_heads (heads Turn) (heads (Device b)) refl (word_at 0 words) (head words Turn p) (head words (Device b) q))
-asks_one words (Show a) (Ask b) r s p q = absurd (apart_heads (heads (Show a)) (heads (Ask b)) refl (word_at 0 words) (head words (Show a) p) (head words (Ask b) q))
-asks_one words (Show a) Turn r s p q = absurd (apart_heads (heads (Show a)) (heads Turn) refl (word_at 0 words) (head words (Show a) p) (head words Turn q))
-asks_one words (Show a) (Device b) r s p q = absurd (apart_heads (heads (Show a)) (heads (Device b)) refl (word_at 0 words) (head words (Show a) p) (head words (Device b) q))
-asks_one words (Device a) (Ask b) r s p q = absurd (apart_heads (heads (Device a)) (heads (Ask b)) refl (word_at 0 words) (head words (Device a) p) (head words (Ask b) q))
-asks_one words (Device a) Turn r s p q = absurd (apart_heads (heads (Device a)) (heads Turn) refl (word_at 0 words) (head words (Device a) p) (head words Turn q))
-asks_one words (Device a) (Show b) r s p q = absurd (apart_heads (heads (Device a)) (heads (Show b)) refl (word_at 0 words) (head words (Device a) p) (head words (Show b) q))
+asks_one : (words : List (List ℕ)) (a b : ScriptLine) → AskFor words a → AskFor words b → a ≡ b
+asks_one words (Ask a) (Ask b) p q = ap Ask (ask_one words a b p q)
+asks_one words Turn Turn p q = refl
+asks_one words (Show a) (Show b) p q = ap Show (query_one words a b p q)
+asks_one words (Device a) (Device b) p q = ap Device (action_one words a b p q)
+asks_one words (Ask a) Turn p q = absurd (apart_heads (heads (Ask a)) (heads Turn) refl (word_at 0 words) (head words (Ask a) p) (head words Turn q))
+asks_one words (Ask a) (Show b) p q = absurd (apart_heads (heads (Ask a)) (heads (Show b)) refl (word_at 0 words) (head words (Ask a) p) (head words (Show b) q))
+asks_one words (Ask a) (Device b) p q = absurd (apart_heads (heads (Ask a)) (heads (Device b)) refl (word_at 0 words) (head words (Ask a) p) (head words (Device b) q))
+asks_one words Turn (Ask b) p q = absurd (apart_heads (heads Turn) (heads (Ask b)) refl (word_at 0 words) (head words Turn p) (head words (Ask b) q))
+asks_one words Turn (Show b) p q = absurd (apart_heads (heads Turn) (heads (Show b)) refl (word_at 0 words) (head words Turn p) (head words (Show b) q))
+asks_one words Turn (Device b) p q = absurd (apart_heads (heads Turn) (heads (Device b)) refl (word_at 0 words) (head words Turn p) (head words (Device b) q))
+asks_one words (Show a) (Ask b) p q = absurd (apart_heads (heads (Show a)) (heads (Ask b)) refl (word_at 0 words) (head words (Show a) p) (head words (Ask b) q))
+asks_one words (Show a) Turn p q = absurd (apart_heads (heads (Show a)) (heads Turn) refl (word_at 0 words) (head words (Show a) p) (head words Turn q))
+asks_one words (Show a) (Device b) p q = absurd (apart_heads (heads (Show a)) (heads (Device b)) refl (word_at 0 words) (head words (Show a) p) (head words (Device b) q))
+asks_one words (Device a) (Ask b) p q = absurd (apart_heads (heads (Device a)) (heads (Ask b)) refl (word_at 0 words) (head words (Device a) p) (head words (Ask b) q))
+asks_one words (Device a) Turn p q = absurd (apart_heads (heads (Device a)) (heads Turn) refl (word_at 0 words) (head words (Device a) p) (head words Turn q))
+asks_one words (Device a) (Show b) p q = absurd (apart_heads (heads (Device a)) (heads (Show b)) refl (word_at 0 words) (head words (Device a) p) (head words (Show b) q))
 
 pub spells_one : (line : List ℕ) (a b : ScriptLine) → Spells line a → Spells line b → a ≡ b
-spells_one line a b p q = asks_one q.0 a b p.3 q.3 (subst (λ ws. AskFor ws a) (one_reading line p.0 q.0 p.1 q.1) p.2) q.2
+spells_one line a b p q = asks_one q.0 a b (subst (λ ws. AskFor ws a) (one_reading line p.0 q.0 p.1 q.1) p.2) q.2
 
 -- a malformed line asks for nothing that is known
 bad_not : (plan : Plan) (line : List ℕ) (wanted : ScriptLine) → IsBadLine plan line → Spells line wanted → IsKnown plan wanted → ⊥
-bad_not plan line wanted (other, inl none) spells known = none wanted spells
-bad_not plan line wanted (other, inr (unknown, spelled, not)) spells known = not (subst (IsKnown plan) (spells_one line wanted unknown spells spelled) known)
+bad_not plan line wanted (other, none) spells known = none wanted spells known
 
 -- what lines tell, and the verdict, are determined
 pub lines_one : (plan : Plan) (count : ℕ) (g : ScriptGroup) (script : List (List ℕ)) (s t : List ℕ) (v w : Verdict) → TellsLines plan count g script s v → TellsLines plan count g script t w → (s ≡ t) × (v ≡ w)

@@ -125,10 +125,10 @@ text_one text s t v w (inr a) (inr b) =
 pub report_one : (bytes s t : List ℕ) (v w : Verdict) → IsReport bytes s v → IsReport bytes t w → (s ≡ t) × (v ≡ w)
 report_one bytes s t v w (inl a) (inl b) = (a.1 ∙ sym b.1, a.2 ∙ sym b.2)
 report_one bytes s t v w (inl a) (inr (inl b)) = absurd (let long = a.0 in let short = b.0 in omega (arith, long, short))
-report_one bytes s t v w (inl a) (inr (inr b)) = absurd (let long = a.0 in let short = b.0.0 in omega (arith, long, short))
+report_one bytes s t v w (inl a) (inr (inr b)) = absurd (let long = a.0 in let short = b.0 in omega (arith, long, short))
 report_one bytes s t v w (inr (inl a)) (inl b) = absurd (let long = b.0 in let short = a.0 in omega (arith, long, short))
-report_one bytes s t v w (inr (inr a)) (inl b) = absurd (let long = b.0 in let short = a.0.0 in omega (arith, long, short))
+report_one bytes s t v w (inr (inr a)) (inl b) = absurd (let long = b.0 in let short = a.0 in omega (arith, long, short))
 report_one bytes s t v w (inr (inl a)) (inr (inl b)) = (a.2 ∙ sym b.2, a.3 ∙ sym b.3)
-report_one bytes s t v w (inr (inl a)) (inr (inr b)) = absurd (a.1 b.0.1)
-report_one bytes s t v w (inr (inr a)) (inr (inl b)) = absurd (b.1 a.0.1)
-report_one bytes s t v w (inr (inr a)) (inr (inr b)) = text_one bytes s t v w a.1 b.1
+report_one bytes s t v w (inr (inl a)) (inr (inr b)) = absurd (a.1 b.1)
+report_one bytes s t v w (inr (inr a)) (inr (inl b)) = absurd (b.1 a.1)
+report_one bytes s t v w (inr (inr a)) (inr (inr b)) = text_one bytes s t v w a.2 b.2

@@ -8,7 +8,7 @@ use Rattle.lift_cost.specs.declared.call.NewCall.{NewCall}
 use Rattle.lift_policy.specs.View.{ViewState}
 use Rattle.lift_policy.specs.Eligible.{is_eligible, eligible_cars}
 use Rattle.lift_replay.specs.Report.{cost_text}
-use Rattle.lift_replay.specs.Query.{prices_text}
+use Rattle.lift_replay.specs.Query.{all_text}
 
 one_more : (p : ℕ → Bool) (x : ℕ) (passed : List ℕ) (b : Bool) → p x ≡ b → All (λ y. p y ≡ true) passed → All (λ y. p y ≡ true) (cond b (x ∷ passed) passed)
 one_more p x passed true e all = All-cons (λ y. p y ≡ true) x passed e all
@@ -29,6 +29,6 @@ eligible_at plan view call found k car are inside is =
 
 -- the costs of all of them
 pub prices_all : (cost : ℕ → ℕ) (before : List ℕ) (cars : List ℕ) (n : ℕ) → length cars ≤ n → 0 < length cars
-    → before ++ flat_map (λ car. cost_text car (cost car)) (take n cars) ≡ before ++ prices_text cost cars
+    → before ++ flat_map (λ car. cost_text car (cost car)) (take n cars) ≡ before ++ all_text (λ car. cost_text car (cost car)) cars
 prices_all cost before [] n past some = absurd (omega arith)
 prices_all cost before (car ∷ cars) n past some = ap (λ list. before ++ flat_map (λ other. cost_text other (cost other)) list) (take_all n (car ∷ cars) past)

@@ -98,17 +98,17 @@ kept_of plan f disk keeper found opens calls image unarmed state of_plan whole =
 
 -- what a cut leaves of a clerk that shows a group
 pub left_found : (plan : Plan) (g : ScriptGroup) (keeper : KeeperView FusedDisk) (outcome : Outcome) (image : Image) (s : Option FailedBatch) → g.failed ≡ s → Stands s plan g keeper
-    → keeper.writer.plan ≡ plan → keeper.writer.half ≡ half → keeper.writer.register ≡ g.register
+    → keeper.writer.plan ≡ plan → keeper.writer.half ≡ half → keeper.writer.register ≡ g.safe.register
     → (keeper.writer.is_broken ≡ false → LeavesNow (fuse_state_of keeper.writer.device) (IsImageIn keeper.writer.plan keeper.writer.half keeper.writer.is_in_second_half keeper.writer.used keeper.writer.register))
     → IsLeftBy outcome (fuse_state_of keeper.writer.device) image → MayLeave (fuse_state_of keeper.writer.device) image → IsFound plan (left_by outcome g) image
 left_found plan g keeper outcome image (Some s) is stands of_plan half_is register placed left may = stands.1 outcome image left may
 left_found plan g keeper outcome image None is stands of_plan half_is register placed left may =
     let there : IsImageIn keeper.writer.plan keeper.writer.half keeper.writer.is_in_second_half keeper.writer.used keeper.writer.register image = placed stands.0 tt image may in
-    subst (λ x. IsFound plan (left_as x outcome g) image) (sym is)
-    (subst (λ (p : Plan). IsImageIn p half g.is_in_second_half g.used g.register image) of_plan
-    (subst (λ h. IsImageIn keeper.writer.plan h g.is_in_second_half g.used g.register image) half_is
-    (subst (λ b. IsImageIn keeper.writer.plan keeper.writer.half b g.used g.register image) stands.3
-    (subst (λ u. IsImageIn keeper.writer.plan keeper.writer.half keeper.writer.is_in_second_half u g.register image) stands.2
+    subst (λ x. IsFound plan (left_as x outcome g.safe) image) (sym is)
+    (subst (λ (p : Plan). IsImageIn p half g.safe.is_in_second_half g.safe.used g.safe.register image) of_plan
+    (subst (λ h. IsImageIn keeper.writer.plan h g.safe.is_in_second_half g.safe.used g.safe.register image) half_is
+    (subst (λ b. IsImageIn keeper.writer.plan keeper.writer.half b g.safe.used g.safe.register image) stands.3
+    (subst (λ u. IsImageIn keeper.writer.plan keeper.writer.half keeper.writer.is_in_second_half u g.safe.register image) stands.2
     (subst (λ r. IsImageIn keeper.writer.plan keeper.writer.half keeper.writer.is_in_second_half keeper.writer.used r image) register there)))))
 
 -- no batch without records

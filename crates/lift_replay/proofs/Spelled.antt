@@ -16,7 +16,7 @@ pub asks_for : (line : List ℕ) → IsDecided ((wanted : ScriptLine) × Spells 
 asks_for line = elim (ask_decided line) [
   | inl ask ↦ inl (Ask ask.0, ask.1)
   | inr no_ask ↦ elim (worded line (codes "turn") []) [
-    | inl turn ↦ inl (Turn, (_, turn, refl, tt))
+    | inl turn ↦ inl (Turn, (_, turn, refl))
     | inr no_turn ↦ elim (query_decided line) [
       | inl query ↦ inl (Show query.0, query.1)
       | inr no_query ↦ elim (action_decided line) [

@@ -5,7 +5,7 @@ use Rattle.std.specs.Io.KnownBytes.{Consumes, IsAtEnd}
 use Rattle.std.proofs.lemmas.List.{append_assoc, append-nil}
 use Rattle.std.proofs.KnownBytes.{Consumes-trans}
 use Rattle.lift_base.specs.Input.{InputState}
-use Rattle.lift_replay.specs.Reading.{GiveEach, IsInput, IsLastCall, TakesByEach, TakesUpTo}
+use Rattle.lift_replay.specs.Reading.{GiveEach, IsLastCall, TakesByEach, TakesUpTo}
 
 module _ {R : Type 0} (remaining : R → Option (List ℕ)) (most : ℕ) (old mid new : InputState R) (items : List ℕ) where
   -- one call more
@@ -29,15 +29,10 @@ pub handed_on : {T E : Type 0} (P : Type 0) (result : Result T E) (fault wanted 
 handed_on P result fault wanted is holds same = holds (sym (subst (λ r. IsErrAnd r (λ told. told ≡ fault)) same is))
 
 -- what was taken is too long, so all of it is
-pub long_input : (most : ℕ) (old new : Option (List ℕ)) (bytes : List ℕ) → Consumes old new bytes → most < length bytes → (all : List ℕ) × IsInput old all × (most < length all)
+pub long_input : (most : ℕ) (old new : Option (List ℕ)) (bytes : List ℕ) → Consumes old new bytes → most < length bytes → (all : List ℕ) × IfSome old (λ whole. all ≡ whole) × (most < length all)
 long_input most None new bytes taken long = (bytes, tt, long)
 long_input most (Some all) (Some rest) bytes taken long = (all, refl, omega (arith, long, ap length taken, length-append bytes rest))
 long_input most (Some all) None bytes taken long = absurd taken
-
--- what was taken is all of it
-pub whole_input : (old : Option (List ℕ)) (bytes : List ℕ) → IfSome old (λ all. bytes ≡ all) → IsInput old bytes
-whole_input None bytes is = tt
-whole_input (Some all) bytes is = is
 
 -- what was taken up to the end is all of it
 pub all_taken : (old new : Option (List ℕ)) (bytes : List ℕ) → Consumes old new bytes → IsAtEnd new → IfSome old (λ all. bytes ≡ all)

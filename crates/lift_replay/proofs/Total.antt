@@ -1,5 +1,5 @@
 -- Each script has a report.
-use Rattle.std.proofs.Common.{◌≡◌, ◌≢◌, ◌⊎◌, ℕ, suc, List, [], ◌∷◌, ◌++◌, length, All, refl, ap, inl, inr}
+use Rattle.std.proofs.Common.{◌≡◌, ◌≢◌, ◌⊎◌, ℕ, suc, List, [], ◌∷◌, ◌++◌, length, All, refl, ap, subst, inl, inr}
 use Rattle.std.specs.Prelude.{codes}
 use Rattle.std.proofs.lemmas.Bool.{cases_Bool}
 use Rattle.std.proofs.lemmas.Bool.Decides.{leb_tells}
@@ -9,15 +9,18 @@ use Rattle.std.specs.Str.{is_utf8}
 use Rattle.lift_building.specs.Plan.{Plan}
 use Rattle.lift_replay.specs.declared.lines.Verdict.{Verdict}
 use Rattle.lift_replay.specs.declared.lines.Verdict.TheVariants.{Good, Bad}
+use Rattle.lift_replay.specs.Grammar.{IsKnown}
 use Rattle.lift_replay.specs.Group.{ScriptGroup, first_group}
 use Rattle.lift_replay.specs.Lines.{line_text, after}
 use Rattle.lift_replay.specs.Reading.{most_bytes}
 use Rattle.lift_replay.specs.Replaying.{IsPartsReport, IsTextReport, IsReport}
 use Rattle.lift_replay.specs.Report.{bad_text, building_text}
 use Rattle.lift_replay.specs.Running.{TellsLines}
-use Rattle.lift_replay.specs.Source.{divider, ended, lines_in}
+use Rattle.std.specs.Str.Lines.{lines as lines_in}
+use Rattle.lift_replay.specs.Source.{divider, ended}
 use Rattle.lift_replay.proofs.Built.{faulty_or_says}
 use Rattle.lift_replay.proofs.Found.{same}
+use Rattle.lift_replay.proofs.Once.{spells_one}
 use Rattle.lift_replay.proofs.Spelled.{asks_for, skipped, known}
 
 pub lines_total : (plan : Plan) (count : ℕ) (g : ScriptGroup) (script : List (List ℕ)) → (text : List ℕ) × (verdict : Verdict) × TellsLines plan count g script text verdict
@@ -28,9 +31,9 @@ lines_total plan count g (line ∷ lines) = elim (skipped line) [
     | inl asks ↦ elim (known plan asks.0) [
       | inl is ↦ (let rest = lines_total plan (suc count) (after plan g asks.0) lines in
           (line_text plan g asks.0 ++ rest.0, rest.1, inr (inl (asks.0, rest.0, other, asks.1, is, rest.2, refl))))
-      | inr not ↦ (bad_text (suc count), Bad, inr (inr ((other, inr (asks.0, asks.1, not)), refl, refl)))
+      | inr not ↦ (bad_text (suc count), Bad, inr (inr ((other, λ wanted spells known. not (subst (IsKnown plan) (spells_one line wanted asks.0 spells asks.1) known)), refl, refl)))
     ]
-    | inr none ↦ (bad_text (suc count), Bad, inr (inr ((other, inl (λ wanted spells. none (wanted, spells))), refl, refl)))
+    | inr none ↦ (bad_text (suc count), Bad, inr (inr ((other, λ wanted spells known. none (wanted, spells)), refl, refl)))
   ]
 ]
 
@@ -67,7 +70,7 @@ pub report_total : (bytes : List ℕ) → (report : List ℕ) × (verdict : Verd
 report_total bytes = elim (leb_tells (length bytes) most_bytes) [
   | inr long ↦ (codes "TOO LONG\n", Bad, inl (long.1, refl, refl))
   | inl short ↦ elim (cases_Bool (is_utf8 bytes)) [
-    | inl is ↦ (let told = text_total bytes in (told.0, told.1, inr (inr ((short.1, IsUtf8-from_is_utf8 bytes is), told.2))))
+    | inl is ↦ (let told = text_total bytes in (told.0, told.1, inr (inr (short.1, IsUtf8-from_is_utf8 bytes is, told.2))))
     | inr not ↦ (codes "NOT TEXT\n", Bad, inr (inl (short.1, (λ text. (let is = is_utf8-from_IsUtf8 bytes text in cc)), refl, refl)))
   ]
 ]

@@ -1,13 +1,12 @@
 -- A prefix of what the lines report.
 use Rattle.std.proofs.Common.{◌≡◌, ℕ, List, [], ◌++◌, take, drop, take-append-drop, refl, sym, ap, ◌∙◌, subst}
-use Rattle.std.specs.Prelude.{Option, Some, None, Result, Ok, Err, OnErr, IfOk}
+use Rattle.std.specs.Prelude.{Option, Some, None, Result, Ok, Err, OnErr, IfOk, IfSome}
 use Rattle.std.proofs.lemmas.List.{append_assoc, append-nil}
 use Rattle.std.specs.Io.KnownBytes.{Appends}
 use Rattle.std.proofs.KnownBytes.{Appends-nil, Appends-trans}
 use Rattle.lift_building.specs.Plan.{Plan}
 use Rattle.lift_replay.specs.declared.lines.Verdict.{Verdict}
 use Rattle.lift_replay.specs.Group.{ScriptGroup}
-use Rattle.lift_replay.specs.Reading.{IsInput}
 use Rattle.lift_replay.specs.Replaying.{IsReport, IsTextReport, WritesPrefix, ReportsPrefix}
 use Rattle.lift_replay.specs.Report.{AppendsPrefix, Reports, ReportsPart}
 use Rattle.lift_replay.specs.Running.{TellsLines, TellsPart, TellsPartAfter, Continues}
@@ -130,7 +129,7 @@ pub input_of : Option (List ℕ) → List ℕ
 input_of None = []
 input_of (Some all) = all
 
-input_is : (input : Option (List ℕ)) → IsInput input (input_of input)
+input_is : (input : Option (List ℕ)) → IfSome input (λ all. input_of input ≡ all)
 unfolding input_of
 input_is None = tt
 input_is (Some all) = refl

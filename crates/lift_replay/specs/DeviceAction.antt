@@ -13,31 +13,22 @@ use Rattle.lift_replay.specs.Group.{ScriptGroup, left_by, recovered}
 use Rattle.lift_replay.specs.Report.{cut_text}
 use Rattle.lift_replay.specs.Told.{ScriptClerk}
 
--- how the power cut's outcome is written
-abbrev pub outcome_words : Outcome → List (List ℕ)
-outcome_words Keep = codes "keep" ∷ []
-outcome_words Lose = codes "lose" ∷ []
-outcome_words (Fill byte) = codes "fill" ∷ decimal byte ∷ []
+-- these words say what becomes of the sectors that weren't safe
+abbrev pub SayOutcome : List (List ℕ) → Outcome → Type 0
+SayOutcome words Keep = words ≡ codes "keep" ∷ []
+SayOutcome words Lose = words ≡ codes "lose" ∷ []
+SayOutcome words (Fill byte) = (byte < 256) × (words ≡ codes "fill" ∷ decimal byte ∷ [])
 
 -- these words ask for this
 abbrev pub AskToDo : List (List ℕ) → DeviceAction → Type 0
-AskToDo words (Fuse calls) = words ≡ codes "fuse" ∷ decimal calls ∷ []
-AskToDo words (Cut outcome) = words ≡ codes "cut" ∷ outcome_words outcome
+AskToDo words (Fuse calls) = (calls ≤ 1000000) × (words ≡ codes "fuse" ∷ decimal calls ∷ [])
+AskToDo words (Cut outcome) =
+    (last : List (List ℕ)) × SayOutcome last outcome × (words ≡ codes "cut" ∷ last)
 
-abbrev pub IsOutcomeInRange : Outcome → Type 0
-IsOutcomeInRange Keep = Unit {0}
-IsOutcomeInRange Lose = Unit {0}
-IsOutcomeInRange (Fill byte) = byte < 256
-
-abbrev pub IsActionInRange : DeviceAction → Type 0
-IsActionInRange (Fuse calls) = calls ≤ 1000000
-IsActionInRange (Cut outcome) = IsOutcomeInRange outcome
-
--- what is read from these words, and none exactly where they ask for none in range
+-- what is read from these words, and none exactly where they ask for none
 abbrev pub AreReadAsAction : List (List ℕ) → Option DeviceAction → Type 0
-AreReadAsAction words (Some action) = AskToDo words action × IsActionInRange action
-AreReadAsAction words None = (action : DeviceAction) → IsActionInRange action
-    → AskToDo words action → ⊥
+AreReadAsAction words (Some action) = AskToDo words action
+AreReadAsAction words None = (action : DeviceAction) → AskToDo words action → ⊥
 
 -- The device of the clerk is armed to fail every call after this many, and nothing else changes.
 pub record IsArmed (calls : ℕ) (old new : ScriptClerk) : Type 0 where

@@ -14,8 +14,8 @@ use Rattle.lift_replay.specs.declared.lines.Verdict.TheVariants.{Bad}
 use Rattle.lift_replay.specs.Ask.{asked_command}
 use Rattle.lift_replay.specs.DeviceAction.{DoesToDevice, cut_by, action_text, after_action}
 use Rattle.lift_replay.specs.Grammar.{Spells, IsSkipped, IsKnown}
-use Rattle.lift_replay.specs.Group.{ScriptGroup, asked_text, after_asking, policy_view, turn_told}
-use Rattle.lift_replay.specs.Group.{turned}
+use Rattle.lift_replay.specs.Group.{ScriptGroup, asking_at, ask_text, after_asking, turn_told}
+use Rattle.lift_replay.specs.Group.{turned, state_to_decide_on}
 use Rattle.lift_replay.specs.Query.{shown_text}
 use Rattle.lift_replay.specs.Report.{bad_text}
 use Rattle.lift_replay.specs.Script.{IsBadLine}
@@ -80,15 +80,15 @@ LineTells plan old new seats after line number end text =
 -- what each line reports of a group
 abbrev pub line_text : Plan → ScriptGroup → ScriptLine → List ℕ
 line_text plan g (Ask ask) =
-    asked_text g (asked_command ask).terminal (asked_command ask).number
+    ask_text (asking_at g.terminals (asked_command ask).terminal) (asked_command ask)
 line_text plan g Turn = turn_told g.failed plan g
-line_text plan g (Show query) = shown_text (is_some g.failed) plan (policy_view g) query
+line_text plan g (Show query) =
+    shown_text (is_some g.failed) plan (view_of (state_to_decide_on g)) query
 line_text plan g (Device action) = action_text g action
 
 -- what each makes of the group
 abbrev pub after : Plan → ScriptGroup → ScriptLine → ScriptGroup
-after plan g (Ask ask) =
-    after_asking g (asked_command ask).terminal (asked_command ask).number (asked_command ask).body
+after plan g (Ask ask) = after_asking g (asked_command ask)
 after plan g Turn = turned g.failed plan g
 after plan g (Show query) = g
 after plan g (Device action) = after_action plan g action

@@ -1,5 +1,5 @@
 -- How far a script was read.
-use Rattle.std.specs.Prelude.{ℕ, zero, suc, ◌≡◌, ◌⊎◌, ◌+◌, ◌≤◌, ◌<◌, true, false, Option, Some, None}
+use Rattle.std.specs.Prelude.{ℕ, zero, suc, ◌≡◌, ◌⊎◌, ◌+◌, ◌≤◌, ◌<◌, true, false, Option, None}
 use Rattle.std.specs.Prelude.{List, [], ◌++◌, length, IfSome}
 use Rattle.std.specs.Io.KnownBytes.{Consumes, IsAtEnd}
 use Rattle.lift_base.specs.Input.{InputState}
@@ -91,9 +91,3 @@ abbrev pub ReaderFails : {R : Type 0} → (gives : R → List ℕ → Option ℕ
     → (old new : R) → Type 0
 ReaderFails {R} gives old new =
     (last : R) × (buffer : List ℕ) × TakesSomeEachCall gives old last × gives last buffer None new
-
--- These bytes are the input of a reader that has so much left; of one that doesn't say, they may
--- be any.
-abbrev pub IsInput : Option (List ℕ) → List ℕ → Type 0
-IsInput None bytes = Unit {0}
-IsInput (Some all) bytes = bytes ≡ all

@@ -15,9 +15,7 @@ use Rattle.lift_base.specs.declared.command.Reason.{Reason}
 use Rattle.lift_register.specs.Prelude.{RegisterState, cars, rows_of, open_count}
 use Rattle.lift_building.specs.Text.{fault_number}
 use Rattle.lift_building.specs.declared.fault.BuildingFault.{BuildingFault}
-use Rattle.lift_building.specs.declared.fault.BuildingFault.TheVariants.{NotToml, Missing}
-use Rattle.lift_building.specs.declared.fault.BuildingFault.TheVariants.{WrongType, OutOfRange}
-use Rattle.lift_building.specs.declared.fault.BuildingFault.TheVariants.{TableShape, Detour, Memory}
+use Rattle.lift_building.specs.declared.fault.BuildingFault.TheVariants.{Detour}
 
 -- whether a call's passengers wait or ride
 abbrev pub status_text : Bool → List ℕ
@@ -32,8 +30,8 @@ party_text party = if nat_lt 1 party then codes " x" ++ decimal party else []
 abbrev pub row_text : Row → List ℕ
 row_text row =
     letter_text row.car ++ 32 ∷ terminal_text row.kiosk ++ 32 ∷ decimal row.number ++ 32
-    ∷ decimal row.from ++ 32 ∷ decimal row.to
-    ++ 32 ∷ status_text row.aboard ++ party_text row.party ++ 10 ∷ []
+    ∷ decimal row.from ++ 32 ∷ decimal row.to ++ 32 ∷ status_text row.aboard
+    ++ party_text row.party ++ 10 ∷ []
 
 -- the head of the open calls: how many are open, and how many are done
 abbrev pub rows_text : (calls done : ℕ) → List ℕ
@@ -53,20 +51,14 @@ register_text register =
 abbrev pub halt_text : Halt → List ℕ
 halt_text halt = 32 ∷ decimal (pass_number halt.pass) ++ 58 ∷ decimal halt.floor
 
--- what a terminal hears
+-- what a terminal is told of the ask with this number
+abbrev pub told_text : (terminal number : ℕ) → List ℕ → List ℕ
+told_text terminal number text =
+    terminal_text terminal ++ 32 ∷ decimal number ++ 32 ∷ text ++ 10 ∷ []
+
+-- what it hears
 abbrev pub heard_text : (terminal number : ℕ) → Reply → List ℕ
-heard_text terminal number reply =
-    terminal_text terminal ++ 32 ∷ decimal number ++ 32 ∷ reply_text reply ++ 10 ∷ []
-
--- an ask that the terminal may not make while one waits
-abbrev pub waiting_text : (terminal number : ℕ) → List ℕ
-waiting_text terminal number =
-    terminal_text terminal ++ 32 ∷ decimal number ++ codes " WAITING" ++ 10 ∷ []
-
--- an ask of a terminal that has used up its turns
-abbrev pub spent_text : (terminal number : ℕ) → List ℕ
-spent_text terminal number =
-    terminal_text terminal ++ 32 ∷ decimal number ++ codes " SPENT" ++ 10 ∷ []
+heard_text terminal number reply = told_text terminal number (reply_text reply)
 
 -- how many calls are open once the power has come back
 abbrev pub cut_text : ℕ → List ℕ
@@ -97,19 +89,11 @@ fault_text line fault = line ++ codes " FAULT " ++ decimal fault ++ 10 ∷ []
 abbrev pub refused_text : Reason → List ℕ
 refused_text reason = codes " NO " ++ decimal (reason_number reason)
 
--- the floors of the first flight that a stop would shorten, with that stop between them
-abbrev pub detour_text : (from by to : ℕ) → List ℕ
-detour_text from by to = 32 ∷ decimal from ++ 32 ∷ decimal by ++ 32 ∷ decimal to
-
--- the floors, of a fault that names some
+-- the floors of the first flight that a stop would shorten, with that stop between them, of a fault
+-- that names some
 abbrev pub floors_text : BuildingFault → List ℕ
-floors_text NotToml = []
-floors_text (Missing field) = []
-floors_text (WrongType field) = []
-floors_text (OutOfRange field) = []
-floors_text TableShape = []
-floors_text (Detour from by to) = detour_text from by to
-floors_text (Memory no_memory) = []
+floors_text (Detour from by to) = 32 ∷ decimal from ++ 32 ∷ decimal by ++ 32 ∷ decimal to
+floors_text _ = []
 
 -- a text is no building
 abbrev pub building_text : BuildingFault → List ℕ

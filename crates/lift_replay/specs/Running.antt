@@ -27,8 +27,7 @@ TellsLines plan count g [] text verdict = (text ≡ []) × (verdict ≡ Good)
 TellsLines plan count g (line ∷ lines) text verdict =
     (IsSkipped line × TellsLines plan (suc count) g lines text verdict)
     ⊎ (((wanted : ScriptLine) × (more : List ℕ) × (¬ IsSkipped line) × Spells line wanted
-    × IsKnown plan wanted
-    × TellsLines plan (suc count) (after plan g wanted) lines more verdict
+    × IsKnown plan wanted × TellsLines plan (suc count) (after plan g wanted) lines more verdict
     × (text ≡ line_text plan g wanted ++ more))
     ⊎ (IsBadLine plan line × (text ≡ bad_text (suc count)) × (verdict ≡ Bad)))
 

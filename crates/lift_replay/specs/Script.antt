@@ -1,6 +1,5 @@
 -- Which lines are malformed, and which texts say a building.
-use Rattle.std.specs.Prelude.{ℕ, ◌≡◌, ◌≢◌, ◌⊎◌, ◌≤◌, List, length}
-use Rattle.std.specs.Str.{IsUtf8}
+use Rattle.std.specs.Prelude.{ℕ, ◌≡◌, ◌≢◌, List}
 use Rattle.lift_building.specs.Plan.{Plan, IsBuilding}
 use Rattle.lift_building.specs.Describes.{IsTextOf}
 use Rattle.lift_building.specs.Gives.{IsFirstFault}
@@ -8,15 +7,12 @@ use Rattle.lift_building.specs.declared.fault.BuildingFault.{BuildingFault}
 use Rattle.lift_building.specs.declared.fault.BuildingFault.TheVariants.{Memory}
 use Rattle.lift_replay.specs.declared.line.ScriptLine.{ScriptLine}
 use Rattle.lift_replay.specs.Grammar.{Spells, IsSkipped, IsKnown}
-use Rattle.lift_replay.specs.Reading.{most_bytes}
 use Rattle.lift_replay.specs.Report.{building_text}
 
--- a line is malformed: it is not skipped, and it asks for nothing, or for something that the
--- building does not know
+-- a line is malformed: it is not skipped, and it asks for nothing that the building knows
 abbrev pub IsBadLine : Plan → List ℕ → Type 0
 IsBadLine plan line = (¬ IsSkipped line)
-    × (((wanted : ScriptLine) → Spells line wanted → ⊥)
-    ⊎ ((wanted : ScriptLine) × Spells line wanted × (¬ IsKnown plan wanted)))
+    × ((wanted : ScriptLine) → Spells line wanted → ¬ IsKnown plan wanted)
 
 -- the building is refused, with its first fault; out of memory is no fault of a script
 abbrev pub RefusesBuilding : (building report : List ℕ) → Type 0
@@ -26,7 +22,3 @@ RefusesBuilding building report = (fault : BuildingFault) × (fault ≢ Memory b
 -- the text says that the building is so
 abbrev pub SaysBuilding : List ℕ → Plan → Type 0
 SaysBuilding building plan = IsTextOf building plan × IsBuilding plan
-
--- a text that may be a script: not too long, and UTF-8
-abbrev pub IsText : List ℕ → Type 0
-IsText bytes = (length bytes ≤ most_bytes) × IsUtf8 bytes

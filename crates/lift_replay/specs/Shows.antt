@@ -64,7 +64,7 @@ IsCutAs plan g disk = (outcome : Outcome) (image : Image) → IsLeftBy outcome d
 abbrev pub Stands : Option FailedBatch → Plan → ScriptGroup → KeeperView FusedDisk → Type 0
 Stands None plan g keeper = (keeper.writer.is_broken ≡ false)
     × (keeper.state ≡ state_to_decide_on g)
-    × (keeper.writer.used ≡ g.used) × (keeper.writer.is_in_second_half ≡ g.is_in_second_half)
+    × (keeper.writer.used ≡ g.safe.used) × (keeper.writer.is_in_second_half ≡ g.safe.is_in_second_half)
     × IsFused g.passing (fuse_state_of keeper.writer.device)
 Stands (Some failed) plan g keeper = (keeper.writer.is_broken ≡ true)
     × IsCutAs plan g (fuse_state_of keeper.writer.device)
@@ -73,7 +73,7 @@ Stands (Some failed) plan g keeper = (keeper.writer.is_broken ≡ true)
 pub record IsKeeperOf (plan : Plan) (g : ScriptGroup) (keeper : KeeperView FusedDisk) : Type 0 where
   pub same_plan : keeper.writer.plan ≡ plan
   pub half_is : keeper.writer.half ≡ half
-  pub register : keeper.writer.register ≡ g.register
+  pub register : keeper.writer.register ≡ g.safe.register
   pub stands : Stands g.failed plan g keeper
 
 -- The clerk and the terminals are this group.

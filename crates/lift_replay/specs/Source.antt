@@ -1,11 +1,8 @@
--- The lines of a script's text.
+-- The lines of a script's text, each without its end: a line feed, with a carriage return before it
+-- or none.
 use Rattle.std.specs.Prelude.{ℕ, ◌≡◌, ◌≢◌, All, List, [], ◌∷◌, ◌++◌, codes}
 use Rattle.std.specs.List.{flat_map}
-use Rattle.std.specs.Str.Lines.{lines}
-
--- the lines of a text, each without its end: a line feed, with a carriage return before it or none
-abbrev pub lines_in : List ℕ → List (List ℕ)
-lines_in text = lines text
+use Rattle.std.specs.Str.Lines.{lines as lines_in}
 
 -- the line that stands between the building and the script's own lines
 abbrev pub divider : List ℕ

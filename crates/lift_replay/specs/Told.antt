@@ -14,7 +14,7 @@ use Rattle.lift_keeper.specs.Writer.{IsFailedCommit, commit_call_count, commit_u
 use Rattle.lift_clerk.specs.Clerk.{ClerkState}
 use Rattle.lift_clerk.specs.Turn.{IsTurn, IsFailedTurn, IsBrokenTurn}
 use Rattle.lift_clerk.specs.declared.counts.Counts.{Counts}
-use Rattle.lift_replay.specs.Report.{waiting_text, spent_text, turn_text, fault_text}
+use Rattle.lift_replay.specs.Report.{told_text, turn_text, fault_text}
 use Rattle.lift_replay.specs.Terminals.{seat_at, having_asked, told_seat, AreTold, AllHear}
 
 -- the clerk of a script
@@ -42,9 +42,9 @@ abbrev pub Asks : (seats after : List TerminalSeat) (places known : List ClerkPl
     → (terminal number : ℕ) → Body → List ℕ → Type 0
 Asks seats after places known terminal number body text =
     (Waits (seat_at seats terminal).view × (after ≡ seats) × (known ≡ places)
-    × (text ≡ waiting_text terminal number))
+    × (text ≡ told_text terminal number (codes "WAITING")))
     ⊎ (((¬ Waits (seat_at seats terminal).view) × IsSpent (seat_at seats terminal) × (after ≡ seats)
-    × (known ≡ places) × (text ≡ spent_text terminal number))
+    × (known ≡ places) × (text ≡ told_text terminal number (codes "SPENT")))
     ⊎ ((¬ Waits (seat_at seats terminal).view) × (¬ IsSpent (seat_at seats terminal))
     × HasAsked seats after places known terminal number body × (text ≡ [])))
 

@@ -14,21 +14,18 @@ of_input (NoRoom no_memory) = Memory no_memory
 of_input Unread = Read
 
 -- this many calls of a writer, of which each took a byte at least
-abbrev pub Took : {W : Type 0} → (gives : W → List ℕ → Option ℕ → W → Type 0) → (calls : ℕ)
-    → (before after : W) → Type 0
+abbrev pub Took : {W : Type 0} → (W → List ℕ → Option ℕ → W → Type 0) → ℕ → W → W → Type 0
 Took gives zero before after = after ≡ before
 Took {W} gives (suc calls) before after =
     (between : W) × (given : List ℕ) × (count : ℕ) × Took gives calls before between
     × gives between given (Some count) after × (0 < count)
 
 -- each call of the writer took a byte at least
-abbrev pub TakesSomeEachCall : {W : Type 0} → (gives : W → List ℕ → Option ℕ → W → Type 0)
-    → (before after : W) → Type 0
+abbrev pub TakesSomeEachCall : {W : Type 0} → (W → List ℕ → Option ℕ → W → Type 0) → W → W → Type 0
 TakesSomeEachCall gives before after = (calls : ℕ) × Took gives calls before after
 
 -- Each did but the last one: that failed, or took nothing of what it was given.
-abbrev pub FailsAtLast : {W : Type 0} → (gives : W → List ℕ → Option ℕ → W → Type 0)
-    → (before after : W) → Type 0
+abbrev pub FailsAtLast : {W : Type 0} → (W → List ℕ → Option ℕ → W → Type 0) → W → W → Type 0
 FailsAtLast {W} gives before after =
     (between : W) × (given : List ℕ) × TakesSomeEachCall gives before between × (0 < length given)
     × (gives between given None after ⊎ gives between given (Some 0) after)
@@ -68,8 +65,7 @@ unfoldable pub gone_in : {W : Type 0} → (sent : W → OutputTally) → W → O
 gone_in sent writer = Some (sent writer).gone
 
 -- Bytes were taken by a writer, and these are what was added to it, where it tells what is in it.
-abbrev pub GoesInto : {W : Type 0} → (sent : W → OutputTally) → (contents : W → Option (List ℕ))
-    → (before after : W) → Type 0
+abbrev pub GoesInto : {W : Type 0} → (W → OutputTally) → (W → Option (List ℕ)) → W → W → Type 0
 GoesInto sent contents before after = (bytes : List ℕ)
     × Appends (gone_in sent before) (gone_in sent after) bytes
     × Appends (contents before) (contents after) bytes

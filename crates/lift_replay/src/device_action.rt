@@ -1,11 +1,11 @@
 //! What a line may do to the group's device: set a fuse, or cut the power. How it is spelled, and
 //! what it does.
 
-ghost use Rattle.std.specs.Prelude.{◌≡◌, ◌≢◌, ◌∷◌, map, IfSome, IfNone, codes};
+ghost use Rattle.std.specs.Prelude.{◌≡◌, ◌∷◌, IfSome, IfNone, codes};
 ghost use Rattle.lift_base.specs.lemmas.Texts.{texts};
 ghost use Rattle.lift_disk.specs.declared.outcome.Outcome.{Outcome as Left};
 ghost use Rattle.lift_replay.specs.DeviceAction.{AreReadAsAction, DoesToDevice};
-ghost use Rattle.lift_replay.specs.DeviceAction.{outcome_words, IsOutcomeInRange, cut_by};
+ghost use Rattle.lift_replay.specs.DeviceAction.{SayOutcome, cut_by};
 
 use lift_base::text::number_up_to;
 use lift_clerk::Clerk;
@@ -23,11 +23,8 @@ pub enum DeviceAction {
 
 /// What the last words of a power cut say that it leaves.
 fn outcome_of(words: &[&str]) -> Option<Outcome>
-    ensures some { IfSome result (λ outcome.
-        map (λ word. word.now) words.now ≡ outcome_words outcome) }
-    ensures range { IfSome result (λ outcome. IsOutcomeInRange outcome) }
-    ensures none { IfNone result ((outcome : Left) → IsOutcomeInRange outcome
-        → map (λ word. word.now) words.now ≢ outcome_words outcome) }
+    ensures some { IfSome result (SayOutcome (texts words.now)) }
+    ensures none { IfNone result ((outcome : Left) → SayOutcome (texts words.now) outcome → ⊥) }
 {
     match words {
         [word] => {

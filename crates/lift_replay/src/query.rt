@@ -9,9 +9,9 @@ ghost use Rattle.lift_policy.specs.Step.{view_of};
 ghost use Rattle.lift_policy.specs.View.{IsViewIn};
 ghost use Rattle.lift_policy.specs.Eligible.{is_eligible, eligible_cars};
 ghost use Rattle.lift_policy.specs.Choices.{total_cost_at};
-ghost use Rattle.lift_replay.specs.Report.{cost_text};
+ghost use Rattle.lift_replay.specs.Report.{cost_text, halt_text};
 ghost use Rattle.lift_replay.specs.Query.{AreReadAsQuery, IsKnownQuery, query_word, query_text};
-ghost use Rattle.lift_replay.specs.Query.{halts_text, stops_text, prices_text, between_text};
+ghost use Rattle.lift_replay.specs.Query.{all_text, stops_text, between_text};
 ghost use Rattle.lift_replay.specs.Query.{costs_text, shown_text};
 
 use crate::parsing::{floor_of, kiosk_of};
@@ -91,7 +91,7 @@ pub fn query_of(first: &str, others: &[&str]) -> Option<Query>
 /// Halts in their order, or that there are none.
 fn push_halts(report: &mut String, halts: &[Halt]) -> Result<(), NoMemory>
     ensures { OnOk result (string_bytes report.new ≡ string_bytes report.old
-        ++ halts_text halts.now) }
+        ++ all_text halt_text halts.now) }
 {
     if halts.is_empty() {
         return add(report, " -");
@@ -145,8 +145,9 @@ impl<'a> Offer<'a> {
     fn push_costs(&self, report: &mut String) -> Result<(), NoMemory>
         requires possible { IsViewIn self.now.building.now self.now.view.now }
         requires to { self.now.call.now.to < self.now.building.now.floors }
-        ensures { OnOk result (string_bytes report.new ≡ string_bytes report.old ++ prices_text
-            (total_cost_at self.now.building.now self.now.view.now self.now.call.now)
+        ensures { OnOk result (string_bytes report.new ≡ string_bytes report.old ++ all_text
+            (λ car. cost_text car
+            (total_cost_at self.now.building.now self.now.view.now self.now.call.now car))
             (eligible_cars self.now.building.now self.now.view.now self.now.call.now)) }
     {
         match Eligible::among(self.building, self.view, *self.call) {

@@ -1,12 +1,12 @@
 //! The lines of a report.
 
-ghost use Rattle.std.specs.Prelude.{◌≡◌, ◌++◌, ◌∷◌, [], OnOk, decimal, string_bytes};
+ghost use Rattle.std.specs.Prelude.{◌≡◌, ◌++◌, ◌∷◌, [], OnOk, codes, decimal, string_bytes};
 ghost use Rattle.lift_base.specs.declared.command.Reply.TheVariants.{Car, Refused};
 ghost use Rattle.lift_base.specs.Text.{letter_text, terminal_text, next_text, reply_text};
 ghost use Rattle.lift_replay.specs.Report.{status_text, party_text, row_text, rows_text, car_text};
-ghost use Rattle.lift_replay.specs.Report.{register_text, halt_text, heard_text, waiting_text};
-ghost use Rattle.lift_replay.specs.Report.{spent_text, cut_text, turn_text, cost_text, bad_text};
-ghost use Rattle.lift_replay.specs.Report.{fault_text, refused_text, building_text, detour_text};
+ghost use Rattle.lift_replay.specs.Report.{register_text, halt_text, told_text, heard_text};
+ghost use Rattle.lift_replay.specs.Report.{cut_text, turn_text, cost_text, bad_text};
+ghost use Rattle.lift_replay.specs.Report.{fault_text, refused_text, building_text, floors_text};
 
 use crate::refused::{NoMemory, add, add_char};
 use itoa::Buffer;
@@ -235,7 +235,7 @@ pub fn push_heard(
 /// Adds that a terminal still waits.
 pub fn push_waiting(report: &mut String, terminal: Terminal, number: Number) -> Result<(), NoMemory>
     ensures { OnOk result (string_bytes report.new ≡ string_bytes report.old
-        ++ waiting_text terminal number) }
+        ++ told_text terminal number (codes "WAITING")) }
 {
     push_terminal(report, terminal)?;
     add_char(report, ' ')?;
@@ -246,7 +246,7 @@ pub fn push_waiting(report: &mut String, terminal: Terminal, number: Number) -> 
 /// Adds that a terminal has no turn left to ask with.
 pub fn push_spent(report: &mut String, terminal: Terminal, number: Number) -> Result<(), NoMemory>
     ensures { OnOk result (string_bytes report.new ≡ string_bytes report.old
-        ++ spent_text terminal number) }
+        ++ told_text terminal number (codes "SPENT")) }
 {
     push_terminal(report, terminal)?;
     add_char(report, ' ')?;
@@ -331,7 +331,7 @@ pub fn push_building_fault(report: &mut String, fault: &BuildingFault) -> Result
 
 fn push_detour(report: &mut String, from: Floor, by: Floor, to: Floor) -> Result<(), NoMemory>
     ensures { OnOk result (string_bytes report.new ≡ string_bytes report.old
-        ++ detour_text from by to) }
+        ++ floors_text (BuildingFault.Detour from by to)) }
 {
     add_char(report, ' ')?;
     push_number(report, u64::from(from.get()))?;

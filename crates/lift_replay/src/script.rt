@@ -11,7 +11,7 @@ ghost use Rattle.lift_replay.specs.Running.{TellsLines, TellsPart};
 ghost use Rattle.lift_replay.specs.Replaying.{IsTextReport, ReportsPrefix, ReportsInput};
 ghost use Rattle.lift_replay.specs.Replaying.{ReportsPrefixOfWhatCame, ReportsWhatCame};
 ghost use Rattle.lift_replay.specs.Replaying.{WritesReport, WritesPrefix};
-ghost use Rattle.lift_replay.specs.Source.{lines_in};
+ghost use Rattle.std.specs.Str.Lines.{lines as lines_in};
 ghost use Rattle.lift_replay.specs.Writing.{GoesInto, IsCalled, WritesPieces, failures_after};
 ghost use Rattle.lift_replay.specs.Writing.{gone_in, of_input};
 ghost use Rattle.lift_replay.specs.declared.script.ReplayFault.TheVariants.{Memory as Wanting};

@@ -10,7 +10,7 @@ ghost use Rattle.lift_replay.specs.Report.{Reports, ReportsPart, start_text};
 ghost use Rattle.lift_replay.specs.Running.{LinesEnd, SegmentEnds, TellsPart, TellsPartAfter};
 ghost use Rattle.lift_replay.specs.Segment.{IfCut, IsPowerCut};
 ghost use Rattle.lift_replay.specs.Shows.{IsFound, Shows};
-ghost use Rattle.lift_replay.specs.Source.{lines_in};
+ghost use Rattle.std.specs.Str.Lines.{lines as lines_in};
 ghost use Rattle.lift_replay.specs.Writing.{WritesPieces, gone_in};
 
 use crate::lines::{End, Verdict, push_line};

@@ -1,7 +1,9 @@
-use Rattle.std.proofs.Common.{sym, ◌∙◌, inl, inr, refl, [], string_bytes, arith, get_or, ◌≢◌}
+use Rattle.std.proofs.Common.{sym, subst, ◌∙◌, inl, inr, refl, [], string_bytes, arith, get_or, ◌≢◌}
 use Rattle.std.proofs.lemmas.List.{append-nil}
 use Rattle.std.proofs.lemmas.Str.Pattern.{starts_char}
+use Rattle.lift_replay.specs.Grammar.{IsKnown}
 use Rattle.lift_replay.specs.Report.{bad_text}
+use Rattle.lift_replay.proofs.Once.{spells_one}
 use Rattle.lift_replay.proofs.Told.{empty_skipped, hash_skipped, not_skipped}
 use Rattle.lift_replay.proofs.lines.push_line.Goals.{then-is_empty-via-then-is_empty, then-is_empty-via-else-is_empty+then-starts_with, in_default-via-in-Some+else-is_known, in_default-via-in_default}
 use Rattle.lift_replay.proofs.lines.push_line.Goals as goal
@@ -29,8 +31,10 @@ returns-in_ok-push_bad-in_default-clause-tells c =
         (
           not_skipped c.args.text.now (sym c.is_empty.ensures ∙ c.if-is_empty.false) other,
           elim c.in_default.branch [
-            | in_default-via-in-Some+else-is_known w ↦ inr (w.in-Some.line, w.in-Some.ensures.some, λ known. let is = w.is_known.ensures.1 known in (let not = w.if-is_known.false in cc))
-            | in_default-via-in_default w ↦ inl w.in_default.ensures.none
+            | in_default-via-in-Some+else-is_known w ↦ λ wanted spells known.
+                let is = w.is_known.ensures.1 (subst (IsKnown c.args.station.now.building.now) (spells_one c.args.text.now wanted w.in-Some.line spells w.in-Some.ensures.some) known) in
+                (let not = w.if-is_known.false in cc)
+            | in_default-via-in_default w ↦ λ wanted spells known. w.in_default.ensures.none wanted spells
           ],
         ),
         refl,

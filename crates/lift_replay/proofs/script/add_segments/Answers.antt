@@ -2,7 +2,7 @@ use Rattle.std.proofs.Common.{◌≡◌, ◌<◌, [], length, ap, subst, refl, a
 use Rattle.lift_replay.specs.Group.{first_group, nothing_found}
 use Rattle.lift_replay.specs.Running.{TellsLines}
 use Rattle.lift_replay.specs.Segment.{IfCut}
-use Rattle.lift_replay.specs.Source.{lines_in}
+use Rattle.std.specs.Str.Lines.{lines as lines_in}
 use Rattle.lift_replay.specs.declared.segment.SegmentEnd.{SegmentEnd}
 use Rattle.lift_replay.proofs.Runs.{reports_none, segment_more, segment_last}
 use Rattle.lift_replay.proofs.Written.{err_so, tells_none, tells_after}

@@ -5,7 +5,7 @@ use Rattle.lift_replay.specs.Group.{Found, first_group, recovered}
 use Rattle.lift_replay.specs.Running.{Continues}
 use Rattle.lift_replay.specs.Shows.{IsFound}
 use Rattle.lift_replay.specs.Report.{Reports, start_text}
-use Rattle.lift_replay.specs.Source.{lines_in}
+use Rattle.std.specs.Str.Lines.{lines as lines_in}
 use Rattle.lift_replay.specs.Writing.{TakesSomeEachCall, gone_in}
 use Rattle.lift_replay.proofs.script.add_segments.Given as goal
 

@@ -1,6 +1,6 @@
 use Rattle.std.proofs.Common.{refl}
 use Rattle.lift_replay.specs.Group.{first_group}
-use Rattle.lift_replay.specs.Source.{lines_in}
+use Rattle.std.specs.Str.Lines.{lines as lines_in}
 use Rattle.lift_replay.proofs.Written.{err_so, no_front, on_err, tells_either, tells_put, taken_front, whole_front}
 use Rattle.lift_replay.proofs.Runs.{report_put}
 use Rattle.lift_replay.proofs.Told.{if_ok}

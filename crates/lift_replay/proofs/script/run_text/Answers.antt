@@ -1,6 +1,7 @@
 use Rattle.std.proofs.Common.{◌≢◌, List, ℕ, string_bytes, refl, sym, subst, inl, inr, rules}
 use Rattle.std.specs.Prelude.{codes}
-use Rattle.lift_replay.specs.Source.{IsScript, LacksDivider, lines_in}
+use Rattle.std.specs.Str.Lines.{lines as lines_in}
+use Rattle.lift_replay.specs.Source.{IsScript, LacksDivider}
 use Rattle.lift_replay.specs.Script.{SaysBuilding}
 use Rattle.std.specs.Io.KnownBytes.{Appends}
 use Rattle.lift_building.specs.Gives.{IsFirstFault}

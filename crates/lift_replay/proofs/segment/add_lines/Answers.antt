@@ -2,7 +2,7 @@ use Rattle.std.proofs.Common.{◌≡◌, ◌<◌, ◌+◌, ◌++◌, ◌∙◌, 
 use Rattle.lift_building.specs.Plan.{Plan}
 use Rattle.lift_policy.specs.Choices.{total_cost_at}
 use Rattle.lift_replay.specs.Lines.{LineTells}
-use Rattle.lift_replay.specs.Source.{lines_in}
+use Rattle.std.specs.Str.Lines.{lines as lines_in}
 use Rattle.lift_replay.proofs.LineSteps.{line_goes_on, line_ends}
 use Rattle.std.proofs.KnownBytes.{Appends-nil}
 use Rattle.std.proofs.lemmas.List.{append-nil}

@@ -3,7 +3,7 @@ use Rattle.lift_replay.specs.Group.{ScriptGroup}
 use Rattle.lift_replay.specs.Running.{Continues}
 use Rattle.lift_replay.specs.Shows.{Shows}
 use Rattle.lift_replay.specs.Report.{Reports}
-use Rattle.lift_replay.specs.Source.{lines_in}
+use Rattle.std.specs.Str.Lines.{lines as lines_in}
 use Rattle.lift_replay.specs.Writing.{TakesSomeEachCall, gone_in}
 use Rattle.lift_replay.proofs.segment.add_lines.Given as goal
 

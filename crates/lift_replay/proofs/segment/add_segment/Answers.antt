@@ -10,7 +10,7 @@ use Rattle.lift_replay.specs.Group.{ScriptGroup, recovered}
 use Rattle.lift_replay.specs.Report.{Reports, start_text}
 use Rattle.lift_replay.specs.Running.{SegmentEnds, TellsPartAfter}
 use Rattle.lift_replay.specs.Shows.{Shows, IsFound, IsKeeperOf}
-use Rattle.lift_replay.specs.Source.{lines_in}
+use Rattle.std.specs.Str.Lines.{lines as lines_in}
 use Rattle.lift_replay.proofs.Recovered.{found_reads, kept_of, new_shows}
 use Rattle.lift_replay.proofs.Written.{err_so, ok_so, on_err, after_none}
 use Rattle.lift_replay.specs.lemmas.Writes.{pieces_memory}

@@ -7,7 +7,7 @@ use Rattle.lift_register.specs.Balanced.{open_count}
 use Rattle.lift_replay.specs.Group.{ScriptGroup, left_by}
 use Rattle.lift_replay.specs.Report.{Reports, ReportsPart, start_text}
 use Rattle.lift_replay.specs.Shows.{Shows, IsFound}
-use Rattle.lift_replay.specs.Source.{lines_in}
+use Rattle.std.specs.Str.Lines.{lines as lines_in}
 use Rattle.lift_replay.proofs.Runs.{run_told, cut_left}
 use Rattle.lift_replay.proofs.Written.{err_so, after_part, after_whole}
 use Rattle.lift_replay.specs.lemmas.Writes.{takes_more, pieces_ok, pieces_after}
