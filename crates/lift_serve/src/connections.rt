@@ -12,12 +12,11 @@ use crate::prepared::ServingTerms;
 use crate::prepared::shortages::{ServingEnd, Shortage, Shortages, push};
 use crate::serving::ServeFault;
 use crate::shared::Shared;
-use crate::socket::{Arrival, Closer, ListeningCloser, Socket};
+use crate::socket::{Arrival, Closer, Socket};
 use std::alloc::Global;
 use std::marker::Model;
 use std::net::Shutdown;
 use std::sync::Wait;
-use std::sync::atomic::{AtomicBool, Ordering};
 use std::thread::JoinHandle;
 use std::time::Clock;
 
@@ -149,27 +148,6 @@ pub(crate) struct AllShut {
     made: (),
 }
 
-/// Whether connections are still read. Only `Connections` ends that, after the last end that counts or where
-/// all are given up.
-#[derive(Drop)]
-pub(crate) struct Reading {
-    is_over: AtomicBool,
-}
-
-impl Reading {
-    /// They are.
-    pub(crate) fn new() -> Self {
-        Reading {
-            is_over: AtomicBool::new(false),
-        }
-    }
-
-    /// Nothing more is read.
-    pub(crate) fn is_over(&self) -> bool {
-        self.is_over.load(Ordering::SeqCst)
-    }
-}
-
 /// The connections that are open, how many have ended, and the first shortage. Contracts see the
 /// numbers of those that are open, the next number, how many have ended, whether all were given up,
 /// and the first shortage. They can't be let go: what comes of the serving tells it.
@@ -179,7 +157,6 @@ pub struct Connections {
     ended: u32,
     given_up: bool,
     shortages: Shortages,
-    listening: ListeningCloser,
 }
 
 impl Model for Connections {
@@ -199,7 +176,7 @@ impl Model for Connections {
 
 impl Connections {
     /// None is open, and none has ended: those of one serving.
-    pub(crate) fn new(alloc: Global, listening: ListeningCloser, shortages: Shortages) -> Self
+    pub(crate) fn new(alloc: Global, shortages: Shortages) -> Self
         ensures { result ≡ record {
           numbers = [];
           next = 0;
@@ -214,7 +191,6 @@ impl Connections {
             ended: 0,
             given_up: false,
             shortages,
-            listening,
         }
     }
 
@@ -375,9 +351,9 @@ impl Connections {
     /// No more are accepted, and nothing more is read from those that are open: who waits for a line
     /// finds the end, and the others look at this before each read.
     fn turn_away(&self, bound: &ServingTerms, over: &Over) {
-        bound.reading().is_over.store(true, Ordering::SeqCst);
+        bound.end_reading(over);
         self.shut(Shutdown::Read);
-        self.listening.shut(over);
+        bound.listening().shut(over);
     }
 
     /// Shuts down all that are open, that way.
@@ -434,7 +410,6 @@ impl Connections {
             ended: _,
             given_up: _,
             shortages,
-            listening: _,
         } = self;
         shortages.after(over)
     }

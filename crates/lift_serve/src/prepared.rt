@@ -10,11 +10,11 @@ ghost use Rattle.lift_serve.specs.Ready.{IsFullLobby, IsNewGroup};
 mod seating;
 pub(crate) mod shortages;
 
-use crate::connections::Reading;
 use crate::lobby::Lobby;
+use crate::over::Over;
 use crate::pace::Pager;
 use crate::present::{PresentCars, ServedPolicy};
-use crate::socket::{Accepting, Listening, ListeningCloser};
+use crate::socket::Listening;
 use lift_base::MOST_CARS;
 use lift_building::Building;
 use lift_clerk::Clerk;
@@ -28,6 +28,7 @@ use seating::{lobby_at, new_pagers};
 use shortages::Shortages;
 use std::alloc::Global;
 use std::marker::Model;
+use std::sync::atomic::{AtomicBool, Ordering};
 
 /// Where a group is served: a desk, where its sessions rest, and which cars are present. Whoever has a
 /// group prepared lends a place for one.
@@ -48,7 +49,6 @@ pub struct ReadyGroup<'d, 'b, D: Disk + Drop, P: Policy + Drop, K: Drop> {
     room: &'d Room,
     building: &'b Building,
     bound: ServingTerms,
-    closer: ListeningCloser,
     ghost of_one: { AreOfOne allocator flusher },
     ghost of_building: { building.now ≡ flusher.writer.plan },
 }
@@ -62,7 +62,6 @@ pub(crate) struct ServingStart<'d, 'b, D: Disk + Drop, P: Policy + Drop, K: Drop
     pub(crate) present: &'d PresentCars,
     pub(crate) building: &'b Building,
     pub(crate) bound: ServingTerms,
-    pub(crate) closer: ListeningCloser,
     pub(crate) shortages: Shortages,
 }
 
@@ -85,7 +84,6 @@ impl<'d, 'b, D: Disk + Drop, P: Policy + Drop, K: Drop> ReadyGroup<'d, 'b, D, P,
             room,
             building,
             bound,
-            closer,
         } = self;
         ServingStart {
             allocator,
@@ -95,7 +93,6 @@ impl<'d, 'b, D: Disk + Drop, P: Policy + Drop, K: Drop> ReadyGroup<'d, 'b, D, P,
             present: &room.present,
             building,
             bound,
-            closer,
             shortages: Shortages::new(),
         }
     }
@@ -112,7 +109,6 @@ impl<'d, 'b, D: Disk + Drop, P: Policy + Drop, K: Drop> ReadyGroup<'d, 'b, D, P,
             room: _,
             building: _,
             bound: _,
-            closer: _,
         } = self;
         flusher.into_writer(key)
     }
@@ -159,7 +155,6 @@ pub fn prepare<'d, 'b: 'd, D: Disk + Drop, P: Policy + Drop, K: Drop>(
     });
     let policy = ServedPolicy::new(policy, &room.present);
     let lobby = lobby_at(&room.desk, room.pagers.as_slice(), seats, keeper.register());
-    let (accepting, closer) = listening.apart();
     match split_for(alloc, Clerk::new(&room.desk, clerk, keeper, policy)) {
         Ok((allocator, flusher)) => Ok(ReadyGroup {
             allocator,
@@ -168,11 +163,10 @@ pub fn prepare<'d, 'b: 'd, D: Disk + Drop, P: Policy + Drop, K: Drop>(
             room,
             building,
             bound: ServingTerms {
-                accepting,
+                listening,
                 sessions,
-                reading: Reading::new(),
+                is_over: AtomicBool::new(false),
             },
-            closer,
         }),
         Err((clerk, memory)) => {
             let (_seat, keeper, _policy) = clerk.into_parts();
@@ -186,9 +180,10 @@ pub fn prepare<'d, 'b: 'd, D: Disk + Drop, P: Policy + Drop, K: Drop>(
 /// whether it is over, or counts an end, does so by that socket and that number.
 #[derive(Drop)]
 pub struct ServingTerms {
-    accepting: Accepting,
+    listening: Listening,
     sessions: u32,
-    reading: Reading,
+    /// Nothing more is read.
+    is_over: AtomicBool,
 }
 
 impl Model for ServingTerms {
@@ -196,13 +191,13 @@ impl Model for ServingTerms {
 
     ghost Value = { EndedState };
 
-    ghost view = { λ b. record { listener = b.accepting; sessions = b.sessions } };
+    ghost view = { λ b. record { listener = b.listening; sessions = b.sessions } };
 }
 
 impl ServingTerms {
-    /// What accepts at the socket.
-    pub(crate) fn accepting(&self) -> &Accepting {
-        &self.accepting
+    /// Its socket.
+    pub(crate) fn listening(&self) -> &Listening {
+        &self.listening
     }
 
     /// How many connections are to end.
@@ -212,8 +207,13 @@ impl ServingTerms {
         self.sessions
     }
 
-    /// Whether connections are still read.
-    pub(crate) fn reading(&self) -> &Reading {
-        &self.reading
+    /// Whether connections are read no more.
+    pub(crate) fn is_over(&self) -> bool {
+        self.is_over.load(Ordering::SeqCst)
+    }
+
+    /// Nothing more is read.
+    pub(crate) fn end_reading(&self, _over: &Over) {
+        self.is_over.store(true, Ordering::SeqCst);
     }
 }

@@ -270,7 +270,6 @@ where
         present,
         building,
         bound,
-        closer,
         shortages,
     } = group.begun();
     let parts = Parts {
@@ -280,7 +279,7 @@ where
         witness,
     };
     let lobby = Mutex::new(lobby);
-    let connections = Mutex::new(Connections::new(alloc, closer, shortages));
+    let connections = Mutex::new(Connections::new(alloc, shortages));
     let bells = Bells::new(pagers);
     let closing = Closing::new();
     let shared = Shared {

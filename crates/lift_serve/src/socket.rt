@@ -41,14 +41,9 @@ const SENT_AWAY: u64 = 2;
 /// the socket.
 #[derive(Drop)]
 pub struct Listening {
-    accepting: Accepting,
-    closer: ListeningCloser,
-}
-
-/// What connections are accepted by. Contracts see the socket.
-#[derive(Drop)]
-pub(crate) struct Accepting {
     listener: TcpListener,
+    /// A view of the socket, by which it is shut down, whoever waits for a connection there.
+    view: TcpStream,
 }
 
 impl Model for Listening {
@@ -56,15 +51,7 @@ impl Model for Listening {
 
     ghost Value = { Listener };
 
-    ghost view = { λ l. l.accepting };
-}
-
-impl Model for Accepting {
-    ghost use Rattle.std.specs.declared.net.tcp.TcpListener.{TcpListener as Listener};
-
-    ghost Value = { Listener };
-
-    ghost view = { λ a. a.listener };
+    ghost view = { λ l. l.listener };
 }
 
 impl Listening {
@@ -74,29 +61,9 @@ impl Listening {
     {
         let again = listener.try_clone()?;
         let view = TcpStream::from(OwnedFd::from(again));
-        Ok(Listening {
-            accepting: Accepting { listener },
-            closer: ListeningCloser { view },
-        })
+        Ok(Listening { listener, view })
     }
 
-    /// What connections are accepted by, and what shuts it down.
-    pub(crate) fn apart(self) -> (Accepting, ListeningCloser)
-        ensures { result.0 ≡ self }
-    {
-        let Listening { accepting, closer } = self;
-        (accepting, closer)
-    }
-}
-
-/// What shuts a listening socket down, whoever waits for a connection there.
-#[derive(Drop)]
-pub struct ListeningCloser {
-    /// A view of the socket.
-    view: TcpStream,
-}
-
-impl ListeningCloser {
     /// No more are accepted: all have ended that were to end, or all were given up.
     pub(crate) fn shut(&self, _over: &Over) {
         let _closed = self.view.shutdown(Shutdown::Both);
@@ -112,7 +79,7 @@ pub(crate) struct Arrival {
 impl Arrival {
     /// The next one at the socket of a serving that is bound so, both of whose parts have a thread.
     pub(crate) fn at(bound: &ServingTerms, _both: BothRun) -> io::Result<Arrival> {
-        let (stream, _address) = bound.accepting().listener.accept()?;
+        let (stream, _address) = bound.listening().listener.accept()?;
         Ok(Arrival { stream })
     }
 

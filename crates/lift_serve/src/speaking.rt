@@ -34,7 +34,7 @@ pub(crate) fn speak<'d, 's, R: Wait + Clock, I: Read + Drop, O: Write + Drop>(
         (new_sink (O.contents writer))
         (sink_of (λ w. O.contents w.writer) result.2) }
 {
-    let mut reader = Counted::new(OpenReader::new(reader, shared.bound.reading()));
+    let mut reader = Counted::new(OpenReader::new(reader, shared.bound));
     let mut writer = Watched::new(WakingWriter::new(writer, shared.bells));
     let attended = attend(
         rt,
