@@ -11,24 +11,14 @@ use crate::over::Over;
 use crate::prepared::ServingTerms;
 use crate::prepared::shortages::{ServingEnd, Shortage, Shortages, push};
 use crate::serving::ServeFault;
-use crate::shared::Shared;
-use crate::socket::{Arrival, Closer, Socket};
+use crate::socket::{Arrival, Closer, Connection};
 use std::alloc::Global;
 use std::marker::Model;
 use std::net::Shutdown;
-use std::sync::Wait;
 use std::thread::JoinHandle;
-use std::time::Clock;
 
 /// So many connections may be open whose first line is still to come.
 const MOST_WAITING: usize = 256;
-
-/// An open connection.
-#[derive(Drop)]
-struct Open {
-    number: u64,
-    closer: Closer,
-}
 
 /// Evidence that a connection was let in. It asks for one seat. Only `enter` makes one.
 #[derive(Drop)]
@@ -50,43 +40,6 @@ impl Ticket {
         ensures { result ≡ self.now }
     {
         self.number
-    }
-}
-
-/// A connection that was let in, by the ticket that it was let in with. Only `enter` makes one.
-#[derive(Drop)]
-pub(crate) struct Connection {
-    ticket: Ticket,
-    socket: Socket,
-}
-
-impl Model for Connection {
-    ghost use Rattle.std.specs.Prelude.{ℕ};
-
-    ghost Value = { ℕ };
-
-    ghost view = { λ c. c.ticket };
-}
-
-impl Connection {
-    /// Its number.
-    pub(crate) fn number(&self) -> u64
-        ensures { result ≡ self.now }
-    {
-        self.ticket.number()
-    }
-
-    /// It is attended to by its own ticket, and then shut down.
-    pub(crate) fn attended<'d, R: Wait + Clock>(
-        self,
-        rt: &R,
-        alloc: Global,
-        shared: Shared<'_, 'd>,
-    ) -> Result<Attendance<'d>, Shortage>
-        ensures lack { IfErr result (λ shortage. shortage ≡ ServeFault.Memory) }
-    {
-        let Connection { ticket, socket } = self;
-        socket.attended(rt, alloc, shared, ticket)
     }
 }
 
@@ -152,7 +105,7 @@ pub(crate) struct AllShut {
 /// numbers of those that are open, the next number, how many have ended, whether all were given up,
 /// and the first shortage. They can't be let go: what comes of the serving tells it.
 pub struct Connections {
-    open: Vec<Open>,
+    open: Vec<Closer>,
     next: u64,
     ended: u32,
     given_up: bool,
@@ -160,13 +113,12 @@ pub struct Connections {
 }
 
 impl Model for Connections {
-    ghost use Rattle.std.specs.Prelude.{map};
     ghost use Rattle.lift_serve.specs.Open.{OpenState};
 
     ghost Value = { OpenState };
 
     ghost view = { λ c. record {
-      numbers = map (λ o. o.number) c.open.items;
+      numbers = c.open.items;
       next = c.next;
       ended = c.ended;
       given_up = c.given_up;
@@ -267,11 +219,10 @@ impl Connections {
         ensures lack { IfErr result (λ shortage. shortage ≡ ServeFault.Memory) }
     {
         let number = self.next;
-        let ticket = Ticket { number };
-        let (socket, closer) = arrival.open(alloc, &ticket)?;
-        push(&mut self.open, Open { number, closer })?;
+        let (connection, closer) = arrival.open(alloc, Ticket { number })?;
+        push(&mut self.open, closer)?;
         self.next = number.wrapping_add(1);
-        Ok((Connection { ticket, socket }, DueEnd { number }))
+        Ok((connection, DueEnd { number }))
     }
 
     /// The connection of this number has ended, which was attended to.
@@ -320,7 +271,7 @@ impl Connections {
         } }
         ensures number { result ≡ number }
     {
-        self.open.retain(|open| open.number != number);
+        self.open.retain(|open| open.number() != number);
         self.ended(bound);
         CountedEnd { number }
     }
@@ -359,7 +310,7 @@ impl Connections {
     /// Shuts down all that are open, that way.
     fn shut(&self, how: Shutdown) {
         for open in self.open.iter() {
-            open.closer.shut(how);
+            open.shut(how);
         }
     }
 
@@ -373,7 +324,7 @@ impl Connections {
     /// one.
     pub(crate) fn send_one_away(&self) -> bool {
         for open in self.open.iter() {
-            if open.closer.send_away() {
+            if open.send_away() {
                 return true;
             }
         }
@@ -384,7 +335,7 @@ impl Connections {
     fn waiting(&self) -> usize {
         let mut count = 0usize;
         for open in self.open.iter() {
-            if open.closer.is_awaited() {
+            if open.is_awaited() {
                 count = count.saturating_add(1);
             }
         }

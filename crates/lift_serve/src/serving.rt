@@ -8,7 +8,7 @@ ghost use Rattle.lift_relay.specs.declared.pair.RunFault.{RunFault as Fault};
 ghost use Rattle.lift_serve.specs.Open.{IsEndAt, IsReportOf};
 ghost use Rattle.lift_serve.specs.Relaying.{HaveRunOrNot, HaveServed, ServingKeeps};
 
-use crate::connections::{Connection, Connections, CountedEnd};
+use crate::connections::{Connections, CountedEnd};
 use crate::over::{Over, start_accepting};
 use crate::pace::{Bells, Closing, Pace};
 use crate::prepared::shortages::{ServingEnd, start_session};
@@ -16,7 +16,7 @@ use crate::prepared::{ReadyGroup, ServingStart};
 use crate::present::ServedPolicy;
 use crate::relaying::{Parts, run_parts, unrun};
 use crate::shared::Shared;
-use crate::socket::Arrival;
+use crate::socket::{Arrival, Connection};
 use lift_disk::Disk;
 use lift_parts::turns_keep_what_was_given;
 use lift_policy::Policy;

@@ -4,14 +4,14 @@ ghost use Rattle.std.specs.Prelude.{◌≡◌, IfOk, IfErr, IfSome, IsErr};
 ghost use Rattle.lift_serve.specs.Open.{IsEndAt};
 
 use crate::attending::Attendance;
-use crate::connections::{Connection, Connections, CountedEnd, DueEnd};
+use crate::connections::{Connections, CountedEnd, DueEnd};
 use crate::lobby::Lobby;
 use crate::over::Over;
 use crate::pace::{Bells, Closing};
 use crate::prepared::ServingTerms;
 use crate::prepared::shortages::Shortage;
 use crate::present::PresentCars;
-use crate::socket::Arrival;
+use crate::socket::{Arrival, Connection};
 use lift_building::Building;
 use lift_relay::BothRun;
 use std::alloc::Global;

@@ -83,13 +83,25 @@ impl Arrival {
         Ok(Arrival { stream })
     }
 
-    /// Its socket, and what shuts that down: it is let in with this ticket.
-    pub(crate) fn open(self, alloc: Global, _ticket: &Ticket) -> Result<(Socket, Closer), Shortage>
+    /// It is let in with this ticket: a connection, and what shuts that down.
+    pub(crate) fn open(
+        self,
+        alloc: Global,
+        ticket: Ticket,
+    ) -> Result<(Connection, Closer), Shortage>
+        ensures opened { IfOk result (λ came. (came.0 ≡ ticket) × (came.1 ≡ ticket)) }
         ensures lack { IfErr result (λ shortage. shortage ≡ ServeFault.Memory) }
     {
         let Arrival { stream } = self;
         let (peer, theirs) = share(alloc, Peer::new(stream))?;
-        Ok((Socket { peer }, Closer { peer: theirs }))
+        let number = ticket.number();
+        Ok((
+            Connection { ticket, peer },
+            Closer {
+                number,
+                peer: theirs,
+            },
+        ))
     }
 
     /// It is closed, for no more are let in.
@@ -196,13 +208,29 @@ impl<'s, R: Clock> Read for PeerReader<'s, R> {
     }
 }
 
-/// What shuts a connection's socket down, whatever waits for it.
+/// What shuts an open connection's socket down, whatever waits for it. Contracts see the connection's number.
 #[derive(Drop)]
 pub(crate) struct Closer {
+    number: u64,
     peer: Arc<Peer>,
 }
 
+impl Model for Closer {
+    ghost use Rattle.std.specs.Prelude.{ℕ};
+
+    ghost Value = { ℕ };
+
+    ghost view = { λ c. c.number };
+}
+
 impl Closer {
+    /// The connection's number.
+    pub(crate) fn number(&self) -> u64
+        ensures { result ≡ self.now }
+    {
+        self.number
+    }
+
     /// Shuts it down, that way.
     pub(crate) fn shut(&self, how: Shutdown) {
         let _closed = self.peer.stream.shutdown(how);
@@ -224,24 +252,40 @@ impl Closer {
     }
 }
 
-/// A connection's socket, by which somebody is attended to once.
+/// A connection that was let in, by the ticket that it was let in with: by it somebody is attended to once.
+/// Contracts see its number.
 #[derive(Drop)]
-pub(crate) struct Socket {
+pub(crate) struct Connection {
+    ticket: Ticket,
     peer: Arc<Peer>,
 }
 
-impl Socket {
-    /// Whoever is there is attended to by this ticket, and then the socket is shut down.
+impl Model for Connection {
+    ghost use Rattle.std.specs.Prelude.{ℕ};
+
+    ghost Value = { ℕ };
+
+    ghost view = { λ c. c.ticket };
+}
+
+impl Connection {
+    /// Its number.
+    pub(crate) fn number(&self) -> u64
+        ensures { result ≡ self.now }
+    {
+        self.ticket.number()
+    }
+
+    /// Whoever is there is attended to by its own ticket, and then the socket is shut down.
     pub(crate) fn attended<'d, R: Wait + Clock>(
         self,
         rt: &R,
         alloc: Global,
         shared: Shared<'_, 'd>,
-        ticket: Ticket,
     ) -> Result<Attendance<'d>, Shortage>
         ensures lack { IfErr result (λ shortage. shortage ≡ ServeFault.Memory) }
     {
-        let Socket { peer } = self;
+        let Connection { ticket, peer } = self;
         let stream = &peer.stream;
         let _quick = stream.set_nodelay(true);
         watch(stream);
