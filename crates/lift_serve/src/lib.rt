@@ -29,7 +29,7 @@ pub use keeping::journals_keep;
 pub use lift_memory::Memory;
 pub use lift_relay::{Failed, Flusher, HeardBy, NoWitness, Witness};
 pub use lobby::{Lobby, NoSeat, SeatReturn, Vacancy};
-pub use pace::{AskBell, Bells, Pace, PagedAsk, Pager, RingCount};
+pub use pace::{AskBell, Pace, PagedAsk, Pager, RingCount};
 pub use prepared::shortages::ServingEnd;
 pub use prepared::{ReadyGroup, Room, prepare};
 pub use present::{PresentCars, ServedPolicy};

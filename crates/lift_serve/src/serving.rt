@@ -10,7 +10,7 @@ ghost use Rattle.lift_serve.specs.Relaying.{HaveRunOrNot, HaveServed, ServingKee
 
 use crate::connections::{Connections, CountedEnd};
 use crate::over::{Over, start_accepting};
-use crate::pace::{Bells, Closing, Pace};
+use crate::pace::Pace;
 use crate::prepared::shortages::{ServingEnd, start_session};
 use crate::prepared::{ReadyGroup, ServingStart};
 use crate::present::ServedPolicy;
@@ -20,7 +20,7 @@ use crate::socket::{Arrival, Connection};
 use lift_disk::Disk;
 use lift_parts::turns_keep_what_was_given;
 use lift_policy::Policy;
-use lift_relay::{Allocator, BothRun, Flusher, Gate, HeardBy, Witness};
+use lift_relay::{Allocator, BothRun, Flusher, HeardBy, Witness};
 use std::alloc::Global;
 use std::sync::{Mutex, Wait};
 use std::thread;
@@ -136,24 +136,21 @@ fn welcome<R: Threads + Wait + Clock + Sync>(rt: &R, alloc: Global, shared: Shar
             over
         },
     );
-    shared.closing.set(&over);
-    shared.bells.ring_all();
+    shared.pace.end_parts(&over);
     shared.over(rt)
 }
 
 /// Both parts run, the flusher on this thread, while connections are accepted on another. Where no
 /// thread could be had for the accepting, the parts are as they were; where none could be had for
 /// the allocator, all connections are given up.
-fn run_beside<'d, 'b, R, G, D, P, K, V>(
+fn run_beside<'d, 'b, R, D, P, K, V>(
     rt: &R,
     alloc: Global,
     shared: Shared<'_, '_>,
-    gate: &G,
     parts: Parts<'d, 'b, D, P, K, V>,
 ) -> (Parts<'d, 'b, D, P, K, V>, Over)
 where
     R: Threads + Wait + Clock + Sync,
-    G: Gate + Sync,
     D: Disk + Drop,
     P: Policy + Drop + Send,
     K: HeardBy<V> + Drop,
@@ -172,7 +169,7 @@ where
         thread::scope_env(),
         rt,
         move |scope| -> (Parts<D, P, K, V>, Over)
-            requires { IsSync R.row × IsSync G.row × IsSend P.row }
+            requires { IsSync R.row × IsSend P.row }
             ensures ran { (fault : Option Fault)
                 × HaveRunOrNot (P.chooses parts.entry.allocator.policy) D.state parts.entry.allocator
                 result.0.allocator parts.entry.flusher result.0.flusher fault
@@ -188,7 +185,7 @@ where
                 Ok(accepting) => accepting,
                 Err(over) => return (unrun(parts), over),
             };
-            let ran = run_parts(rt, gate, parts);
+            let ran = run_parts(rt, shared.pace, parts);
             if let Some(given_up) = Over::by(shared.bound, ran.fault) {
                 shared.give_up(rt, &given_up);
             }
@@ -196,31 +193,6 @@ where
             (ran, over)
         },
     )
-}
-
-/// Both parts run at the pace of these bells while connections are accepted.
-fn run<'d, 'b, R, D, P, K, V>(
-    rt: &R,
-    alloc: Global,
-    shared: Shared<'_, '_>,
-    parts: Parts<'d, 'b, D, P, K, V>,
-) -> (Parts<'d, 'b, D, P, K, V>, Over)
-where
-    R: Threads + Wait + Clock + Sync,
-    D: Disk + Drop,
-    P: Policy + Drop + Send,
-    K: HeardBy<V> + Drop,
-    V: Witness + Drop,
-    requires own { shared.building.now ≡ parts.flusher.writer.plan }
-    ensures ran { (fault : Option Fault) × HaveRunOrNot (P.chooses parts.entry.allocator.policy)
-        D.state parts.entry.allocator result.0.allocator parts.entry.flusher result.0.flusher fault
-        × (fault ≡ Some (Fault.Spawn tt) → IsErr result.1) }
-    ensures heard { FailureHeard V.hears parts.entry.flusher.writer.is_broken
-        result.0.flusher.writer.is_broken parts.entry.witness result.0.witness }
-    ensures over { IsEndAt shared.entry.bound.now result.1 }
-{
-    let pace = Pace::new(shared.bells, shared.closing);
-    run_beside(rt, alloc, shared, &pace, parts)
 }
 
 /// Serves a group that is ready on its listening socket until so many connections have ended, those that
@@ -280,18 +252,16 @@ where
     };
     let lobby = Mutex::new(lobby);
     let connections = Mutex::new(Connections::new(alloc, shortages));
-    let bells = Bells::new(pagers);
-    let closing = Closing::new();
+    let pace = Pace::new(pagers);
     let shared = Shared {
         building,
         bound: &bound,
         lobby: &lobby,
-        bells: &bells,
-        closing: &closing,
+        pace: &pace,
         present,
         connections: &connections,
     };
-    let (ran, over) = run(rt, alloc, shared, parts);
+    let (ran, over) = run_beside(rt, alloc, shared, parts);
     let end = connections.into_inner().into_end(over);
     let Parts {
         allocator,

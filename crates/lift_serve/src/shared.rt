@@ -7,7 +7,7 @@ use crate::attending::Attendance;
 use crate::connections::{Connections, CountedEnd, DueEnd};
 use crate::lobby::Lobby;
 use crate::over::Over;
-use crate::pace::{Bells, Closing};
+use crate::pace::Pace;
 use crate::prepared::ServingTerms;
 use crate::prepared::shortages::Shortage;
 use crate::present::PresentCars;
@@ -29,8 +29,7 @@ pub(crate) struct Shared<'a, 'd> {
     pub(crate) building: &'a Building,
     pub(crate) bound: &'a ServingTerms,
     pub(crate) lobby: &'a Mutex<Lobby<'d>>,
-    pub(crate) bells: &'a Bells<'a>,
-    pub(crate) closing: &'a Closing,
+    pub(crate) pace: &'a Pace<'a>,
     pub(crate) present: &'a PresentCars,
     pub(crate) connections: &'a Mutex<Connections>,
 }
@@ -74,7 +73,7 @@ impl<'a, 'd> Shared<'a, 'd> {
         requires { IsErr over.now }
     {
         self.connections.lock(rt).give_up(self.bound, over);
-        self.bells.ring_at_doors();
+        self.pace.ring_at_doors();
     }
 
     /// Waits until both parts have a thread; or all are given up, since one was refused.
@@ -82,13 +81,13 @@ impl<'a, 'd> Shared<'a, 'd> {
         ensures { IfErr result (IsEndAt self.entry.bound.now) }
     {
         for _ in rt.forever() {
-            if let Some(both) = self.bells.both_run() {
+            if let Some(both) = self.pace.begun() {
                 return Ok(both);
             }
             if let Some(over) = self.is_over(rt) {
                 return Err(over);
             }
-            self.bells.wait_at_doors(rt);
+            self.pace.wait_at_doors(rt);
         }
         unreachable!()
     }
@@ -136,6 +135,6 @@ impl<'a, 'd> Shared<'a, 'd> {
             thread::sleep(rt, Duration::from_millis(1));
         }
         let shut = self.connections.lock(rt).close(over);
-        self.bells.leave_all(shut);
+        self.pace.leave_all(shut);
     }
 }

@@ -35,12 +35,12 @@ pub(crate) fn speak<'d, 's, R: Wait + Clock, I: Read + Drop, O: Write + Drop>(
         (sink_of (λ w. O.contents w.writer) result.2) }
 {
     let mut reader = Counted::new(OpenReader::new(reader, shared.bound));
-    let mut writer = Watched::new(WakingWriter::new(writer, shared.bells));
+    let mut writer = Watched::new(WakingWriter::new(writer, shared.pace));
     let attended = attend(
         rt,
         shared.lobby,
         ticket,
-        shared.bells.asks(),
+        shared.pace.asks(),
         shared.present,
         shared.building,
         &mut reader,
