@@ -11,9 +11,8 @@ ghost use Rattle.lift_serve.specs.Lobby.{IsSamePlace};
 
 use crate::connections::Ticket;
 use crate::first_line::terminal_of;
-use crate::held::HeldSeat;
-use crate::lobby::{Lobby, NoSeat, SeatReturn, Vacancy};
 use crate::pace::AskBell;
+use crate::prepared::seating::{HeldSeat, Lobby, NoSeat, SeatReturn, Vacancy};
 use crate::present::PresentCars;
 use lift_base::Terminal;
 use lift_base::text::{Counted, Watched};

@@ -7,10 +7,9 @@ ghost use Rattle.std.specs.Prelude.{◌≡◌, [], None, IfOk, IfErr};
 ghost use Rattle.lift_parts.specs.Parts.{AreOfOne};
 ghost use Rattle.lift_serve.specs.Ready.{IsFullLobby, IsNewGroup};
 
-mod seating;
+pub(crate) mod seating;
 pub(crate) mod shortages;
 
-use crate::lobby::Lobby;
 use crate::over::Over;
 use crate::pace::Pager;
 use crate::present::{PresentCars, ServedPolicy};
@@ -24,7 +23,7 @@ use lift_keeper::{Keeper, Writer};
 use lift_memory::Memory;
 use lift_policy::{Dispatching, Policy};
 use lift_relay::{Allocator, Flusher, split_for};
-use seating::{lobby_at, new_pagers};
+use seating::{Lobby, lobby_at, new_pagers};
 use shortages::Shortages;
 use std::alloc::Global;
 use std::marker::Model;

@@ -5,10 +5,10 @@ ghost use Rattle.lift_serve.specs.Open.{IsEndAt};
 
 use crate::attending::Attendance;
 use crate::connections::{Connections, CountedEnd, DueEnd};
-use crate::lobby::Lobby;
 use crate::over::Over;
 use crate::pace::Pace;
 use crate::prepared::ServingTerms;
+use crate::prepared::seating::Lobby;
 use crate::prepared::shortages::Shortage;
 use crate::present::PresentCars;
 use crate::socket::{Arrival, Connection};

@@ -75,7 +75,7 @@ impl<'d> Model for HeldSeat<'d> {
 
 impl<'d> HeldSeat<'d> {
     /// A new seat's, of which the recovery found this, with its terminal's pager.
-    pub fn new(desk: &'d Desk, pager: &'d Pager, seat: Seat, found: LastLetter) -> Self
+    pub(super) fn new(desk: &'d Desk, pager: &'d Pager, seat: Seat, found: LastLetter) -> Self
         requires seated { IsSeatOf desk.now seat }
         requires new { IsNewSeat seat }
         requires paged { pager.now ≡ seat.terminal }
