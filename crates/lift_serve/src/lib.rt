@@ -13,7 +13,6 @@ mod present;
 mod reading;
 mod relaying;
 mod serving;
-mod shared;
 mod sleep;
 mod socket;
 mod speaking;

@@ -7,13 +7,17 @@ ghost use Rattle.std.specs.Prelude.{◌≡◌, [], None, IfOk, IfErr};
 ghost use Rattle.lift_parts.specs.Parts.{AreOfOne};
 ghost use Rattle.lift_serve.specs.Ready.{IsFullLobby, IsNewGroup};
 
+pub(crate) mod hall;
 pub(crate) mod seating;
 pub(crate) mod shortages;
 
+use crate::connections::Connections;
 use crate::over::Over;
-use crate::pace::Pager;
+use crate::pace::{Pace, Pager};
 use crate::present::{PresentCars, ServedPolicy};
+use crate::relaying::Parts;
 use crate::socket::Listening;
+use hall::Hall;
 use lift_base::MOST_CARS;
 use lift_building::Building;
 use lift_clerk::Clerk;
@@ -22,11 +26,12 @@ use lift_disk::Disk;
 use lift_keeper::{Keeper, Writer};
 use lift_memory::Memory;
 use lift_policy::{Dispatching, Policy};
-use lift_relay::{Allocator, Flusher, split_for};
+use lift_relay::{Allocator, Flusher, Witness, split_for};
 use seating::{Lobby, lobby_at, new_pagers};
 use shortages::Shortages;
 use std::alloc::Global;
 use std::marker::Model;
+use std::sync::Mutex;
 use std::sync::atomic::{AtomicBool, Ordering};
 
 /// Where a group is served: a desk, where its sessions rest, and which cars are present. Whoever has a
@@ -52,29 +57,19 @@ pub struct ReadyGroup<'d, 'b, D: Disk + Drop, P: Policy + Drop, K: Drop> {
     ghost of_building: { building.now ≡ flusher.writer.plan },
 }
 
-/// What a serving begins with.
-pub(crate) struct ServingStart<'d, 'b, D: Disk + Drop, P: Policy + Drop, K: Drop> {
-    pub(crate) allocator: Allocator<'d, 'b, ServedPolicy<'d, P>>,
-    pub(crate) flusher: Flusher<'d, 'b, D, K>,
-    pub(crate) lobby: Lobby<'d>,
-    pub(crate) pagers: &'d [Pager],
-    pub(crate) present: &'d PresentCars,
-    pub(crate) building: &'b Building,
-    pub(crate) bound: ServingTerms,
-    pub(crate) shortages: Shortages,
-}
-
 impl<'d, 'b, D: Disk + Drop, P: Policy + Drop, K: Drop> ReadyGroup<'d, 'b, D, P, K> {
-    /// Its serving begins.
+    /// Its serving begins, with who is notified that the device fails.
     #[inline(never)]
-    pub(crate) fn begun(self) -> ServingStart<'d, 'b, D, P, K>
-        ensures allocator { result.allocator ≡ self.entry.allocator }
-        ensures flusher { result.flusher ≡ self.entry.flusher }
-        ensures lobby { result.lobby ≡ self.entry.lobby }
-        ensures of_one { AreOfOne result.allocator result.flusher }
-        ensures of_building { result.building.now ≡ result.flusher.writer.plan }
-        ensures bound { result.bound ≡ self.entry.bound }
-        ensures shortages { result.shortages ≡ None }
+    pub(crate) fn begun<V: Witness + Drop>(
+        self,
+        alloc: Global,
+        witness: V,
+    ) -> (Parts<'d, 'b, D, ServedPolicy<'d, P>, K, V>, Hall<'d, 'b>)
+        ensures allocator { result.0.allocator ≡ self.entry.allocator }
+        ensures flusher { result.0.flusher ≡ self.entry.flusher }
+        ensures witness { result.0.witness ≡ witness }
+        ensures own { result.1.building.now ≡ result.0.flusher.writer.plan }
+        ensures bound { result.1.bound ≡ self.entry.bound }
     {
         let ReadyGroup {
             allocator,
@@ -84,16 +79,21 @@ impl<'d, 'b, D: Disk + Drop, P: Policy + Drop, K: Drop> ReadyGroup<'d, 'b, D, P,
             building,
             bound,
         } = self;
-        ServingStart {
-            allocator,
-            flusher,
-            lobby,
-            pagers: room.pagers.as_slice(),
-            present: &room.present,
+        let hall = Hall {
             building,
             bound,
-            shortages: Shortages::new(),
-        }
+            lobby: Mutex::new(lobby),
+            present: &room.present,
+            pace: Pace::new(room.pagers.as_slice()),
+            connections: Mutex::new(Connections::new(alloc, Shortages::new())),
+        };
+        let parts = Parts {
+            allocator,
+            flusher,
+            fault: None,
+            witness,
+        };
+        (parts, hall)
     }
 
     /// The writer of a group that nobody serves, as it is, for the key.

@@ -9,9 +9,9 @@ use crate::attending::Attendance;
 use crate::connections::Ticket;
 use crate::over::Over;
 use crate::prepared::ServingTerms;
+use crate::prepared::hall::Hall;
 use crate::prepared::shortages::{Shortage, read_ahead, share};
 use crate::serving::ServeFault;
-use crate::shared::Shared;
 use crate::speaking::speak;
 use lift_relay::BothRun;
 use lift_system::watch;
@@ -281,7 +281,7 @@ impl Connection {
         self,
         rt: &R,
         alloc: Global,
-        shared: Shared<'_, 'd>,
+        hall: &Hall<'d, '_>,
     ) -> Result<Attendance<'d>, Shortage>
         ensures lack { IfErr result (λ shortage. shortage ≡ ServeFault.Memory) }
     {
@@ -289,7 +289,7 @@ impl Connection {
         let stream = &peer.stream;
         let _quick = stream.set_nodelay(true);
         watch(stream);
-        let attended = speak_over(rt, alloc, shared, ticket, &peer);
+        let attended = speak_over(rt, alloc, hall, ticket, &peer);
         let _closed = stream.shutdown(Shutdown::Both);
         attended
     }
@@ -299,12 +299,12 @@ impl Connection {
 fn speak_over<'d, R: Wait + Clock>(
     rt: &R,
     alloc: Global,
-    shared: Shared<'_, 'd>,
+    hall: &Hall<'d, '_>,
     ticket: Ticket,
     peer: &Peer,
 ) -> Result<Attendance<'d>, Shortage>
     ensures lack { IfErr result (λ shortage. shortage ≡ ServeFault.Memory) }
 {
     let reader = read_ahead(alloc, PeerReader::new(rt, peer))?;
-    Ok(speak(rt, shared, ticket, reader, &peer.stream).0)
+    Ok(speak(rt, hall, ticket, reader, &peer.stream).0)
 }
