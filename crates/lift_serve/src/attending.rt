@@ -11,7 +11,7 @@ ghost use Rattle.lift_serve.specs.Lobby.{IsSamePlace};
 
 use crate::connections::Ticket;
 use crate::first_line::terminal_of;
-use crate::pace::AskBell;
+use crate::pace::Pace;
 use crate::prepared::seating::{HeldSeat, Lobby, NoSeat, SeatReturn, Vacancy};
 use crate::present::PresentCars;
 use lift_base::Terminal;
@@ -136,7 +136,7 @@ fn outcome_of<'d, R: Wait + Clock, I: Read + Drop, O: Write + Drop>(
     rt: &R,
     lobby: &Mutex<Lobby<'d>>,
     ticket: Ticket,
-    bell: &AskBell,
+    pace: &Pace<'_>,
     present: &PresentCars,
     terminal: Terminal,
     reader: &mut Counted<I>,
@@ -158,7 +158,7 @@ fn outcome_of<'d, R: Wait + Clock, I: Read + Drop, O: Write + Drop>(
             return Outcome::Unseated(no_seat);
         }
     };
-    let (held, end) = held.visit(rt, bell, present, reader, writer);
+    let (held, end) = held.visit(rt, pace, present, reader, writer);
     Outcome::Visited(put_back(rt, lobby, held, vacancy), end)
 }
 
@@ -169,7 +169,7 @@ pub fn attend<'d, R: Wait + Clock, I: Read + Drop, O: Write + Drop>(
     rt: &R,
     lobby: &Mutex<Lobby<'d>>,
     ticket: Ticket,
-    bell: &AskBell,
+    pace: &Pace<'_>,
     present: &PresentCars,
     building: &Building,
     reader: &mut Counted<I>,
@@ -182,7 +182,7 @@ pub fn attend<'d, R: Wait + Clock, I: Read + Drop, O: Write + Drop>(
     let outcome = match read_first(reader) {
         Ok(line) => match terminal_in(building, &line) {
             Some(terminal) => {
-                outcome_of(rt, lobby, ticket, bell, present, terminal, reader, writer)
+                outcome_of(rt, lobby, ticket, pace, present, terminal, reader, writer)
             }
             None => {
                 say(writer, b"BAD\n");

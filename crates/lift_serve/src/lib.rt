@@ -24,7 +24,7 @@ pub use first_line::terminal_of;
 pub use keeping::journals_keep;
 pub use lift_memory::Memory;
 pub use lift_relay::{Failed, Flusher, HeardBy, NoWitness, Witness};
-pub use pace::{AskBell, Pace, PagedAsk, Pager, RingCount};
+pub use pace::{Pace, PagedAsk, Pager, RingCount};
 pub use prepared::seating::{HeldSeat, Lobby, NoSeat, SeatReturn, Vacancy};
 pub use prepared::shortages::ServingEnd;
 pub use prepared::{ReadyGroup, Room, prepare};

@@ -28,15 +28,6 @@ const FIRST_WOKEN: u64 = 2;
 /// The allocator doesn't wait for asks.
 const NOT_WAITING: u64 = u64::MAX;
 
-/// What is rung after each ask. It wakes the allocator once as many have asked as that waits for.
-#[derive(Drop)]
-pub struct AskBell {
-    parker: Parker,
-    /// How many have asked since the last scan began, or some more.
-    asked: AtomicU64,
-    enough: AtomicU64,
-}
-
 /// For how many asks at a terminal's seat the bell was rung. Only proofs read it, and only a ring
 /// counts.
 #[derive(Drop)]
@@ -66,50 +57,6 @@ impl RingCount {
     }
 }
 
-impl AskBell {
-    /// Nobody has asked.
-    pub fn new() -> AskBell {
-        AskBell {
-            parker: Parker::new(),
-            asked: AtomicU64::new(0),
-            enough: AtomicU64::new(NOT_WAITING),
-        }
-    }
-
-    /// A terminal's ask is stored, of which its pager was told before.
-    pub fn ring(&self, _paged: PagedAsk, count: &mut RingCount)
-        ensures { count.new ≡ count.old + 1 }
-    {
-        let asked = self.asked.fetch_add(1, Ordering::SeqCst).saturating_add(1);
-        if asked >= self.enough.load(Ordering::SeqCst) {
-            self.parker.unpark();
-        }
-        count.times = ProofCount::next(&count.times);
-    }
-
-    /// What was asked before is found by a scan.
-    fn scan_begins(&self) {
-        self.asked.store(0, Ordering::SeqCst);
-    }
-
-    /// From here on so many asks wake the allocator. Whether they are still to come.
-    fn wants(&self, enough: u64) -> bool {
-        self.enough.store(enough, Ordering::SeqCst);
-        self.asked.load(Ordering::SeqCst) < enough
-    }
-
-    fn wants_none(&self) {
-        self.enough.store(NOT_WAITING, Ordering::SeqCst);
-    }
-
-    /// Where the allocator waits, one ask is enough.
-    fn one_is_enough(&self) {
-        if self.enough.load(Ordering::SeqCst) != NOT_WAITING && !self.wants(1) {
-            self.parker.unpark();
-        }
-    }
-}
-
 /// How the threads of a serving wait, and what wakes them: the accepting's waits for both parts; the
 /// allocator's for asks, or for the flusher to go on; the flusher's for batches; a session's, at its
 /// terminal's pager, for its answer. It is the gate of both parts: they go on until the accepting is over,
@@ -120,7 +67,12 @@ pub struct Pace<'s> {
     /// That both parts have a thread: before that the accepting lets nobody in.
     both: OnceLock<BothRun>,
     doors: Parker,
-    asks: AskBell,
+    /// Where the allocator waits for asks.
+    asks: Parker,
+    /// How many have asked since the last scan began, or some more.
+    asked: AtomicU64,
+    /// So many wake the allocator.
+    enough: AtomicU64,
     /// How many asks the last scan was begun for, and the one before it.
     last: AtomicU64,
     before: AtomicU64,
@@ -139,7 +91,9 @@ impl<'s> Pace<'s> {
             pagers,
             both: OnceLock::new(),
             doors: Parker::new(),
-            asks: AskBell::new(),
+            asks: Parker::new(),
+            asked: AtomicU64::new(0),
+            enough: AtomicU64::new(NOT_WAITING),
             last: AtomicU64::new(0),
             before: AtomicU64::new(0),
             room: Parker::new(),
@@ -165,9 +119,33 @@ impl<'s> Pace<'s> {
         self.doors.unpark();
     }
 
-    /// To be rung after each ask.
-    pub fn asks(&self) -> &AskBell {
-        &self.asks
+    /// A terminal's ask is stored, of which its pager was told before. It wakes the allocator once as many
+    /// have asked as that waits for.
+    pub fn ring(&self, _paged: PagedAsk, count: &mut RingCount)
+        ensures { count.new ≡ count.old + 1 }
+    {
+        let asked = self.asked.fetch_add(1, Ordering::SeqCst).saturating_add(1);
+        if asked >= self.enough.load(Ordering::SeqCst) {
+            self.asks.unpark();
+        }
+        count.times = ProofCount::next(&count.times);
+    }
+
+    /// From here on so many asks wake the allocator. Whether they are still to come.
+    fn wants(&self, enough: u64) -> bool {
+        self.enough.store(enough, Ordering::SeqCst);
+        self.asked.load(Ordering::SeqCst) < enough
+    }
+
+    fn wants_none(&self) {
+        self.enough.store(NOT_WAITING, Ordering::SeqCst);
+    }
+
+    /// Where the allocator waits, one ask is enough.
+    fn one_is_enough(&self) {
+        if self.enough.load(Ordering::SeqCst) != NOT_WAITING && !self.wants(1) {
+            self.asks.unpark();
+        }
     }
 
     /// Wakes one session whose answer is stored, if one is left.
@@ -198,14 +176,14 @@ impl<'s> Pace<'s> {
     /// Both parts are to end, whatever their threads wait for.
     pub(crate) fn end_parts(&self, _over: &Over) {
         self.is_over.store(true, Ordering::SeqCst);
-        self.asks.parker.unpark();
+        self.asks.unpark();
         self.room.unpark();
         self.batches.unpark();
     }
 
-    /// What was asked before a scan is in the batch that the scan sends.
+    /// What was asked before a scan is found by it, and is in the batch that it sends.
     fn scan_begins(&self) {
-        self.asks.scan_begins();
+        self.asked.store(0, Ordering::SeqCst);
         let batch = self.sent.load(Ordering::SeqCst).saturating_add(1);
         let mut asked = 0u64;
         for pager in self.pagers {
@@ -241,12 +219,10 @@ impl<'s> Pace<'s> {
     fn wait_for_asks<R: Wait>(&self, rt: &R, sent: u64) {
         let last = self.last.load(Ordering::SeqCst);
         let enough = last.max(self.before.load(Ordering::SeqCst));
-        if self.asks.wants(enough) && !self.has_flushed_all_but(sent, 0) && self.go_on() {
-            self.asks
-                .parker
-                .park_timeout(rt, Duration::from_millis(AHEAD_MS));
+        if self.wants(enough) && !self.has_flushed_all_but(sent, 0) && self.go_on() {
+            self.asks.park_timeout(rt, Duration::from_millis(AHEAD_MS));
         }
-        self.asks.wants_none();
+        self.wants_none();
     }
 }
 
@@ -261,10 +237,10 @@ impl<'s> Gate for Pace<'s> {
     }
 
     fn allocator_idles<R: Wait>(&self, rt: &R) {
-        if self.asks.wants(1) {
-            self.asks.parker.park(rt);
+        if self.wants(1) {
+            self.asks.park(rt);
         }
-        self.asks.wants_none();
+        self.wants_none();
         self.scan_begins();
     }
 
@@ -285,7 +261,7 @@ impl<'s> Gate for Pace<'s> {
         self.flushed.store(count, Ordering::SeqCst);
         // What was asked meanwhile is decided while sessions wake.
         self.room.unpark();
-        self.asks.one_is_enough();
+        self.one_is_enough();
         for _ in 0..FIRST_WOKEN {
             self.wake_one();
         }

@@ -40,7 +40,7 @@ pub(crate) fn speak<'d, 's, R: Wait + Clock, I: Read + Drop, O: Write + Drop>(
         rt,
         hall.lobby(),
         ticket,
-        hall.pace.asks(),
+        &hall.pace,
         hall.present,
         hall.building,
         &mut reader,
