@@ -82,33 +82,6 @@ fn read_first<I: Read + Drop>(reader: &mut Counted<I>) -> Result<Line, NoLine>
     read_line(reader, &mut left)
 }
 
-fn take<'d>(
-    rt: &impl Wait,
-    lobby: &Mutex<Lobby<'d>>,
-    ticket: Ticket,
-    terminal: Terminal,
-) -> Result<(HeldSeat<'d>, Vacancy<'d>), NoSeat<'d>>
-    ensures own { IfOk result (λ taken. taken.0.seat.terminal ≡ terminal) }
-    ensures vacant { IfOk result (λ taken. taken.1 ≡ taken.0) }
-    ensures asked { IfErr result (λ no_seat. no_seat.terminal ≡ terminal) }
-    ensures unknown { IfErr result (λ no_seat. no_seat.is_out ≡ false
-        → length no_seat.desk ≤ no_seat.terminal) }
-{
-    lobby.lock(rt).take(ticket, terminal)
-}
-
-fn put_back<'d>(
-    rt: &impl Wait,
-    lobby: &Mutex<Lobby<'d>>,
-    held: HeldSeat<'d>,
-    vacancy: Vacancy<'d>,
-) -> SeatReturn<'d>
-    requires same { IsSamePlace vacancy held }
-    ensures { result ≡ held.entry }
-{
-    lobby.lock(rt).put_back(held, vacancy)
-}
-
 /// Writes all of the bytes, or those before which the writer fails.
 fn say<O: Write + Drop>(writer: &mut Watched<O>, bytes: &[u8])
     ensures { IsSaid bytes.now (sink_of O.contents writer.old) (sink_of O.contents writer.new) }
@@ -147,7 +120,8 @@ fn outcome_of<'d, R: Wait + Clock, I: Read + Drop, O: Write + Drop>(
         → Attends cars kiosks result source (source_of I.remaining reader.new)
         (sink_of O.contents writer.old) (sink_of O.contents writer.new) }
 {
-    let (held, vacancy) = match take(rt, lobby, ticket, terminal) {
+    let taken = lobby.lock(rt).take(ticket, terminal);
+    let (held, vacancy) = match taken {
         Ok(taken) => taken,
         Err(no_seat) => {
             if no_seat.is_out() {
@@ -159,7 +133,7 @@ fn outcome_of<'d, R: Wait + Clock, I: Read + Drop, O: Write + Drop>(
         }
     };
     let (held, end) = held.visit(rt, pace, present, reader, writer);
-    Outcome::Visited(put_back(rt, lobby, held, vacancy), end)
+    Outcome::Visited(lobby.lock(rt).put_back(held, vacancy), end)
 }
 
 /// Reads the first line, and serves the terminal that it names. Where the line names none of the
