@@ -76,28 +76,6 @@ impl Over {
         }
     }
 
-    /// How it is over after a run of both parts that came to this: where the allocator had no
-    /// thread, all are given up.
-    pub(crate) fn after_run(self, fault: Option<RunFault>) -> Self
-        ensures given_up { fault ≡ Some (Fault.Spawn tt) → IsErr result }
-        ensures ended { (bound : EndedState) → IsEndAt bound self → IsEndAt bound result }
-    {
-        match fault {
-            Some(RunFault::Spawn(_)) => {
-                let Over {
-                    have_ended: _,
-                    bound,
-                } = self;
-                Over {
-                    have_ended: false,
-                    bound,
-                }
-            }
-            Some(RunFault::Keeper(_)) => self,
-            None => self,
-        }
-    }
-
     /// Whether all have ended that were to end; else all were given up.
     pub(crate) fn have_ended(&self) -> bool
         ensures { result ≡ is_ok self.now }

@@ -188,10 +188,14 @@ where
                 Err(over) => return (unrun(parts), over),
             };
             let ran = run_parts(rt, &hall.pace, parts);
-            if let Some(given_up) = Over::by(&hall.bound, ran.fault) {
-                hall.give_up(rt, &given_up);
-            }
-            let over = accepting.join(rt).after_run(ran.fault);
+            let over = match Over::by(&hall.bound, ran.fault) {
+                Some(given_up) => {
+                    hall.give_up(rt, &given_up);
+                    let _accepted = accepting.join(rt);
+                    given_up
+                }
+                None => accepting.join(rt),
+            };
             (ran, over)
         },
     )
