@@ -29,7 +29,7 @@ pub use prepared::seating::{HeldSeat, Lobby, NoSeat, SeatReturn, Vacancy};
 pub use prepared::shortages::ServingEnd;
 pub use prepared::{ReadyGroup, Room, prepare};
 pub use present::{PresentCars, ServedPolicy};
-pub use relaying::{Parts, run_parts};
+pub use relaying::Parts;
 pub use serving::{ServeFault, ServingOutcome, serve};
 pub use sleep::Sleep;
 pub use socket::Listening;

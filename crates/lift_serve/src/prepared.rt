@@ -90,7 +90,6 @@ impl<'d, 'b, D: Disk + Drop, P: Policy + Drop, K: Drop> ReadyGroup<'d, 'b, D, P,
         let parts = Parts {
             allocator,
             flusher,
-            fault: None,
             witness,
         };
         (parts, hall)

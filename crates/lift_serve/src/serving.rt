@@ -14,12 +14,12 @@ use crate::prepared::ReadyGroup;
 use crate::prepared::hall::Hall;
 use crate::prepared::shortages::{ServingEnd, start_session};
 use crate::present::ServedPolicy;
-use crate::relaying::{Parts, run_parts, unrun};
+use crate::relaying::{Parts, unrun};
 use crate::socket::{Arrival, Connection};
 use lift_disk::Disk;
 use lift_parts::turns_keep_what_was_given;
 use lift_policy::Policy;
-use lift_relay::{Allocator, Flusher, HeardBy, Witness};
+use lift_relay::{Allocator, Flusher, HeardBy, Witness, run};
 use std::alloc::Global;
 use std::sync::Wait;
 use std::thread;
@@ -187,14 +187,24 @@ where
                 Ok(accepting) => accepting,
                 Err(over) => return (unrun(parts), over),
             };
-            let ran = run_parts(rt, &hall.pace, parts);
-            let over = match Over::by(&hall.bound, ran.fault) {
+            let Parts {
+                mut allocator,
+                mut flusher,
+                witness,
+            } = parts;
+            let (witness, fault) = run(rt, &mut allocator, &mut flusher, &hall.pace, witness);
+            let over = match Over::by(&hall.bound, fault) {
                 Some(given_up) => {
                     hall.give_up(rt, &given_up);
                     let _accepted = accepting.join(rt);
                     given_up
                 }
                 None => accepting.join(rt),
+            };
+            let ran = Parts {
+                allocator,
+                flusher,
+                witness,
             };
             (ran, over)
         },
@@ -246,7 +256,6 @@ where
     let Parts {
         allocator,
         flusher,
-        fault: _,
         witness,
     } = ran;
     ServingOutcome {
