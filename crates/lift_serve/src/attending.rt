@@ -1,18 +1,17 @@
 //! One connection, from its first line to its end.
 
-ghost use Rattle.std.specs.Prelude.{◌≡◌, ◌≤◌, ℕ, List, IfOk, IfErr, IfSome, IfNone, length, false};
+ghost use Rattle.std.specs.Prelude.{◌≡◌, ℕ, List, IfOk, IfErr, IfSome, IfNone, length};
 ghost use Rattle.std.specs.Str.Lines.{strip_carriage_return};
 ghost use Rattle.lift_base.specs.Output.{sink_of};
 ghost use Rattle.lift_kiosk.specs.Lines.{GivesLine, Keeps65, Source, source_of};
 ghost use Rattle.lift_serve.specs.Connections.{Attends, CallsUpTo, EndsWithoutLine, IsSaid};
 ghost use Rattle.lift_serve.specs.Connections.{Names, first_reads};
 ghost use Rattle.lift_serve.specs.FirstLine.{SpeaksFor};
-ghost use Rattle.lift_serve.specs.Lobby.{IsSamePlace};
 
 use crate::connections::Ticket;
 use crate::first_line::terminal_of;
 use crate::pace::Pace;
-use crate::prepared::seating::{HeldSeat, Lobby, NoSeat, SeatReturn, Vacancy};
+use crate::prepared::seating::{Lobby, NoSeat, SeatReturn};
 use crate::present::PresentCars;
 use lift_base::Terminal;
 use lift_base::text::{Counted, Watched};

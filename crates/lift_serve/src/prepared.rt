@@ -3,7 +3,7 @@
 //! A clause binds only a call that returns. So all that a serving takes is made by `prepare`, which does;
 //! what waits makes nothing of it.
 
-ghost use Rattle.std.specs.Prelude.{◌≡◌, [], None, IfOk, IfErr};
+ghost use Rattle.std.specs.Prelude.{◌≡◌, [], IfOk, IfErr};
 ghost use Rattle.lift_parts.specs.Parts.{AreOfOne};
 ghost use Rattle.lift_serve.specs.Ready.{IsFullLobby, IsNewGroup};
 
