@@ -4,6 +4,7 @@
 ghost use Rattle.std.specs.Prelude.{◌≡◌, ◌≤◌, ℕ, ◌+◌, ◌%◌, ◌^◌, ◌∷◌, ◌++◌, [], None, Some};
 ghost use Rattle.std.specs.Prelude.{IfOk, IfErr, IfSome, IfNone, IsErr, IsSome, IsTrue, OnErr, ◌↔◌};
 ghost use Rattle.std.specs.Prelude.{not, ◌==◌, ◌≢◌, filter, true, false};
+ghost use Rattle.std.specs.Result.{result_err};
 ghost use Rattle.lift_serve.specs.Open.{AreOver, IsEndAt, ended_in, first_told, one_more, told_after};
 
 use crate::attending::Attendance;
@@ -225,40 +226,26 @@ impl Connections {
         Ok((connection, DueEnd { number }))
     }
 
-    /// The connection of this number has ended, which was attended to.
+    /// The connection of this number has ended, which was attended to, or wasn't because of this shortage.
+    #[tactic(auto, using(crate::proofs::Relayings::none_behind))]
     pub(crate) fn leave(
         &mut self,
         bound: &ServingTerms,
         number: u64,
-        attended: Attendance<'_>,
+        attended: Result<Attendance<'_>, Shortage>,
     ) -> CountedEnd
         ensures left { self.new ≡ record self.old {
           numbers = filter (λ n.
               not (n == number)) self.old.numbers;
           ended = one_more bound.now.sessions self.old.ended;
+          shortage = first_told self.old.shortage (result_err attended.entry);
         } }
         ensures number { result ≡ number }
     {
-        let _used = attended;
-        self.remove(bound, number)
-    }
-
-    /// The connection of this number has ended, because of this shortage.
-    pub(crate) fn leave_unattended(
-        &mut self,
-        bound: &ServingTerms,
-        number: u64,
-        shortage: Shortage,
-    ) -> CountedEnd
-        ensures left { self.new ≡ record self.old {
-          numbers = filter (λ n.
-              not (n == number)) self.old.numbers;
-          ended = one_more bound.now.sessions self.old.ended;
-          shortage = first_told self.old.shortage (Some shortage);
-        } }
-        ensures number { result ≡ number }
-    {
-        self.shortages.note(shortage);
+        match attended {
+            Ok(_attended) => {}
+            Err(shortage) => self.shortages.note(shortage),
+        }
         self.remove(bound, number)
     }
 

@@ -68,10 +68,7 @@ fn attend_connection<R: Wait + Clock>(
     let number = connection.number();
     let attended = connection.attended(rt, alloc, hall);
     let mut connections = hall.connections.lock(rt);
-    match attended {
-        Ok(attended) => connections.leave(&hall.bound, number, attended),
-        Err(shortage) => connections.leave_unattended(&hall.bound, number, shortage),
-    }
+    connections.leave(&hall.bound, number, attended)
 }
 
 /// Rests where an accept failed, as where descriptors have run out: whoever has waited longest with its
@@ -117,7 +114,7 @@ fn accept_all<'s, 'd, 'b, E, R: Threads + Wait + Clock + Sync>(
         if let Err((awaited, shortage)) = start_session(scope, awaited, work) {
             let number = awaited.number();
             let mut connections = hall.connections.lock(rt);
-            awaited.counted(connections.leave_unattended(&hall.bound, number, shortage));
+            awaited.counted(connections.leave(&hall.bound, number, Err(shortage)));
         }
     }
     unreachable!()
