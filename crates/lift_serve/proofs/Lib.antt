@@ -1,5 +1,4 @@
 pub mod FirstLines
-pub mod Numbers
 pub mod Pagers
 pub mod Places
 pub mod Relayings

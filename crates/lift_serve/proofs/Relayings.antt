@@ -23,7 +23,7 @@ use Rattle.lift_parts.specs.History.{group_after}
 use Rattle.lift_parts.specs.Turns.{FlusherTurns, IsFlush, NoFlush, OneFlush, first_of}
 use Rattle.lift_serve.specs.declared.serving.ServeFault.{ServeFault}
 use Rattle.lift_serve.specs.declared.serving.ServeFault.TheVariants.{Thread}
-use Rattle.lift_serve.specs.Open.{EndedState, IsEndAt, IsReportOf, ServingEndState, ended_in, told_after}
+use Rattle.lift_serve.specs.Open.{EndedState, IsEndAt, IsReportOf, ServingEndState, ended_in, first_told, told_after}
 use Rattle.lift_serve.specs.Relaying.{HaveRunOrNot, HaveServed, ServingKeeps, has_failed}
 
 abbrev is_spawn : Option RunFault → Type 0
@@ -116,6 +116,11 @@ told_at_last (Err given_up) first is = absurd (cc)
 pub told_given_up : (over : Result EndedState (Unit {0})) (first : Option ServeFault) → is_ok over ≡ false → told_after over first ≡ Some Thread
 told_given_up (Ok ended) first is = absurd (cc)
 told_given_up (Err given_up) first is = refl
+
+-- the first of two, where there is no other
+pub none_behind : {T : Type 0} (first : Option T) → first_told first None ≡ first
+none_behind None = refl
+none_behind (Some shortage) = refl
 
 -- that no thread could be made for the serving itself is told, whatever else there was
 tells_spawn : (over : Result EndedState (Unit {0})) (first is_told : Option ServeFault) → is_told ≡ told_after over first → IsErr over → is_told ≡ Some Thread

@@ -1,7 +1,7 @@
 -- What is seen of a terminal's place, and what is known of it wherever there is one.
 use Rattle.std.specs.Prelude.{◌≡◌}
 use Rattle.lift_serve.specs.Visits.{HeldState, IsServedSeat}
-use Rattle.lift_serve.specs.declared.held.HeldSeat.TheInside.{Inside}
+use Rattle.lift_serve.specs.declared.prepared.seating.held.HeldSeat.TheInside.{Inside}
 
 abbrev pub seen : Inside → HeldState
 seen h = record { desk = h.desk.now; seat = h.seat; last = h.last; found = h.found }

@@ -104,10 +104,6 @@ AreAsFound register desk places = (place : ℕ) (held : HeldState)
     → (held.desk ≡ desk) × (held.found ≡ known_of (last_of register place))
     × (held.last ≡ held.found)
 
--- nobody's seat waits
-abbrev pub AreEmpty : List (Option HeldState) → Type 0
-AreEmpty places = (place : ℕ) (held : HeldState) → slice_get places place ≡ Some (Some held) → ⊥
-
 -- each seat that waits is that of its place's terminal
 abbrev pub AreAtTheirPlaces : List (Option HeldState) → Type 0
 AreAtTheirPlaces places = (place : ℕ) (held : HeldState) → slice_get places place ≡ Some (Some held)

@@ -1,19 +1,17 @@
 //! One connection, from its first line to its end.
 
-ghost use Rattle.std.specs.Prelude.{◌≡◌, ◌≤◌, ℕ, List, IfOk, IfErr, IfSome, IfNone, length, false};
+ghost use Rattle.std.specs.Prelude.{◌≡◌, ℕ, List, IfOk, IfErr, IfSome, IfNone, length};
 ghost use Rattle.std.specs.Str.Lines.{strip_carriage_return};
 ghost use Rattle.lift_base.specs.Output.{sink_of};
 ghost use Rattle.lift_kiosk.specs.Lines.{GivesLine, Keeps65, Source, source_of};
 ghost use Rattle.lift_serve.specs.Connections.{Attends, CallsUpTo, EndsWithoutLine, IsSaid};
 ghost use Rattle.lift_serve.specs.Connections.{Names, first_reads};
 ghost use Rattle.lift_serve.specs.FirstLine.{SpeaksFor};
-ghost use Rattle.lift_serve.specs.Lobby.{IsSamePlace};
 
 use crate::connections::Ticket;
 use crate::first_line::terminal_of;
-use crate::held::HeldSeat;
-use crate::lobby::{Lobby, NoSeat, SeatReturn, Vacancy};
-use crate::pace::AskBell;
+use crate::pace::Pace;
+use crate::prepared::seating::{Lobby, NoSeat, SeatReturn};
 use crate::present::PresentCars;
 use lift_base::Terminal;
 use lift_base::text::{Counted, Watched};
@@ -83,33 +81,6 @@ fn read_first<I: Read + Drop>(reader: &mut Counted<I>) -> Result<Line, NoLine>
     read_line(reader, &mut left)
 }
 
-fn take<'d>(
-    rt: &impl Wait,
-    lobby: &Mutex<Lobby<'d>>,
-    ticket: Ticket,
-    terminal: Terminal,
-) -> Result<(HeldSeat<'d>, Vacancy<'d>), NoSeat<'d>>
-    ensures own { IfOk result (λ taken. taken.0.seat.terminal ≡ terminal) }
-    ensures vacant { IfOk result (λ taken. taken.1 ≡ taken.0) }
-    ensures asked { IfErr result (λ no_seat. no_seat.terminal ≡ terminal) }
-    ensures unknown { IfErr result (λ no_seat. no_seat.is_out ≡ false
-        → length no_seat.desk ≤ no_seat.terminal) }
-{
-    lobby.lock(rt).take(ticket, terminal)
-}
-
-fn put_back<'d>(
-    rt: &impl Wait,
-    lobby: &Mutex<Lobby<'d>>,
-    held: HeldSeat<'d>,
-    vacancy: Vacancy<'d>,
-) -> SeatReturn<'d>
-    requires same { IsSamePlace vacancy held }
-    ensures { result ≡ held.entry }
-{
-    lobby.lock(rt).put_back(held, vacancy)
-}
-
 /// Writes all of the bytes, or those before which the writer fails.
 fn say<O: Write + Drop>(writer: &mut Watched<O>, bytes: &[u8])
     ensures { IsSaid bytes.now (sink_of O.contents writer.old) (sink_of O.contents writer.new) }
@@ -137,7 +108,7 @@ fn outcome_of<'d, R: Wait + Clock, I: Read + Drop, O: Write + Drop>(
     rt: &R,
     lobby: &Mutex<Lobby<'d>>,
     ticket: Ticket,
-    bell: &AskBell,
+    pace: &Pace<'_>,
     present: &PresentCars,
     terminal: Terminal,
     reader: &mut Counted<I>,
@@ -148,7 +119,8 @@ fn outcome_of<'d, R: Wait + Clock, I: Read + Drop, O: Write + Drop>(
         → Attends cars kiosks result source (source_of I.remaining reader.new)
         (sink_of O.contents writer.old) (sink_of O.contents writer.new) }
 {
-    let (held, vacancy) = match take(rt, lobby, ticket, terminal) {
+    let taken = lobby.lock(rt).take(ticket, terminal);
+    let (held, vacancy) = match taken {
         Ok(taken) => taken,
         Err(no_seat) => {
             if no_seat.is_out() {
@@ -159,8 +131,8 @@ fn outcome_of<'d, R: Wait + Clock, I: Read + Drop, O: Write + Drop>(
             return Outcome::Unseated(no_seat);
         }
     };
-    let (held, end) = held.visit(rt, bell, present, reader, writer);
-    Outcome::Visited(put_back(rt, lobby, held, vacancy), end)
+    let (held, end) = held.visit(rt, pace, present, reader, writer);
+    Outcome::Visited(lobby.lock(rt).put_back(held, vacancy), end)
 }
 
 /// Reads the first line, and serves the terminal that it names. Where the line names none of the
@@ -170,7 +142,7 @@ pub fn attend<'d, R: Wait + Clock, I: Read + Drop, O: Write + Drop>(
     rt: &R,
     lobby: &Mutex<Lobby<'d>>,
     ticket: Ticket,
-    bell: &AskBell,
+    pace: &Pace<'_>,
     present: &PresentCars,
     building: &Building,
     reader: &mut Counted<I>,
@@ -183,7 +155,7 @@ pub fn attend<'d, R: Wait + Clock, I: Read + Drop, O: Write + Drop>(
     let outcome = match read_first(reader) {
         Ok(line) => match terminal_in(building, &line) {
             Some(terminal) => {
-                outcome_of(rt, lobby, ticket, bell, present, terminal, reader, writer)
+                outcome_of(rt, lobby, ticket, pace, present, terminal, reader, writer)
             }
             None => {
                 say(writer, b"BAD\n");

@@ -4,6 +4,7 @@
 ghost use Rattle.std.specs.Prelude.{◌≡◌, ◌≤◌, ℕ, ◌+◌, ◌%◌, ◌^◌, ◌∷◌, ◌++◌, [], None, Some};
 ghost use Rattle.std.specs.Prelude.{IfOk, IfErr, IfSome, IfNone, IsErr, IsSome, IsTrue, OnErr, ◌↔◌};
 ghost use Rattle.std.specs.Prelude.{not, ◌==◌, ◌≢◌, filter, true, false};
+ghost use Rattle.std.specs.Result.{result_err};
 ghost use Rattle.lift_serve.specs.Open.{AreOver, IsEndAt, ended_in, first_told, one_more, told_after};
 
 use crate::attending::Attendance;
@@ -11,25 +12,14 @@ use crate::over::Over;
 use crate::prepared::ServingTerms;
 use crate::prepared::shortages::{ServingEnd, Shortage, Shortages, push};
 use crate::serving::ServeFault;
-use crate::shared::Shared;
-use crate::socket::{Arrival, Closer, ListeningCloser, Socket};
+use crate::socket::{Arrival, Closer, Connection};
 use std::alloc::Global;
 use std::marker::Model;
 use std::net::Shutdown;
-use std::sync::Wait;
-use std::sync::atomic::{AtomicBool, Ordering};
 use std::thread::JoinHandle;
-use std::time::Clock;
 
 /// So many connections may be open whose first line is still to come.
 const MOST_WAITING: usize = 256;
-
-/// An open connection.
-#[derive(Drop)]
-struct Open {
-    number: u64,
-    closer: Closer,
-}
 
 /// Evidence that a connection was let in. It asks for one seat. Only `enter` makes one.
 #[derive(Drop)]
@@ -51,43 +41,6 @@ impl Ticket {
         ensures { result ≡ self.now }
     {
         self.number
-    }
-}
-
-/// A connection that was let in, by the ticket that it was let in with. Only `enter` makes one.
-#[derive(Drop)]
-pub(crate) struct Connection {
-    ticket: Ticket,
-    socket: Socket,
-}
-
-impl Model for Connection {
-    ghost use Rattle.std.specs.Prelude.{ℕ};
-
-    ghost Value = { ℕ };
-
-    ghost view = { λ c. c.ticket };
-}
-
-impl Connection {
-    /// Its number.
-    pub(crate) fn number(&self) -> u64
-        ensures { result ≡ self.now }
-    {
-        self.ticket.number()
-    }
-
-    /// It is attended to by its own ticket, and then shut down.
-    pub(crate) fn attended<'d, R: Wait + Clock>(
-        self,
-        rt: &R,
-        alloc: Global,
-        shared: Shared<'_, 'd>,
-    ) -> Result<Attendance<'d>, Shortage>
-        ensures lack { IfErr result (λ shortage. shortage ≡ ServeFault.Memory) }
-    {
-        let Connection { ticket, socket } = self;
-        socket.attended(rt, alloc, shared, ticket)
     }
 }
 
@@ -149,47 +102,24 @@ pub(crate) struct AllShut {
     made: (),
 }
 
-/// Whether connections are still read. Only `Connections` ends that, after the last end that counts or where
-/// all are given up.
-#[derive(Drop)]
-pub(crate) struct Reading {
-    is_over: AtomicBool,
-}
-
-impl Reading {
-    /// They are.
-    pub(crate) fn new() -> Self {
-        Reading {
-            is_over: AtomicBool::new(false),
-        }
-    }
-
-    /// Nothing more is read.
-    pub(crate) fn is_over(&self) -> bool {
-        self.is_over.load(Ordering::SeqCst)
-    }
-}
-
 /// The connections that are open, how many have ended, and the first shortage. Contracts see the
 /// numbers of those that are open, the next number, how many have ended, whether all were given up,
 /// and the first shortage. They can't be let go: what comes of the serving tells it.
 pub struct Connections {
-    open: Vec<Open>,
+    open: Vec<Closer>,
     next: u64,
     ended: u32,
     given_up: bool,
     shortages: Shortages,
-    listening: ListeningCloser,
 }
 
 impl Model for Connections {
-    ghost use Rattle.std.specs.Prelude.{map};
     ghost use Rattle.lift_serve.specs.Open.{OpenState};
 
     ghost Value = { OpenState };
 
     ghost view = { λ c. record {
-      numbers = map (λ o. o.number) c.open.items;
+      numbers = c.open.items;
       next = c.next;
       ended = c.ended;
       given_up = c.given_up;
@@ -199,7 +129,7 @@ impl Model for Connections {
 
 impl Connections {
     /// None is open, and none has ended: those of one serving.
-    pub(crate) fn new(alloc: Global, listening: ListeningCloser, shortages: Shortages) -> Self
+    pub(crate) fn new(alloc: Global, shortages: Shortages) -> Self
         ensures { result ≡ record {
           numbers = [];
           next = 0;
@@ -214,7 +144,6 @@ impl Connections {
             ended: 0,
             given_up: false,
             shortages,
-            listening,
         }
     }
 
@@ -291,47 +220,32 @@ impl Connections {
         ensures lack { IfErr result (λ shortage. shortage ≡ ServeFault.Memory) }
     {
         let number = self.next;
-        let ticket = Ticket { number };
-        let (socket, closer) = arrival.open(alloc, &ticket)?;
-        push(&mut self.open, Open { number, closer })?;
+        let (connection, closer) = arrival.open(alloc, Ticket { number })?;
+        push(&mut self.open, closer)?;
         self.next = number.wrapping_add(1);
-        Ok((Connection { ticket, socket }, DueEnd { number }))
+        Ok((connection, DueEnd { number }))
     }
 
-    /// The connection of this number has ended, which was attended to.
+    /// The connection of this number has ended, which was attended to, or wasn't because of this shortage.
+    #[tactic(auto, using(crate::proofs::Relayings::none_behind))]
     pub(crate) fn leave(
         &mut self,
         bound: &ServingTerms,
         number: u64,
-        attended: Attendance<'_>,
+        attended: Result<Attendance<'_>, Shortage>,
     ) -> CountedEnd
         ensures left { self.new ≡ record self.old {
           numbers = filter (λ n.
               not (n == number)) self.old.numbers;
           ended = one_more bound.now.sessions self.old.ended;
+          shortage = first_told self.old.shortage (result_err attended.entry);
         } }
         ensures number { result ≡ number }
     {
-        let _used = attended;
-        self.remove(bound, number)
-    }
-
-    /// The connection of this number has ended, because of this shortage.
-    pub(crate) fn leave_unattended(
-        &mut self,
-        bound: &ServingTerms,
-        number: u64,
-        shortage: Shortage,
-    ) -> CountedEnd
-        ensures left { self.new ≡ record self.old {
-          numbers = filter (λ n.
-              not (n == number)) self.old.numbers;
-          ended = one_more bound.now.sessions self.old.ended;
-          shortage = first_told self.old.shortage (Some shortage);
-        } }
-        ensures number { result ≡ number }
-    {
-        self.shortages.note(shortage);
+        match attended {
+            Ok(_attended) => {}
+            Err(shortage) => self.shortages.note(shortage),
+        }
         self.remove(bound, number)
     }
 
@@ -344,7 +258,7 @@ impl Connections {
         } }
         ensures number { result ≡ number }
     {
-        self.open.retain(|open| open.number != number);
+        self.open.retain(|open| open.number() != number);
         self.ended(bound);
         CountedEnd { number }
     }
@@ -375,15 +289,15 @@ impl Connections {
     /// No more are accepted, and nothing more is read from those that are open: who waits for a line
     /// finds the end, and the others look at this before each read.
     fn turn_away(&self, bound: &ServingTerms, over: &Over) {
-        bound.reading().is_over.store(true, Ordering::SeqCst);
+        bound.end_reading(over);
         self.shut(Shutdown::Read);
-        self.listening.shut(over);
+        bound.listening().shut(over);
     }
 
     /// Shuts down all that are open, that way.
     fn shut(&self, how: Shutdown) {
         for open in self.open.iter() {
-            open.closer.shut(how);
+            open.shut(how);
         }
     }
 
@@ -397,7 +311,7 @@ impl Connections {
     /// one.
     pub(crate) fn send_one_away(&self) -> bool {
         for open in self.open.iter() {
-            if open.closer.send_away() {
+            if open.send_away() {
                 return true;
             }
         }
@@ -408,7 +322,7 @@ impl Connections {
     fn waiting(&self) -> usize {
         let mut count = 0usize;
         for open in self.open.iter() {
-            if open.closer.is_awaited() {
+            if open.is_awaited() {
                 count = count.saturating_add(1);
             }
         }
@@ -434,7 +348,6 @@ impl Connections {
             ended: _,
             given_up: _,
             shortages,
-            listening: _,
         } = self;
         shortages.after(over)
     }

@@ -7,8 +7,8 @@ ghost use Rattle.lift_serve.specs.Open.{EndedState, IsEndAt};
 
 use crate::connections::Connections;
 use crate::prepared::ServingTerms;
+use crate::prepared::hall::Hall;
 use crate::relaying::Parts;
-use crate::shared::Shared;
 use lift_disk::Disk;
 use lift_policy::Policy;
 use lift_relay::{RunFault, Witness};
@@ -76,28 +76,6 @@ impl Over {
         }
     }
 
-    /// How it is over after a run of both parts that came to this: where the allocator had no
-    /// thread, all are given up.
-    pub(crate) fn after_run(self, fault: Option<RunFault>) -> Self
-        ensures given_up { fault ≡ Some (Fault.Spawn tt) → IsErr result }
-        ensures ended { (bound : EndedState) → IsEndAt bound self → IsEndAt bound result }
-    {
-        match fault {
-            Some(RunFault::Spawn(_)) => {
-                let Over {
-                    have_ended: _,
-                    bound,
-                } = self;
-                Over {
-                    have_ended: false,
-                    bound,
-                }
-            }
-            Some(RunFault::Keeper(_)) => self,
-            None => self,
-        }
-    }
-
     /// Whether all have ended that were to end; else all were given up.
     pub(crate) fn have_ended(&self) -> bool
         ensures { result ≡ is_ok self.now }
@@ -108,20 +86,20 @@ impl Over {
 
 /// What a thread for the accepting promises, which shares this: that it returns once all connections
 /// have ended that are to end, or all were given up.
-impl<'a, 'd> Promise<Over> for Shared<'a, 'd> {
+impl<'a, 'd, 'b> Promise<Over> for &'a Hall<'d, 'b> {
     ghost use Rattle.lift_serve.specs.Open.{IsEndAt};
 
-    ghost kept_by = { λ s over. IsEndAt s.bound.now over };
+    ghost kept_by = { λ hall over. IsEndAt hall.now.bound over };
 }
 
 /// A thread of a scope for the accepting, which returns once that is over. Who has both parts starts
 /// it beside them. Where it is refused, nobody is let in.
-pub(crate) fn start_accepting<'s, 'a, 'd, E, F, D, P, K, V>(
+pub(crate) fn start_accepting<'s, 'a, 'd, 'b, E, F, D, P, K, V>(
     scope: &Scope<'s, E>,
     _parts: &Parts<'_, '_, D, P, K, V>,
-    shared: Shared<'a, 'd>,
+    hall: &'a Hall<'d, 'b>,
     work: F,
-) -> Result<PromisedHandle<Over, Shared<'a, 'd>>, Over>
+) -> Result<PromisedHandle<Over, &'a Hall<'d, 'b>>, Over>
 where
     F: FnOnce() -> Over + Send + Drop + 's,
     D: Disk + Drop,
@@ -130,15 +108,15 @@ where
     V: Witness + Drop,
     requires runs { F.pre work }
     requires keeps { (over : Result EndedState (Unit {0})) → F.post work over
-        → IsEndAt shared.bound.now over }
-    ensures promised { IfOk result (λ child. child.promise ≡ shared.entry) }
+        → IsEndAt hall.now.bound over }
+    ensures promised { IfOk result (λ child. child.promise ≡ hall.entry) }
     ensures given_up { IfErr result IsErr }
 {
-    match scope.spawn_with(shared, work) {
+    match scope.spawn_with(hall, work) {
         Ok(child) => Ok(child),
         Err(_) => Err(Over {
             have_ended: false,
-            bound: Snapshot::of(shared.bound),
+            bound: Snapshot::of(&hall.bound),
         }),
     }
 }

@@ -28,15 +28,6 @@ const FIRST_WOKEN: u64 = 2;
 /// The allocator doesn't wait for asks.
 const NOT_WAITING: u64 = u64::MAX;
 
-/// What is rung after each ask. It wakes the allocator once as many have asked as that waits for.
-#[derive(Drop)]
-pub struct AskBell {
-    parker: Parker,
-    /// How many have asked since the last scan began, or some more.
-    asked: AtomicU64,
-    enough: AtomicU64,
-}
-
 /// For how many asks at a terminal's seat the bell was rung. Only proofs read it, and only a ring
 /// counts.
 #[derive(Drop)]
@@ -66,30 +57,78 @@ impl RingCount {
     }
 }
 
-impl AskBell {
-    /// Nobody has asked.
-    pub fn new() -> AskBell {
-        AskBell {
-            parker: Parker::new(),
+/// How the threads of a serving wait, and what wakes them: the accepting's waits for both parts; the
+/// allocator's for asks, or for the flusher to go on; the flusher's for batches; a session's, at its
+/// terminal's pager, for its answer. It is the gate of both parts: they go on until the accepting is over,
+/// and each terminal's pager is told how far its ask is.
+#[derive(Drop)]
+pub struct Pace<'s> {
+    pagers: &'s [Pager],
+    /// That both parts have a thread: before that the accepting lets nobody in.
+    both: OnceLock<BothRun>,
+    doors: Parker,
+    /// Where the allocator waits for asks.
+    asks: Parker,
+    /// How many have asked since the last scan began, or some more.
+    asked: AtomicU64,
+    /// So many wake the allocator.
+    enough: AtomicU64,
+    /// How many asks the last scan was begun for, and the one before it.
+    last: AtomicU64,
+    before: AtomicU64,
+    room: Parker,
+    sent: AtomicU64,
+    batches: Parker,
+    flushed: AtomicU64,
+    /// Both parts are to end.
+    is_over: AtomicBool,
+}
+
+impl<'s> Pace<'s> {
+    /// Of a line on which nothing was sent, at which nobody waits.
+    pub fn new(pagers: &'s [Pager]) -> Self {
+        Pace {
+            pagers,
+            both: OnceLock::new(),
+            doors: Parker::new(),
+            asks: Parker::new(),
             asked: AtomicU64::new(0),
             enough: AtomicU64::new(NOT_WAITING),
+            last: AtomicU64::new(0),
+            before: AtomicU64::new(0),
+            room: Parker::new(),
+            sent: AtomicU64::new(0),
+            batches: Parker::new(),
+            flushed: AtomicU64::new(0),
+            is_over: AtomicBool::new(false),
         }
     }
 
-    /// A terminal's ask is stored, of which its pager was told before.
+    /// Whether both parts have a thread.
+    pub(crate) fn begun(&self) -> Option<BothRun> {
+        self.both.get().copied()
+    }
+
+    /// Waits until both parts have a thread, or somebody rings at the doors.
+    pub(crate) fn wait_at_doors<R: Wait>(&self, rt: &R) {
+        self.doors.park(rt);
+    }
+
+    /// Wakes who waits for both parts.
+    pub(crate) fn ring_at_doors(&self) {
+        self.doors.unpark();
+    }
+
+    /// A terminal's ask is stored, of which its pager was told before. It wakes the allocator once as many
+    /// have asked as that waits for.
     pub fn ring(&self, _paged: PagedAsk, count: &mut RingCount)
         ensures { count.new ≡ count.old + 1 }
     {
         let asked = self.asked.fetch_add(1, Ordering::SeqCst).saturating_add(1);
         if asked >= self.enough.load(Ordering::SeqCst) {
-            self.parker.unpark();
+            self.asks.unpark();
         }
         count.times = ProofCount::next(&count.times);
-    }
-
-    /// What was asked before is found by a scan.
-    fn scan_begins(&self) {
-        self.asked.store(0, Ordering::SeqCst);
     }
 
     /// From here on so many asks wake the allocator. Whether they are still to come.
@@ -105,91 +144,8 @@ impl AskBell {
     /// Where the allocator waits, one ask is enough.
     fn one_is_enough(&self) {
         if self.enough.load(Ordering::SeqCst) != NOT_WAITING && !self.wants(1) {
-            self.parker.unpark();
+            self.asks.unpark();
         }
-    }
-}
-
-/// Whether both parts of a serving are to end, which they are once its accepting is over.
-#[derive(Drop)]
-pub struct Closing {
-    is_set: AtomicBool,
-}
-
-impl Closing {
-    /// They go on.
-    pub(crate) fn new() -> Self {
-        Closing {
-            is_set: AtomicBool::new(false),
-        }
-    }
-
-    /// They are to end.
-    pub(crate) fn set(&self, _over: &Over) {
-        self.is_set.store(true, Ordering::SeqCst);
-    }
-}
-
-/// What the accepting waits for before it lets anybody in: that both parts have a thread.
-#[derive(Drop)]
-struct Doors {
-    both: OnceLock<BothRun>,
-    parker: Parker,
-}
-
-/// What wakes the threads of a serving: the accepting's waits for both parts; the allocator's for
-/// asks, or for the flusher to go on; the flusher's for batches; a session's, at its terminal's pager,
-/// for its answer.
-#[derive(Drop)]
-pub struct Bells<'s> {
-    doors: Doors,
-    asks: AskBell,
-    room: Parker,
-    batches: Parker,
-    pagers: &'s [Pager],
-    flushed: AtomicU64,
-}
-
-impl<'s> Bells<'s> {
-    /// None is rung, and nothing was flushed.
-    pub fn new(pagers: &'s [Pager]) -> Self {
-        Bells {
-            doors: Doors {
-                both: OnceLock::new(),
-                parker: Parker::new(),
-            },
-            asks: AskBell::new(),
-            room: Parker::new(),
-            batches: Parker::new(),
-            pagers,
-            flushed: AtomicU64::new(0),
-        }
-    }
-
-    /// Both parts have a thread.
-    fn open_doors(&self, both: BothRun) {
-        let _first = self.doors.both.try_set(both);
-        self.doors.parker.unpark();
-    }
-
-    /// Whether both parts have a thread.
-    pub(crate) fn both_run(&self) -> Option<BothRun> {
-        self.doors.both.get().copied()
-    }
-
-    /// Waits until the doors open, or somebody rings there.
-    pub(crate) fn wait_at_doors<R: Wait>(&self, rt: &R) {
-        self.doors.parker.park(rt);
-    }
-
-    /// Wakes who waits for the doors to open.
-    pub(crate) fn ring_at_doors(&self) {
-        self.doors.parker.unpark();
-    }
-
-    /// To be rung after each ask.
-    pub fn asks(&self) -> &AskBell {
-        &self.asks
     }
 
     /// Wakes one session whose answer is stored, if one is left.
@@ -217,44 +173,20 @@ impl<'s> Bells<'s> {
         }
     }
 
-    /// Wakes the two threads of the parts, whatever they wait for.
-    pub fn ring_all(&self) {
-        self.asks.parker.unpark();
+    /// Both parts are to end, whatever their threads wait for.
+    pub(crate) fn end_parts(&self, _over: &Over) {
+        self.is_over.store(true, Ordering::SeqCst);
+        self.asks.unpark();
         self.room.unpark();
         self.batches.unpark();
     }
-}
 
-/// The gate of a serving: both parts go on until they are to end. A part that has nothing
-/// to do waits until it is woken, and each terminal's pager is told how far its ask is.
-#[derive(Drop)]
-pub struct Pace<'s> {
-    bells: &'s Bells<'s>,
-    closing: &'s Closing,
-    sent: AtomicU64,
-    /// How many asks the last scan was begun for, and the one before it.
-    last: AtomicU64,
-    before: AtomicU64,
-}
-
-impl<'s> Pace<'s> {
-    /// Of a line on which nothing was sent.
-    pub fn new(bells: &'s Bells<'s>, closing: &'s Closing) -> Self {
-        Pace {
-            bells,
-            closing,
-            sent: AtomicU64::new(0),
-            last: AtomicU64::new(0),
-            before: AtomicU64::new(0),
-        }
-    }
-
-    /// What was asked before a scan is in the batch that the scan sends.
+    /// What was asked before a scan is found by it, and is in the batch that it sends.
     fn scan_begins(&self) {
-        self.bells.asks.scan_begins();
+        self.asked.store(0, Ordering::SeqCst);
         let batch = self.sent.load(Ordering::SeqCst).saturating_add(1);
         let mut asked = 0u64;
-        for pager in self.bells.pagers {
+        for pager in self.pagers {
             if pager.scan_begins(batch) {
                 asked = asked.saturating_add(1);
             }
@@ -268,11 +200,7 @@ impl<'s> Pace<'s> {
 
     /// Whether no more than so many batches of those that were sent are still to be flushed.
     fn has_flushed_all_but(&self, sent: u64, batches: u64) -> bool {
-        sent <= self
-            .bells
-            .flushed
-            .load(Ordering::SeqCst)
-            .saturating_add(batches)
+        sent <= self.flushed.load(Ordering::SeqCst).saturating_add(batches)
     }
 
     /// Waits until the flusher has one batch to do at most.
@@ -281,7 +209,7 @@ impl<'s> Pace<'s> {
             if self.has_flushed_all_but(sent, 1) || !self.go_on() {
                 break;
             }
-            self.bells.room.park(rt);
+            self.room.park(rt);
         }
     }
 
@@ -289,55 +217,53 @@ impl<'s> Pace<'s> {
     /// has none to do and one has asked, or for a while. A batch that is decided later is
     /// fuller, and whoever is in it waits for one batch less.
     fn wait_for_asks<R: Wait>(&self, rt: &R, sent: u64) {
-        let asks = &self.bells.asks;
         let last = self.last.load(Ordering::SeqCst);
         let enough = last.max(self.before.load(Ordering::SeqCst));
-        if asks.wants(enough) && !self.has_flushed_all_but(sent, 0) && self.go_on() {
-            asks.parker
-                .park_timeout(rt, Duration::from_millis(AHEAD_MS));
+        if self.wants(enough) && !self.has_flushed_all_but(sent, 0) && self.go_on() {
+            self.asks.park_timeout(rt, Duration::from_millis(AHEAD_MS));
         }
-        asks.wants_none();
+        self.wants_none();
     }
 }
 
 impl<'s> Gate for Pace<'s> {
     fn go_on(&self) -> bool {
-        !self.closing.is_set.load(Ordering::SeqCst)
+        !self.is_over.load(Ordering::SeqCst)
     }
 
     fn both_run(&self, begun: RunBegun) {
-        self.bells.open_doors(begun.told());
+        let _first = self.both.try_set(begun.told());
+        self.doors.unpark();
     }
 
     fn allocator_idles<R: Wait>(&self, rt: &R) {
-        let asks = &self.bells.asks;
-        if asks.wants(1) {
-            asks.parker.park(rt);
+        if self.wants(1) {
+            self.asks.park(rt);
         }
-        asks.wants_none();
+        self.wants_none();
         self.scan_begins();
     }
 
     fn has_sent<R: Wait>(&self, rt: &R, count: u64) {
         self.sent.store(count, Ordering::SeqCst);
-        self.bells.batches.unpark();
+        self.batches.unpark();
         self.wait_for_room(rt, count);
-        self.bells.wake_answered();
+        self.wake_answered();
         self.wait_for_asks(rt, count);
         self.scan_begins();
     }
 
     fn flusher_idles<R: Wait>(&self, rt: &R) {
-        self.bells.batches.park(rt);
+        self.batches.park(rt);
     }
 
     fn has_flushed<R: Wait>(&self, _rt: &R, count: u64) {
-        self.bells.flushed.store(count, Ordering::SeqCst);
+        self.flushed.store(count, Ordering::SeqCst);
         // What was asked meanwhile is decided while sessions wake.
-        self.bells.room.unpark();
-        self.bells.asks.one_is_enough();
+        self.room.unpark();
+        self.one_is_enough();
         for _ in 0..FIRST_WOKEN {
-            self.bells.wake_one();
+            self.wake_one();
         }
     }
 }

@@ -3,18 +3,21 @@
 //! A clause binds only a call that returns. So all that a serving takes is made by `prepare`, which does;
 //! what waits makes nothing of it.
 
-ghost use Rattle.std.specs.Prelude.{◌≡◌, [], None, IfOk, IfErr};
+ghost use Rattle.std.specs.Prelude.{◌≡◌, [], IfOk, IfErr};
 ghost use Rattle.lift_parts.specs.Parts.{AreOfOne};
 ghost use Rattle.lift_serve.specs.Ready.{IsFullLobby, IsNewGroup};
 
-mod seating;
+pub(crate) mod hall;
+pub(crate) mod seating;
 pub(crate) mod shortages;
 
-use crate::connections::Reading;
-use crate::lobby::Lobby;
-use crate::pace::Pager;
+use crate::connections::Connections;
+use crate::over::Over;
+use crate::pace::{Pace, Pager};
 use crate::present::{PresentCars, ServedPolicy};
-use crate::socket::{Accepting, Listening, ListeningCloser};
+use crate::relaying::Parts;
+use crate::socket::Listening;
+use hall::Hall;
 use lift_base::MOST_CARS;
 use lift_building::Building;
 use lift_clerk::Clerk;
@@ -23,11 +26,13 @@ use lift_disk::Disk;
 use lift_keeper::{Keeper, Writer};
 use lift_memory::Memory;
 use lift_policy::{Dispatching, Policy};
-use lift_relay::{Allocator, Flusher, split_for};
-use seating::{lobby_at, new_pagers};
+use lift_relay::{Allocator, Flusher, Witness, split_for};
+use seating::{Lobby, lobby_at, new_pagers};
 use shortages::Shortages;
 use std::alloc::Global;
 use std::marker::Model;
+use std::sync::Mutex;
+use std::sync::atomic::{AtomicBool, Ordering};
 
 /// Where a group is served: a desk, where its sessions rest, and which cars are present. Whoever has a
 /// group prepared lends a place for one.
@@ -48,35 +53,23 @@ pub struct ReadyGroup<'d, 'b, D: Disk + Drop, P: Policy + Drop, K: Drop> {
     room: &'d Room,
     building: &'b Building,
     bound: ServingTerms,
-    closer: ListeningCloser,
     ghost of_one: { AreOfOne allocator flusher },
     ghost of_building: { building.now ≡ flusher.writer.plan },
 }
 
-/// What a serving begins with.
-pub(crate) struct ServingStart<'d, 'b, D: Disk + Drop, P: Policy + Drop, K: Drop> {
-    pub(crate) allocator: Allocator<'d, 'b, ServedPolicy<'d, P>>,
-    pub(crate) flusher: Flusher<'d, 'b, D, K>,
-    pub(crate) lobby: Lobby<'d>,
-    pub(crate) pagers: &'d [Pager],
-    pub(crate) present: &'d PresentCars,
-    pub(crate) building: &'b Building,
-    pub(crate) bound: ServingTerms,
-    pub(crate) closer: ListeningCloser,
-    pub(crate) shortages: Shortages,
-}
-
 impl<'d, 'b, D: Disk + Drop, P: Policy + Drop, K: Drop> ReadyGroup<'d, 'b, D, P, K> {
-    /// Its serving begins.
+    /// Its serving begins, with who is notified that the device fails.
     #[inline(never)]
-    pub(crate) fn begun(self) -> ServingStart<'d, 'b, D, P, K>
-        ensures allocator { result.allocator ≡ self.entry.allocator }
-        ensures flusher { result.flusher ≡ self.entry.flusher }
-        ensures lobby { result.lobby ≡ self.entry.lobby }
-        ensures of_one { AreOfOne result.allocator result.flusher }
-        ensures of_building { result.building.now ≡ result.flusher.writer.plan }
-        ensures bound { result.bound ≡ self.entry.bound }
-        ensures shortages { result.shortages ≡ None }
+    pub(crate) fn begun<V: Witness + Drop>(
+        self,
+        alloc: Global,
+        witness: V,
+    ) -> (Parts<'d, 'b, D, ServedPolicy<'d, P>, K, V>, Hall<'d, 'b>)
+        ensures allocator { result.0.allocator ≡ self.entry.allocator }
+        ensures flusher { result.0.flusher ≡ self.entry.flusher }
+        ensures witness { result.0.witness ≡ witness }
+        ensures own { result.1.building.now ≡ result.0.flusher.writer.plan }
+        ensures bound { result.1.bound ≡ self.entry.bound }
     {
         let ReadyGroup {
             allocator,
@@ -85,19 +78,21 @@ impl<'d, 'b, D: Disk + Drop, P: Policy + Drop, K: Drop> ReadyGroup<'d, 'b, D, P,
             room,
             building,
             bound,
-            closer,
         } = self;
-        ServingStart {
-            allocator,
-            flusher,
-            lobby,
-            pagers: room.pagers.as_slice(),
-            present: &room.present,
+        let hall = Hall {
             building,
             bound,
-            closer,
-            shortages: Shortages::new(),
-        }
+            lobby: Mutex::new(lobby),
+            present: &room.present,
+            pace: Pace::new(room.pagers.as_slice()),
+            connections: Mutex::new(Connections::new(alloc, Shortages::new())),
+        };
+        let parts = Parts {
+            allocator,
+            flusher,
+            witness,
+        };
+        (parts, hall)
     }
 
     /// The writer of a group that nobody serves, as it is, for the key.
@@ -112,7 +107,6 @@ impl<'d, 'b, D: Disk + Drop, P: Policy + Drop, K: Drop> ReadyGroup<'d, 'b, D, P,
             room: _,
             building: _,
             bound: _,
-            closer: _,
         } = self;
         flusher.into_writer(key)
     }
@@ -159,7 +153,6 @@ pub fn prepare<'d, 'b: 'd, D: Disk + Drop, P: Policy + Drop, K: Drop>(
     });
     let policy = ServedPolicy::new(policy, &room.present);
     let lobby = lobby_at(&room.desk, room.pagers.as_slice(), seats, keeper.register());
-    let (accepting, closer) = listening.apart();
     match split_for(alloc, Clerk::new(&room.desk, clerk, keeper, policy)) {
         Ok((allocator, flusher)) => Ok(ReadyGroup {
             allocator,
@@ -168,11 +161,10 @@ pub fn prepare<'d, 'b: 'd, D: Disk + Drop, P: Policy + Drop, K: Drop>(
             room,
             building,
             bound: ServingTerms {
-                accepting,
+                listening,
                 sessions,
-                reading: Reading::new(),
+                is_over: AtomicBool::new(false),
             },
-            closer,
         }),
         Err((clerk, memory)) => {
             let (_seat, keeper, _policy) = clerk.into_parts();
@@ -186,9 +178,10 @@ pub fn prepare<'d, 'b: 'd, D: Disk + Drop, P: Policy + Drop, K: Drop>(
 /// whether it is over, or counts an end, does so by that socket and that number.
 #[derive(Drop)]
 pub struct ServingTerms {
-    accepting: Accepting,
+    listening: Listening,
     sessions: u32,
-    reading: Reading,
+    /// Nothing more is read.
+    is_over: AtomicBool,
 }
 
 impl Model for ServingTerms {
@@ -196,13 +189,13 @@ impl Model for ServingTerms {
 
     ghost Value = { EndedState };
 
-    ghost view = { λ b. record { listener = b.accepting; sessions = b.sessions } };
+    ghost view = { λ b. record { listener = b.listening; sessions = b.sessions } };
 }
 
 impl ServingTerms {
-    /// What accepts at the socket.
-    pub(crate) fn accepting(&self) -> &Accepting {
-        &self.accepting
+    /// Its socket.
+    pub(crate) fn listening(&self) -> &Listening {
+        &self.listening
     }
 
     /// How many connections are to end.
@@ -212,8 +205,13 @@ impl ServingTerms {
         self.sessions
     }
 
-    /// Whether connections are still read.
-    pub(crate) fn reading(&self) -> &Reading {
-        &self.reading
+    /// Whether connections are read no more.
+    pub(crate) fn is_over(&self) -> bool {
+        self.is_over.load(Ordering::SeqCst)
+    }
+
+    /// Nothing more is read.
+    pub(crate) fn end_reading(&self, _over: &Over) {
+        self.is_over.store(true, Ordering::SeqCst);
     }
 }

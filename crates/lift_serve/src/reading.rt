@@ -2,7 +2,7 @@
 
 ghost use Rattle.std.specs.Prelude.{◌≡◌};
 
-use crate::connections::Reading;
+use crate::prepared::ServingTerms;
 use std::io;
 use std::io::{ErrorKind, Read};
 
@@ -10,15 +10,15 @@ use std::io::{ErrorKind, Read};
 #[derive(Drop)]
 pub(crate) struct OpenReader<'s, I: Read + Drop> {
     reader: I,
-    reading: &'s Reading,
+    bound: &'s ServingTerms,
 }
 
 impl<'s, I: Read + Drop> OpenReader<'s, I> {
     /// Over a connection's own reader.
-    pub(crate) fn new(reader: I, reading: &'s Reading) -> Self
+    pub(crate) fn new(reader: I, bound: &'s ServingTerms) -> Self
         ensures { result.reader ≡ reader }
     {
-        OpenReader { reader, reading }
+        OpenReader { reader, bound }
     }
 }
 
@@ -26,7 +26,7 @@ impl<'s, I: Read + Drop> Read for OpenReader<'s, I> {
     ghost remaining = { λ r. I.remaining r.reader };
 
     fn read(&mut self, buf: &mut [u8]) -> io::Result<usize> {
-        if self.reading.is_over() {
+        if self.bound.is_over() {
             return Err(io::Error::from(ErrorKind::ConnectionAborted));
         }
         self.reader.read(buf)

@@ -8,21 +8,20 @@ ghost use Rattle.lift_relay.specs.declared.pair.RunFault.{RunFault as Fault};
 ghost use Rattle.lift_serve.specs.Open.{IsEndAt, IsReportOf};
 ghost use Rattle.lift_serve.specs.Relaying.{HaveRunOrNot, HaveServed, ServingKeeps};
 
-use crate::connections::{Connection, Connections, CountedEnd};
+use crate::connections::CountedEnd;
 use crate::over::{Over, start_accepting};
-use crate::pace::{Bells, Closing, Pace};
+use crate::prepared::ReadyGroup;
+use crate::prepared::hall::Hall;
 use crate::prepared::shortages::{ServingEnd, start_session};
-use crate::prepared::{ReadyGroup, ServingStart};
 use crate::present::ServedPolicy;
-use crate::relaying::{Parts, run_parts, unrun};
-use crate::shared::Shared;
-use crate::socket::Arrival;
+use crate::relaying::{Parts, unrun};
+use crate::socket::{Arrival, Connection};
 use lift_disk::Disk;
 use lift_parts::turns_keep_what_was_given;
 use lift_policy::Policy;
-use lift_relay::{Allocator, BothRun, Flusher, Gate, HeardBy, Witness};
+use lift_relay::{Allocator, Flusher, HeardBy, Witness, run};
 use std::alloc::Global;
-use std::sync::{Mutex, Wait};
+use std::sync::Wait;
 use std::thread;
 use std::thread::{Scope, Threads};
 use std::time::{Clock, Duration};
@@ -61,22 +60,21 @@ const CLOSED_REST_MS: u64 = 1;
 fn attend_connection<R: Wait + Clock>(
     rt: &R,
     alloc: Global,
-    shared: Shared<'_, '_>,
+    hall: &Hall<'_, '_>,
     connection: Connection,
 ) -> CountedEnd
     ensures { result ≡ connection }
 {
     let number = connection.number();
-    match connection.attended(rt, alloc, shared) {
-        Ok(attended) => shared.leave(rt, number, attended),
-        Err(shortage) => shared.leave_unattended(rt, number, shortage),
-    }
+    let attended = connection.attended(rt, alloc, hall);
+    let mut connections = hall.connections.lock(rt);
+    connections.leave(&hall.bound, number, attended)
 }
 
 /// Rests where an accept failed, as where descriptors have run out: whoever has waited longest with its
 /// first line still to come is closed, which frees one.
-fn rest_and_make_room<R: Wait + Clock>(rt: &R, shared: Shared<'_, '_>) {
-    let rest = if shared.send_one_away(rt) {
+fn rest_and_make_room<R: Wait + Clock>(rt: &R, hall: &Hall<'_, '_>) {
+    let rest = if hall.connections.lock(rt).send_one_away() {
         CLOSED_REST_MS
     } else {
         ACCEPT_REST_MS
@@ -84,43 +82,47 @@ fn rest_and_make_room<R: Wait + Clock>(rt: &R, shared: Shared<'_, '_>) {
     thread::sleep(rt, Duration::from_millis(rest));
 }
 
-/// Accepts connections, since both parts have a thread, until all have ended that were to end, or all are
+/// Accepts connections, once both parts have a thread, until all have ended that were to end, or all are
 /// given up.
-fn accept_all<'s, 'd: 's, E, R: Threads + Wait + Clock + Sync>(
+fn accept_all<'s, 'd, 'b, E, R: Threads + Wait + Clock + Sync>(
     rt: &'s R,
     alloc: Global,
     scope: &Scope<'s, E>,
-    shared: Shared<'s, 'd>,
-    both: BothRun,
+    hall: &'s Hall<'d, 'b>,
 ) -> Over
-    ensures { IsEndAt shared.entry.bound.now result }
+    ensures { IsEndAt hall.now.bound result }
 {
+    let both = match hall.wait_for_both(rt) {
+        Ok(both) => both,
+        Err(over) => return over,
+    };
     for _ in rt.forever() {
-        let Ok(arrival) = Arrival::at(shared.bound, both) else {
-            if let Some(over) = shared.is_over(rt) {
+        let Ok(arrival) = Arrival::at(&hall.bound, both) else {
+            if let Some(over) = hall.is_over(rt) {
                 return over;
             }
-            rest_and_make_room(rt, shared);
+            rest_and_make_room(rt, hall);
             continue;
         };
-        let (connection, awaited) = match shared.enter(rt, alloc, arrival) {
+        let entered = hall.connections.lock(rt).enter(alloc, &hall.bound, arrival);
+        let (connection, awaited) = match entered {
             Ok(Some(entered)) => entered,
             Ok(None) => continue,
             Err(over) => return over,
         };
-        let work = move || attend_connection(rt, alloc, shared, connection);
+        let work = move || attend_connection(rt, alloc, hall, connection);
         if let Err((awaited, shortage)) = start_session(scope, awaited, work) {
             let number = awaited.number();
-            awaited.counted(shared.leave_unattended(rt, number, shortage));
+            let mut connections = hall.connections.lock(rt);
+            awaited.counted(connections.leave(&hall.bound, number, Err(shortage)));
         }
     }
     unreachable!()
 }
 
-/// Accepts connections, once both parts have a thread, until all have ended that were to end, or all are
-/// given up. Once each thread of one has ended, has both parts end.
-fn welcome<R: Threads + Wait + Clock + Sync>(rt: &R, alloc: Global, shared: Shared<'_, '_>) -> Over
-    ensures { IsEndAt shared.entry.bound.now result }
+/// Accepts connections until that is over. Once each thread of one has ended, has both parts end.
+fn welcome<R: Threads + Wait + Clock + Sync>(rt: &R, alloc: Global, hall: &Hall<'_, '_>) -> Over
+    ensures { IsEndAt hall.now.bound result }
 {
     let over = thread::scope(
         thread::scope_env(),
@@ -128,99 +130,82 @@ fn welcome<R: Threads + Wait + Clock + Sync>(rt: &R, alloc: Global, shared: Shar
         move |scope| -> Over
             requires { IsSync R.row }
         {
-            let over = match shared.wait_for_both(rt) {
-                Ok(both) => accept_all(rt, alloc, scope, shared, both),
-                Err(over) => over,
-            };
-            shared.see_off(rt, &over);
+            let over = accept_all(rt, alloc, scope, hall);
+            hall.see_off(rt, &over);
             over
         },
     );
-    shared.closing.set(&over);
-    shared.bells.ring_all();
-    shared.over(rt)
+    hall.pace.end_parts(&over);
+    hall.over(rt)
 }
 
 /// Both parts run, the flusher on this thread, while connections are accepted on another. Where no
 /// thread could be had for the accepting, the parts are as they were; where none could be had for
 /// the allocator, all connections are given up.
-fn run_beside<'d, 'b, R, G, D, P, K, V>(
+fn run_beside<'d, 'b, R, D, P, K, V>(
     rt: &R,
     alloc: Global,
-    shared: Shared<'_, '_>,
-    gate: &G,
+    hall: &Hall<'_, '_>,
     parts: Parts<'d, 'b, D, P, K, V>,
 ) -> (Parts<'d, 'b, D, P, K, V>, Over)
 where
     R: Threads + Wait + Clock + Sync,
-    G: Gate + Sync,
     D: Disk + Drop,
     P: Policy + Drop + Send,
     K: HeardBy<V> + Drop,
     V: Witness + Drop,
     // Those are let in that speak for a terminal of the building that is served.
-    requires own { shared.building.now ≡ parts.flusher.writer.plan }
+    requires own { hall.now.building.now ≡ parts.flusher.writer.plan }
     // All are given up where no thread could be had.
     ensures ran { (fault : Option Fault) × HaveRunOrNot (P.chooses parts.entry.allocator.policy)
         D.state parts.entry.allocator result.0.allocator parts.entry.flusher result.0.flusher fault
         × (fault ≡ Some (Fault.Spawn tt) → IsErr result.1) }
     ensures heard { FailureHeard V.hears parts.entry.flusher.writer.is_broken
         result.0.flusher.writer.is_broken parts.entry.witness result.0.witness }
-    ensures over { IsEndAt shared.entry.bound.now result.1 }
+    ensures over { IsEndAt hall.now.bound result.1 }
 {
     thread::scope(
         thread::scope_env(),
         rt,
         move |scope| -> (Parts<D, P, K, V>, Over)
-            requires { IsSync R.row × IsSync G.row × IsSend P.row }
+            requires { IsSync R.row × IsSend P.row }
             ensures ran { (fault : Option Fault)
                 × HaveRunOrNot (P.chooses parts.entry.allocator.policy) D.state parts.entry.allocator
                 result.0.allocator parts.entry.flusher result.0.flusher fault
                 × (fault ≡ Some (Fault.Spawn tt) → IsErr result.1) }
             ensures heard { FailureHeard V.hears parts.entry.flusher.writer.is_broken
                 result.0.flusher.writer.is_broken parts.entry.witness result.0.witness }
-            ensures over { IsEndAt shared.entry.bound.now result.1 }
+            ensures over { IsEndAt hall.entry.now.bound result.1 }
         {
             let work = move || -> Over
-                ensures { IsEndAt shared.entry.bound.now result }
-            { welcome(rt, alloc, shared) };
-            let accepting = match start_accepting(scope, &parts, shared, work) {
+                ensures { IsEndAt hall.entry.now.bound result }
+            { welcome(rt, alloc, hall) };
+            let accepting = match start_accepting(scope, &parts, hall, work) {
                 Ok(accepting) => accepting,
                 Err(over) => return (unrun(parts), over),
             };
-            let ran = run_parts(rt, gate, parts);
-            if let Some(given_up) = Over::by(shared.bound, ran.fault) {
-                shared.give_up(rt, &given_up);
-            }
-            let over = accepting.join(rt).after_run(ran.fault);
+            let Parts {
+                mut allocator,
+                mut flusher,
+                witness,
+            } = parts;
+            let (witness, fault) = run(rt, &mut allocator, &mut flusher, &hall.pace, witness);
+            let over = match Over::by(&hall.bound, fault) {
+                Some(given_up) => {
+                    hall.give_up(rt, &given_up);
+                    let _accepted = accepting.join(rt);
+                    given_up
+                }
+                None => accepting.join(rt),
+            };
+            let ran = Parts {
+                allocator,
+                flusher,
+                witness,
+            };
             (ran, over)
         },
     )
-}
-
-/// Both parts run at the pace of these bells while connections are accepted.
-fn run<'d, 'b, R, D, P, K, V>(
-    rt: &R,
-    alloc: Global,
-    shared: Shared<'_, '_>,
-    parts: Parts<'d, 'b, D, P, K, V>,
-) -> (Parts<'d, 'b, D, P, K, V>, Over)
-where
-    R: Threads + Wait + Clock + Sync,
-    D: Disk + Drop,
-    P: Policy + Drop + Send,
-    K: HeardBy<V> + Drop,
-    V: Witness + Drop,
-    requires own { shared.building.now ≡ parts.flusher.writer.plan }
-    ensures ran { (fault : Option Fault) × HaveRunOrNot (P.chooses parts.entry.allocator.policy)
-        D.state parts.entry.allocator result.0.allocator parts.entry.flusher result.0.flusher fault
-        × (fault ≡ Some (Fault.Spawn tt) → IsErr result.1) }
-    ensures heard { FailureHeard V.hears parts.entry.flusher.writer.is_broken
-        result.0.flusher.writer.is_broken parts.entry.witness result.0.witness }
-    ensures over { IsEndAt shared.entry.bound.now result.1 }
-{
-    let pace = Pace::new(shared.bells, shared.closing);
-    run_beside(rt, alloc, shared, &pace, parts)
 }
 
 /// Serves a group that is ready on its listening socket until so many connections have ended, those that
@@ -262,42 +247,12 @@ where
     ensures reports { IsReportOf group.entry.bound result.end }
 {
     turns_keep_what_was_given::<D>();
-    let ServingStart {
-        allocator,
-        flusher,
-        lobby,
-        pagers,
-        present,
-        building,
-        bound,
-        closer,
-        shortages,
-    } = group.begun();
-    let parts = Parts {
-        allocator,
-        flusher,
-        fault: None,
-        witness,
-    };
-    let lobby = Mutex::new(lobby);
-    let connections = Mutex::new(Connections::new(alloc, closer, shortages));
-    let bells = Bells::new(pagers);
-    let closing = Closing::new();
-    let shared = Shared {
-        building,
-        bound: &bound,
-        lobby: &lobby,
-        bells: &bells,
-        closing: &closing,
-        present,
-        connections: &connections,
-    };
-    let (ran, over) = run(rt, alloc, shared, parts);
-    let end = connections.into_inner().into_end(over);
+    let (parts, hall) = group.begun(alloc, witness);
+    let (ran, over) = run_beside(rt, alloc, &hall, parts);
+    let end = hall.into_end(over);
     let Parts {
         allocator,
         flusher,
-        fault: _,
         witness,
     } = ran;
     ServingOutcome {

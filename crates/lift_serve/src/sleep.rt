@@ -3,7 +3,7 @@
 ghost use Rattle.std.specs.Prelude.{◌≡◌};
 ghost use Rattle.lift_kiosk.specs.Desk.{asks_at};
 
-use crate::pace::{AskBell, Pager, RingCount};
+use crate::pace::{Pace, Pager, RingCount};
 use crate::present::PresentCars;
 use lift_base::{Reply, Terminal};
 use lift_desk::Seat;
@@ -18,7 +18,7 @@ use std::time::Clock;
 #[derive(Drop)]
 pub struct Sleep<'r, R: Wait + Clock> {
     rt: &'r R,
-    bell: &'r AskBell,
+    pace: &'r Pace<'r>,
     pager: &'r Pager,
     terminal: Terminal,
     present: &'r PresentCars,
@@ -26,12 +26,12 @@ pub struct Sleep<'r, R: Wait + Clock> {
 }
 
 impl<'r, R: Wait + Clock> Sleep<'r, R> {
-    /// At this seat, with the runtime that it sleeps by, the allocator's bell, its terminal's pager,
+    /// At this seat, with the runtime that it sleeps by, what wakes the allocator, its terminal's pager,
     /// and who keeps which cars are present.
     pub fn new(
         seat: &Seat,
         rt: &'r R,
-        bell: &'r AskBell,
+        pace: &'r Pace<'r>,
         pager: &'r Pager,
         present: &'r PresentCars,
     ) -> Self
@@ -39,7 +39,7 @@ impl<'r, R: Wait + Clock> Sleep<'r, R> {
     {
         Sleep {
             rt,
-            bell,
+            pace,
             pager,
             terminal: seat.terminal(),
             present,
@@ -53,7 +53,7 @@ impl<'r, R: Wait + Clock> Rest for Sleep<'r, R> {
 
     fn asked(&mut self, _seat: Snapshot<Seat>) {
         let paged = self.pager.asked();
-        self.bell.ring(paged, &mut self.rung);
+        self.pace.ring(paged, &mut self.rung);
     }
 
     fn heard(&self, reply: &Reply) {

@@ -9,9 +9,9 @@ use crate::attending::Attendance;
 use crate::connections::Ticket;
 use crate::over::Over;
 use crate::prepared::ServingTerms;
+use crate::prepared::hall::Hall;
 use crate::prepared::shortages::{Shortage, read_ahead, share};
 use crate::serving::ServeFault;
-use crate::shared::Shared;
 use crate::speaking::speak;
 use lift_relay::BothRun;
 use lift_system::watch;
@@ -41,14 +41,9 @@ const SENT_AWAY: u64 = 2;
 /// the socket.
 #[derive(Drop)]
 pub struct Listening {
-    accepting: Accepting,
-    closer: ListeningCloser,
-}
-
-/// What connections are accepted by. Contracts see the socket.
-#[derive(Drop)]
-pub(crate) struct Accepting {
     listener: TcpListener,
+    /// A view of the socket, by which it is shut down, whoever waits for a connection there.
+    view: TcpStream,
 }
 
 impl Model for Listening {
@@ -56,15 +51,7 @@ impl Model for Listening {
 
     ghost Value = { Listener };
 
-    ghost view = { λ l. l.accepting };
-}
-
-impl Model for Accepting {
-    ghost use Rattle.std.specs.declared.net.tcp.TcpListener.{TcpListener as Listener};
-
-    ghost Value = { Listener };
-
-    ghost view = { λ a. a.listener };
+    ghost view = { λ l. l.listener };
 }
 
 impl Listening {
@@ -74,29 +61,9 @@ impl Listening {
     {
         let again = listener.try_clone()?;
         let view = TcpStream::from(OwnedFd::from(again));
-        Ok(Listening {
-            accepting: Accepting { listener },
-            closer: ListeningCloser { view },
-        })
+        Ok(Listening { listener, view })
     }
 
-    /// What connections are accepted by, and what shuts it down.
-    pub(crate) fn apart(self) -> (Accepting, ListeningCloser)
-        ensures { result.0 ≡ self }
-    {
-        let Listening { accepting, closer } = self;
-        (accepting, closer)
-    }
-}
-
-/// What shuts a listening socket down, whoever waits for a connection there.
-#[derive(Drop)]
-pub struct ListeningCloser {
-    /// A view of the socket.
-    view: TcpStream,
-}
-
-impl ListeningCloser {
     /// No more are accepted: all have ended that were to end, or all were given up.
     pub(crate) fn shut(&self, _over: &Over) {
         let _closed = self.view.shutdown(Shutdown::Both);
@@ -112,17 +79,29 @@ pub(crate) struct Arrival {
 impl Arrival {
     /// The next one at the socket of a serving that is bound so, both of whose parts have a thread.
     pub(crate) fn at(bound: &ServingTerms, _both: BothRun) -> io::Result<Arrival> {
-        let (stream, _address) = bound.accepting().listener.accept()?;
+        let (stream, _address) = bound.listening().listener.accept()?;
         Ok(Arrival { stream })
     }
 
-    /// Its socket, and what shuts that down: it is let in with this ticket.
-    pub(crate) fn open(self, alloc: Global, _ticket: &Ticket) -> Result<(Socket, Closer), Shortage>
+    /// It is let in with this ticket: a connection, and what shuts that down.
+    pub(crate) fn open(
+        self,
+        alloc: Global,
+        ticket: Ticket,
+    ) -> Result<(Connection, Closer), Shortage>
+        ensures opened { IfOk result (λ came. (came.0 ≡ ticket) × (came.1 ≡ ticket)) }
         ensures lack { IfErr result (λ shortage. shortage ≡ ServeFault.Memory) }
     {
         let Arrival { stream } = self;
         let (peer, theirs) = share(alloc, Peer::new(stream))?;
-        Ok((Socket { peer }, Closer { peer: theirs }))
+        let number = ticket.number();
+        Ok((
+            Connection { ticket, peer },
+            Closer {
+                number,
+                peer: theirs,
+            },
+        ))
     }
 
     /// It is closed, for no more are let in.
@@ -229,13 +208,29 @@ impl<'s, R: Clock> Read for PeerReader<'s, R> {
     }
 }
 
-/// What shuts a connection's socket down, whatever waits for it.
+/// What shuts an open connection's socket down, whatever waits for it. Contracts see the connection's number.
 #[derive(Drop)]
 pub(crate) struct Closer {
+    number: u64,
     peer: Arc<Peer>,
 }
 
+impl Model for Closer {
+    ghost use Rattle.std.specs.Prelude.{ℕ};
+
+    ghost Value = { ℕ };
+
+    ghost view = { λ c. c.number };
+}
+
 impl Closer {
+    /// The connection's number.
+    pub(crate) fn number(&self) -> u64
+        ensures { result ≡ self.now }
+    {
+        self.number
+    }
+
     /// Shuts it down, that way.
     pub(crate) fn shut(&self, how: Shutdown) {
         let _closed = self.peer.stream.shutdown(how);
@@ -257,28 +252,44 @@ impl Closer {
     }
 }
 
-/// A connection's socket, by which somebody is attended to once.
+/// A connection that was let in, by the ticket that it was let in with: by it somebody is attended to once.
+/// Contracts see its number.
 #[derive(Drop)]
-pub(crate) struct Socket {
+pub(crate) struct Connection {
+    ticket: Ticket,
     peer: Arc<Peer>,
 }
 
-impl Socket {
-    /// Whoever is there is attended to by this ticket, and then the socket is shut down.
+impl Model for Connection {
+    ghost use Rattle.std.specs.Prelude.{ℕ};
+
+    ghost Value = { ℕ };
+
+    ghost view = { λ c. c.ticket };
+}
+
+impl Connection {
+    /// Its number.
+    pub(crate) fn number(&self) -> u64
+        ensures { result ≡ self.now }
+    {
+        self.ticket.number()
+    }
+
+    /// Whoever is there is attended to by its own ticket, and then the socket is shut down.
     pub(crate) fn attended<'d, R: Wait + Clock>(
         self,
         rt: &R,
         alloc: Global,
-        shared: Shared<'_, 'd>,
-        ticket: Ticket,
+        hall: &Hall<'d, '_>,
     ) -> Result<Attendance<'d>, Shortage>
         ensures lack { IfErr result (λ shortage. shortage ≡ ServeFault.Memory) }
     {
-        let Socket { peer } = self;
+        let Connection { ticket, peer } = self;
         let stream = &peer.stream;
         let _quick = stream.set_nodelay(true);
         watch(stream);
-        let attended = speak_over(rt, alloc, shared, ticket, &peer);
+        let attended = speak_over(rt, alloc, hall, ticket, &peer);
         let _closed = stream.shutdown(Shutdown::Both);
         attended
     }
@@ -288,12 +299,12 @@ impl Socket {
 fn speak_over<'d, R: Wait + Clock>(
     rt: &R,
     alloc: Global,
-    shared: Shared<'_, 'd>,
+    hall: &Hall<'d, '_>,
     ticket: Ticket,
     peer: &Peer,
 ) -> Result<Attendance<'d>, Shortage>
     ensures lack { IfErr result (λ shortage. shortage ≡ ServeFault.Memory) }
 {
     let reader = read_ahead(alloc, PeerReader::new(rt, peer))?;
-    Ok(speak(rt, shared, ticket, reader, &peer.stream).0)
+    Ok(speak(rt, hall, ticket, reader, &peer.stream).0)
 }

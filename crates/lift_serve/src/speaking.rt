@@ -7,8 +7,8 @@ ghost use Rattle.lift_serve.specs.Connections.{Attends, new_sink, new_source};
 
 use crate::attending::{Attendance, attend};
 use crate::connections::Ticket;
+use crate::prepared::hall::Hall;
 use crate::reading::OpenReader;
-use crate::shared::Shared;
 use crate::waking::WakingWriter;
 use lift_base::text::{Counted, Watched};
 use std::io::{Read, Write};
@@ -19,7 +19,7 @@ use std::time::Clock;
 /// and writer come back as that left them.
 pub(crate) fn speak<'d, 's, R: Wait + Clock, I: Read + Drop, O: Write + Drop>(
     rt: &R,
-    shared: Shared<'s, 'd>,
+    hall: &'s Hall<'d, '_>,
     ticket: Ticket,
     reader: I,
     writer: O,
@@ -28,21 +28,21 @@ pub(crate) fn speak<'d, 's, R: Wait + Clock, I: Read + Drop, O: Write + Drop>(
     Counted<OpenReader<'s, I>>,
     Watched<WakingWriter<'s, O>>,
 )
-    ensures { Attends (length shared.entry.building.now.cars) (length shared.entry.building.now.kiosks) result.0
+    ensures { Attends (length hall.now.building.now.cars) (length hall.now.building.now.kiosks) result.0
         (new_source (I.remaining reader))
         (source_of (λ r. I.remaining r.reader) result.1)
         (new_sink (O.contents writer))
         (sink_of (λ w. O.contents w.writer) result.2) }
 {
-    let mut reader = Counted::new(OpenReader::new(reader, shared.bound.reading()));
-    let mut writer = Watched::new(WakingWriter::new(writer, shared.bells));
+    let mut reader = Counted::new(OpenReader::new(reader, &hall.bound));
+    let mut writer = Watched::new(WakingWriter::new(writer, &hall.pace));
     let attended = attend(
         rt,
-        shared.lobby,
+        hall.lobby(),
         ticket,
-        shared.bells.asks(),
-        shared.present,
-        shared.building,
+        &hall.pace,
+        hall.present,
+        hall.building,
         &mut reader,
         &mut writer,
     );

@@ -2,7 +2,7 @@
 
 ghost use Rattle.std.specs.Prelude.{◌≡◌};
 
-use crate::pace::Bells;
+use crate::pace::Pace;
 use std::io;
 use std::io::Write;
 
@@ -11,15 +11,15 @@ use std::io::Write;
 #[derive(Drop)]
 pub(crate) struct WakingWriter<'s, W: Write + Drop> {
     writer: W,
-    bells: &'s Bells<'s>,
+    pace: &'s Pace<'s>,
 }
 
 impl<'s, W: Write + Drop> WakingWriter<'s, W> {
     /// Over a connection's own writer.
-    pub(crate) fn new(writer: W, bells: &'s Bells<'s>) -> Self
+    pub(crate) fn new(writer: W, pace: &'s Pace<'s>) -> Self
         ensures { result.writer ≡ writer }
     {
-        WakingWriter { writer, bells }
+        WakingWriter { writer, pace }
     }
 }
 
@@ -28,7 +28,7 @@ impl<'s, W: Write + Drop> Write for WakingWriter<'s, W> {
 
     fn write(&mut self, buf: &[u8]) -> io::Result<usize> {
         let outcome = self.writer.write(buf);
-        self.bells.wake_one();
+        self.pace.wake_one();
         outcome
     }
 

@@ -6,15 +6,18 @@ ghost use Rattle.lift_register.specs.Register.{last_of as last_in};
 ghost use Rattle.lift_serve.specs.Lobby.{AreInOrder, found_seats, found_at};
 ghost use Rattle.lift_serve.specs.Visits.{AreAsFound, IsNewSeat, known_of, letter_in as letter_of};
 
-use crate::held::HeldSeat;
-use crate::lobby::Lobby;
+mod held;
+mod lobby;
+
 use crate::pace::Pager;
 use arrayvec::ArrayVec;
+pub use held::HeldSeat;
 use lift_base::{Content, Letter, MOST_TERMINALS, Number, Terminal};
 use lift_desk::{Desk, Seat};
 use lift_kiosk::LastLetter;
 use lift_memory::{Memory, with_room};
 use lift_register::Register;
+pub use lobby::{Lobby, NoSeat, SeatReturn, Vacancy};
 use std::alloc::Global;
 
 /// The letter that a kiosk's last call got.

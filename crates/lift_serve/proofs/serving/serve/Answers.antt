@@ -7,22 +7,26 @@ use Rattle.lift_serve.proofs.serving.serve.Goals as goal
 
 pub returns-clause-keeps : goal.returns-clause-keeps
 returns-clause-keeps g c =
-    let ran = c.run-ran in
-    serving_keeps _ g.D.Disk.state c.turns_keep_what_was_given.ensures c.begun-allocator.result.allocator ran.result.0.allocator c.args.group.flusher c.begun-allocator.result.flusher ran.result.0.flusher ran.ensures.ran.0
-    c.begun-allocator.ensures.flusher ran.ensures.ran.1
+    let ran = c.run_beside-ran in
+    let begun = c.begun-parts in
+    serving_keeps _ g.D.Disk.state c.turns_keep_what_was_given.ensures begun.result.0.allocator ran.result.0.allocator c.args.group.flusher begun.result.0.flusher ran.result.0.flusher ran.ensures.ran.0
+    begun.ensures.flusher ran.ensures.ran.1
 
 pub returns-clause-ran : goal.returns-clause-ran
 returns-clause-ran g c =
-    let ran = c.run-ran in
-    have_served (IsDispatched any_cars g.P.Policy.chooses) g.D.Disk.state c.args.group.allocator c.begun-allocator.result.allocator ran.result.0.allocator c.args.group.flusher c.begun-allocator.result.flusher ran.result.0.flusher
-    ran.ensures.ran.0 ran.result.1 _ _ c.begun-allocator.ensures.allocator c.begun-allocator.ensures.flusher ran.ensures.ran.1 ran.ensures.ran.2 c.into_end-end.ensures.fault
+    let ran = c.run_beside-ran in
+    let begun = c.begun-parts in
+    have_served (IsDispatched any_cars g.P.Policy.chooses) g.D.Disk.state c.args.group.allocator begun.result.0.allocator ran.result.0.allocator c.args.group.flusher begun.result.0.flusher ran.result.0.flusher
+    ran.ensures.ran.0 ran.result.1 _ _ begun.ensures.allocator begun.ensures.flusher ran.ensures.ran.1 ran.ensures.ran.2 c.into_end-end.ensures.fault.1
 
 pub returns-clause-heard : goal.returns-clause-heard
 returns-clause-heard g c =
-    let ran = c.run-ran in
-    subst (λ (f : FlusherState g.row.D.Denot). FailureHeard g.V.Witness.hears f.writer.is_broken ran.result.0.flusher.writer.is_broken c.args.witness ran.result.0.witness)
-    c.begun-allocator.ensures.flusher ran.ensures.heard
+    let ran = c.run_beside-ran in
+    let begun = c.begun-parts in
+    subst (λ (heard : FlusherState g.row.D.Denot × g.row.V.Denot). FailureHeard g.V.Witness.hears heard.0.writer.is_broken ran.result.0.flusher.writer.is_broken heard.1 ran.result.0.witness)
+    (λ i. (begun.ensures.flusher i, begun.ensures.witness i)) ran.ensures.heard
 
 pub returns-clause-reports : goal.returns-clause-reports
 returns-clause-reports g c =
-    report_of c.run-ran.result.1 _ c.args.group.bound c.begun-allocator.result.bound c.into_end-end.result c.begun-allocator.ensures.bound c.run-ran.ensures.over c.into_end-end.ensures.fault c.into_end-end.ensures.ended
+    let begun = c.begun-parts in
+    report_of c.run_beside-ran.result.1 _ c.args.group.bound begun.result.1.bound c.into_end-end.result begun.ensures.bound c.run_beside-ran.ensures.over c.into_end-end.ensures.fault.1 c.into_end-end.ensures.ended

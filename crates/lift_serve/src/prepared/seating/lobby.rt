@@ -4,8 +4,8 @@ ghost use Rattle.std.specs.Prelude.{◌≡◌, ◌≤◌, IfOk, IfErr, IfSome, I
 ghost use Rattle.std.specs.Prelude.{length, slice_get, slice_set};
 ghost use Rattle.lift_serve.specs.Lobby.{IsLobbyOf, IsSamePlace};
 
+use super::held::HeldSeat;
 use crate::connections::Ticket;
-use crate::held::HeldSeat;
 use arrayvec::ArrayVec;
 use lift_base::{MOST_TERMINALS, Terminal};
 use lift_desk::Desk;
@@ -101,7 +101,10 @@ impl<'d> Model for SeatReturn<'d> {
 
 impl<'d> Lobby<'d> {
     /// Of a desk, with these places of its terminals.
-    pub fn new(desk: &'d Desk, places: ArrayVec<Option<HeldSeat<'d>>, MOST_TERMINALS>) -> Self
+    pub(super) fn new(
+        desk: &'d Desk,
+        places: ArrayVec<Option<HeldSeat<'d>>, MOST_TERMINALS>,
+    ) -> Self
         requires { IsLobbyOf desk.now places.items }
         ensures { result ≡ record { desk = desk.now; places = places.entry.items } }
     {

@@ -2,7 +2,7 @@ use Rattle.std.proofs.Common.{subst, sym, ◌∙◌, Some}
 use Rattle.lift_desk.specs.lemmas.Places.{refill_set}
 use Rattle.lift_serve.specs.Lobby.{IsLobbyOf}
 use Rattle.lift_serve.proofs.Places.{own_place}
-use Rattle.lift_serve.proofs.lobby.Lobby.put_back.Goals as goal
+use Rattle.lift_serve.proofs.prepared.seating.lobby.Lobby.put_back.Goals as goal
 
 pub invariant_of-self : goal.invariant_of-self
 invariant_of-self c =

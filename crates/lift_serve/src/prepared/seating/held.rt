@@ -7,7 +7,7 @@ ghost use Rattle.lift_kiosk.specs.Lines.{source_of};
 ghost use Rattle.lift_kiosk.specs.Session.{standing};
 ghost use Rattle.lift_serve.specs.Visits.{IsNewSeat, IsVisit, Visits};
 
-use crate::pace::{AskBell, Pager};
+use crate::pace::{Pace, Pager};
 use crate::present::PresentCars;
 use crate::sleep::Sleep;
 use lift_base::Terminal;
@@ -75,7 +75,7 @@ impl<'d> Model for HeldSeat<'d> {
 
 impl<'d> HeldSeat<'d> {
     /// A new seat's, of which the recovery found this, with its terminal's pager.
-    pub fn new(desk: &'d Desk, pager: &'d Pager, seat: Seat, found: LastLetter) -> Self
+    pub(super) fn new(desk: &'d Desk, pager: &'d Pager, seat: Seat, found: LastLetter) -> Self
         requires seated { IsSeatOf desk.now seat }
         requires new { IsNewSeat seat }
         requires paged { pager.now ≡ seat.terminal }
@@ -102,7 +102,7 @@ impl<'d> HeldSeat<'d> {
     pub fn visit<R: Wait + Clock, I: Read + Drop, O: Write + Drop>(
         self,
         rt: &R,
-        bell: &AskBell,
+        pace: &Pace<'_>,
         present: &PresentCars,
         reader: &mut Counted<I>,
         writer: &mut Watched<O>,
@@ -119,7 +119,7 @@ impl<'d> HeldSeat<'d> {
             found,
         } = self;
         let terminal = seat.terminal();
-        let sleep = Sleep::new(&seat, rt, bell, pager, present);
+        let sleep = Sleep::new(&seat, rt, pace, pager, present);
         let mut port = DeskPort::new(desk, seat, sleep);
         let end = session_of(terminal, reader, writer, &mut port, &mut last);
         present.leave(terminal);

@@ -5,7 +5,7 @@ use Rattle.lift_kiosk.specs.Lines.{source_of}
 use Rattle.lift_serve.specs.HeldInside.{seen}
 use Rattle.lift_serve.specs.Visits.{HeldState, Visits}
 use Rattle.lift_serve.proofs.Sessions.{served_on, made_visit, still_seated, visit_of}
-use Rattle.lift_serve.proofs.held.HeldSeat.visit.Goals as goal
+use Rattle.lift_serve.proofs.prepared.seating.held.HeldSeat.visit.Goals as goal
 
 pub invariant_of-result : goal.invariant_of-result
 invariant_of-result g c =

@@ -2,7 +2,7 @@ use Rattle.std.proofs.Common.{◌≡◌, ◌≤◌, subst, sym, length, ◌∙�
 use Rattle.std.specs.Prelude.{slice_get}
 use Rattle.lift_serve.specs.Lobby.{IsLobbyOf, LobbyState, NoSeatState}
 use Rattle.lift_serve.proofs.Places.{no_such_place}
-use Rattle.lift_serve.proofs.lobby.Lobby.take.Goals as goal
+use Rattle.lift_serve.proofs.prepared.seating.lobby.Lobby.take.Goals as goal
 
 pub returns-in-None-clause-unknown : goal.returns-in-None-clause-unknown
 returns-in-None-clause-unknown c out =
