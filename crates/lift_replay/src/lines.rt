@@ -92,6 +92,8 @@ fn push_turn_of(report: &mut String, station: &mut Station) -> Result<(), NoMemo
 }
 
 /// Carries out a line. The answer is what ends the lines at this desk, if it does.
+// (inlined, so that a line needn't be stored, and then told by its kind once more)
+#[inline(always)]
 fn carry_out(
     report: &mut String,
     station: &mut Station,
