@@ -74,13 +74,13 @@ hears_none seats i k seat new word at inside is waits looked nothing finds =
 
 -- a terminal at its turn: those before it have heard, and those after it are as they were
 pub next_heard : (olds mids news : List TerminalSeat) (n : ℕ) (lines line : List ℕ) → n < length olds → length mids ≡ length olds
-    → news ≡ set mids n (seat_at news n) → AllHear (take n olds) (take n mids) lines → seat_at mids n ≡ seat_at olds n
-    → Hears (seat_at mids n) (seat_at news n) line → AllHear (take (n + 1) olds) (take (n + 1) news) (lines ++ line)
-next_heard olds mids news n lines line below long is before same hears =
+    → news ≡ set mids n (seat_at news n) → AllHear (take n olds) (take n mids) lines
+    → Hears (seat_at olds n) (seat_at news n) line → AllHear (take (n + 1) olds) (take (n + 1) news) (lines ++ line)
+next_heard olds mids news n lines line below long is before hears =
     let front : take n news ≡ take n mids = ap (take n) is ∙ take-set mids n (seat_at news n) in
     let count : length news ≡ length olds = ap length is ∙ length-set mids n (seat_at news n) ∙ long in
     let more : n + 1 ≡ suc n = omega arith in
-    rw more (one_more olds news n lines line below count (rw front before) (rw (sym same) hears))
+    rw more (one_more olds news n lines line below count (rw front before) hears)
 
 pub same_after : (olds mids news : List TerminalSeat) (n : ℕ) → news ≡ set mids n (seat_at news n) → ((i : ℕ) → n ≤ i → seat_at mids i ≡ seat_at olds i)
     → (i : ℕ) → n + 1 ≤ i → seat_at news i ≡ seat_at olds i

@@ -55,7 +55,8 @@ fn push_ask(
 {
     match station.terminals.ask(terminal, number, body) {
         Ok(()) => {
-            station.terminals.tell(&mut station.clerk, terminal.get());
+            let index = usize::from(terminal.get());
+            station.terminals.tell(&mut station.clerk, index);
             Ok(())
         }
         Err(AskRefusal::Waiting) => push_waiting(report, terminal, number),
@@ -87,11 +88,12 @@ fn push_turn_of(report: &mut String, station: &mut Station) -> Result<(), NoMemo
     ensures building { station.new.building ≡ station.old.building }
 {
     push_taken(report, &mut station.clerk)?;
-    station.terminals.tell_all(&mut station.clerk);
-    station.terminals.push_all_heard(report)
+    station.terminals.push_all_told(report, &mut station.clerk)
 }
 
 /// Carries out a line. The answer is what ends the lines at this desk, if it does.
+// (inlined, so that a line needn't be stored, and then told by its kind once more)
+#[inline(always)]
 fn carry_out(
     report: &mut String,
     station: &mut Station,

@@ -3,7 +3,8 @@
 ghost use Rattle.std.specs.Prelude.{◌≡◌, ◌<◌, ◌++◌, ◌↔◌, List, ℕ, length, slice_set, string_bytes};
 ghost use Rattle.std.specs.Prelude.{OnOk, OnErr};
 ghost use Rattle.lift_desk.specs.Rule.{IsInOrder};
-ghost use Rattle.lift_desk.specs.Seats.{AreSeatsOf, IsClerkOf, Waits, seats_from, view_at};
+ghost use Rattle.lift_desk.specs.Seats.{AreSeatsOf, IsClerkOf, TerminalSeat, Waits, seats_from};
+ghost use Rattle.lift_desk.specs.Seats.{view_at};
 ghost use Rattle.lift_desk.specs.Spelled.{IsAsk};
 ghost use Rattle.lift_desk.specs.Steps.{lists_of};
 ghost use Rattle.lift_clerk.specs.Clerk.{IsToldAt};
@@ -60,7 +61,7 @@ impl<'d> Terminals<'d> {
     /// Tells the clerk what a terminal has asked so far, and the terminal what was answered there
     /// so far.
     #[inline(always)]
-    pub fn tell(&mut self, clerk: &mut Clerk<'_, '_, FuseDisk, Etd>, index: u8)
+    pub fn tell(&mut self, clerk: &mut Clerk<'_, '_, FuseDisk, Etd>, index: usize)
         requires desk { clerk.old.desk ≡ self.old.desk.now }
         requires inside { index < length self.old.seats.items }
         ensures seats { self.new.seats.items
@@ -72,26 +73,12 @@ impl<'d> Terminals<'d> {
             (lists_of (seat_at self.old.seats.items index).view (view_at clerk.old.seat index)) }
         ensures desk { self.new.desk ≡ self.old.desk }
     {
-        clerk.tell(&mut self.seats[usize::from(index)]);
-    }
-
-    /// Tells the clerk what each terminal has asked so far, and each terminal what was answered
-    /// there so far.
-    pub fn tell_all(&mut self, clerk: &mut Clerk<'_, '_, FuseDisk, Etd>)
-        requires desk { clerk.old.desk ≡ self.old.desk.now }
-        requires places { length clerk.old.seat ≡ length self.old.seats.items }
-        ensures told { AreTold self.old.seats.items self.new.seats.items clerk.old.seat
-            clerk.new.seat }
-        ensures rest { clerk.new ≡ record clerk.old { seat = clerk.new.seat } }
-        ensures desk { self.new.desk ≡ self.old.desk }
-    {
-        for index in 0..self.desk.len() {
-            self.tell(clerk, index as u8);
-        }
+        clerk.tell(&mut self.seats[index]);
     }
 
     /// A terminal that waits looks for its answer, and the report shows what it hears.
-    fn push_heard_at(&mut self, report: &mut String, index: u8) -> Result<(), NoMemory>
+    #[inline(always)]
+    fn push_heard_at(&mut self, report: &mut String, index: usize) -> Result<(), NoMemory>
         requires { index < length self.old.seats.items }
         ensures hears { OnOk result ((line : List ℕ)
             × Hears (seat_at self.old.seats.items index) (seat_at self.new.seats.items index) line
@@ -100,7 +87,7 @@ impl<'d> Terminals<'d> {
             ≡ slice_set self.old.seats.items index (seat_at self.new.seats.items index) }
         ensures desk { self.new.desk ≡ self.old.desk }
     {
-        let seat = &mut self.seats[usize::from(index)];
+        let seat = &mut self.seats[index];
         let Some(number) = seat.pending() else {
             return Ok(());
         };
@@ -108,6 +95,30 @@ impl<'d> Terminals<'d> {
             return Ok(());
         };
         push_heard(report, seat.terminal(), number, reply)
+    }
+
+    /// The clerk is told what each terminal has asked so far, and each terminal what was answered
+    /// there so far. By rising terminal those that wait look for it, and the report shows what each
+    /// hears.
+    pub fn push_all_told(
+        &mut self,
+        report: &mut String,
+        clerk: &mut Clerk<'_, '_, FuseDisk, Etd>,
+    ) -> Result<(), NoMemory>
+        requires desk { clerk.old.desk ≡ self.old.desk.now }
+        requires places { length clerk.old.seat ≡ length self.old.seats.items }
+        ensures hears { OnOk result ((told : List TerminalSeat) × (lines : List ℕ)
+            × AreTold self.old.seats.items told clerk.old.seat clerk.new.seat
+            × AllHear told self.new.seats.items lines
+            × (string_bytes report.new ≡ string_bytes report.old ++ lines)) }
+        ensures rest { clerk.new ≡ record clerk.old { seat = clerk.new.seat } }
+        ensures desk { self.new.desk ≡ self.old.desk }
+    {
+        for terminal in 0..self.desk.len() {
+            self.tell(clerk, terminal);
+            self.push_heard_at(report, terminal)?;
+        }
+        Ok(())
     }
 
     /// All terminals that wait for an answer look for it, by rising terminal, and the report shows
@@ -120,7 +131,7 @@ impl<'d> Terminals<'d> {
         ensures count { length self.new.seats.items ≡ length self.old.seats.items }
     {
         for index in 0..self.desk.len() {
-            self.push_heard_at(report, index as u8)?;
+            self.push_heard_at(report, index)?;
         }
         Ok(())
     }

@@ -1,4 +1,4 @@
-use Rattle.std.proofs.Common.{[], sym, inr, refl, string_bytes}
+use Rattle.std.proofs.Common.{rules, [], sym, inr, refl, string_bytes}
 use Rattle.std.proofs.lemmas.List.{append-nil}
 use Rattle.lift_desk.specs.Seats.{Waits}
 use Rattle.lift_replay.specs.Terminals.{seat_at}
@@ -12,8 +12,8 @@ returns-in-Ok-clause-asks c =
       inr (inr (
         free,
         (λ spent. let err = c.ask.ensures.spent.1 (free, spent) in let ok = c.in-Ok.is in cc),
-        has_asked c.args.station.now.terminals.seats.items c.ask.new.self.seats.items c.tell.new.self.seats.items c.args.station.now.clerk c.tell.new.clerk c.args.terminal c.get.result c.args.number c.args.body
-            c.get.ensures.value c.in-Ok.ensures.asked c.in-Ok.ensures.in_range c.tell.ensures.seats c.tell.ensures.told,
+        has_asked c.args.station.now.terminals.seats.items c.ask.new.self.seats.items c.tell.new.self.seats.items c.args.station.now.clerk c.tell.new.clerk c.args.terminal c.from-index.result c.args.number c.args.body
+            (search rules) c.in-Ok.ensures.asked c.in-Ok.ensures.in_range c.tell.ensures.seats c.tell.ensures.told,
         refl,
       )),
       sym (append-nil (string_bytes c.args.report.now)),

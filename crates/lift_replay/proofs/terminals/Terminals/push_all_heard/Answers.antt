@@ -1,5 +1,6 @@
-use Rattle.std.proofs.Common.{[], ◌++◌, length, ap, sym, refl, ◌∙◌, arith}
+use Rattle.std.proofs.Common.{[], ◌++◌, length, ap, subst, sym, refl, ◌∙◌, arith}
 use Rattle.std.proofs.lemmas.List.{append-nil, append_assoc, length-set}
+use Rattle.lift_replay.specs.Terminals.{Hears, seat_at}
 use Rattle.lift_replay.proofs.Hearing.{all_heard, next_heard, same_after}
 use Rattle.lift_replay.proofs.terminals.Terminals.push_all_heard.Goals as goal
 
@@ -27,7 +28,8 @@ loop-index-preserved c =
       count = ap length told.others ∙ length-set mids n _ ∙ inv.count;
       heard = (
         inv.heard.0 ++ told.hears.0,
-        next_heard olds mids news n inv.heard.0 told.hears.0 (omega (arith, c.loop-index-test.true)) inv.count told.others inv.heard.1 (inv.rest n (omega arith)) told.hears.1,
+        next_heard olds mids news n inv.heard.0 told.hears.0 (omega (arith, c.loop-index-test.true)) inv.count told.others inv.heard.1
+            (subst (λ s. Hears s (seat_at news n) told.hears.0) (inv.rest n (omega arith)) told.hears.1),
         told.hears.2 ∙ ap (λ l. l ++ told.hears.0) inv.heard.2 ∙ append_assoc _ inv.heard.0 told.hears.0,
       );
       rest = same_after olds mids news n told.others inv.rest;
