@@ -1,6 +1,6 @@
 -- What words come to.
-use Rattle.std.proofs.Common.{◌≡◌, ◌∙◌, ℕ, Bool, Option, List, Some, sym, subst, ap}
-use Rattle.std.specs.Prelude.{Result, Ok, Err, IfErr, IfOk}
+use Rattle.std.proofs.Common.{◌≡◌, ◌≢◌, ℕ, Bor, Option, List, sym, subst}
+use Rattle.std.specs.Prelude.{Result, Ok, Err, IfErr, IfOk, OnErr}
 use Rattle.std.specs.declared.net.tcp.TcpListener.{TcpListener as Listener}
 use Rattle.clap.specs.Words.{Text}
 use Rattle.lift_base.specs.Input.{InputState}
@@ -11,29 +11,24 @@ use Rattle.lift_journal.specs.lemmas.Chains.{all_same}
 use Rattle.lift_clerk.specs.Keeping.{KeepsPrefix}
 use Rattle.lift_policy.specs.declared.dispatching.Dispatching.{Dispatching}
 use Rattle.lift_policy.specs.declared.policies.Shipped.{Shipped}
-use Rattle.lift_replay.specs.Replaying.{ReportsPrefix}
-use Rattle.lift_replay.specs.declared.lines.Verdict.{Verdict}
 use Rattle.lift_parts.specs.Allocator.{AllocatorState}
 use Rattle.lift_parts.specs.Flusher.{FlusherState}
 use Rattle.lift_serve.specs.Open.{EndedState}
 use Rattle.lift_serve.specs.lemmas.Opened.{keeps_over}
-use Rattle.lift_program.proofs.Flushing.{building_no_output, image_no_output}
-use Rattle.lift_program.proofs.Stages.{fault_there}
-use Rattle.lift_program.proofs.Writing.{report_front}
-use Rattle.lift_program.specs.Ends.{EndOver, IsEndFor, IsEndOf, IsInputLeft, IsOutputOf, IsPassedOn, IsReportOfEnd, IsServeEnd, IsUnmade, KeepsFor, KeepsIfServed, LeavesFor, ReportsAll, WritesFor, failed_for, fault_of}
-use Rattle.lift_program.specs.Output.{IsFlushed, WriterHasFailed}
-use Rattle.lift_program.specs.Serving.{HasLeftLetters, IsReadyOver, IsServedOver, file_found}
-use Rattle.lift_program.specs.Stages.{IsLeftAs, fault_in}
+use Rattle.lift_program.specs.Ends.{EndOver, IsEndFor, IsEndOf, IsInputLeft, IsMadeWith, IsOutputOf, IsUnmade, KeepsFor, KeepsIfServed}
+use Rattle.lift_program.specs.Serving.{HasLeftLetters, IsReadyOver, IsServedOver}
+use Rattle.lift_program.specs.Showing.{IsShown, ShowsPart}
+use Rattle.lift_program.specs.Stages.{IsLeftAs, IsShowingFailure, fault_in}
 use Rattle.lift_program.specs.declared.fault.Fault.{Fault}
+use Rattle.lift_program.specs.declared.fault.Fault.TheVariants.{Network}
 use Rattle.lift_program.specs.declared.leftover.Failure.{Failure}
 use Rattle.lift_program.specs.declared.leftover.Failure.TheVariants.{NoBuilding, NoImage, Opened}
 use Rattle.lift_program.specs.declared.serve.Serving.{Serving}
 use Rattle.lift_program.specs.declared.words.Request.TheVariants.{Replay, Format, Show, Serve}
 use Rattle.lift_program.specs.Images.{CommandFiles}
 use Rattle.lift_program.specs.Words.{AskForRequest}
+use Rattle.lift_program.specs.declared.end.End.{End}
 use Rattle.lift_program.specs.declared.end.End.TheVariants.{Replayed, Formatted, Shown, Served, OtherWords, NoWords}
-use Rattle.lift_program.specs.declared.fault.Fault.TheVariants.{File}
-use Rattle.lift_program.specs.declared.fault.Role.TheVariants.{Output}
 use Rattle.lift_program.specs.declared.words.Request.{Request}
 
 -- an end of what the words ask for
@@ -50,139 +45,93 @@ module _ (files : CommandFiles) (gives : ℕ → Option Listener → Type 0) (be
   no_words_for (Show image building) no_memory unused is = is
   no_words_for (Serve image building port sessions policy) no_memory unused is = is
 
-  pub asked_end : (input : Option (List ℕ)) (words : List Text) (end : EndOver files) (request : Request) → AskForRequest words request → IsEndFor files gives request before after end
-      → WritesFor files input request before after → IsEndOf files gives input words before after end
-  asked_end input words (Replayed outcome unused) request asks is writes = (request, asks, is, writes)
-  asked_end input words (Formatted outcome) request asks is writes = (request, asks, is, writes)
-  asked_end input words (Shown outcome) request asks is writes = (request, asks, is, writes)
-  asked_end input words (Served outcome) request asks is writes = (request, asks, is, writes)
-  asked_end input words (OtherWords unused) request asks is writes = absurd (no_other_for request unused is)
-  asked_end input words (NoWords no_memory unused) request asks is writes = absurd (no_words_for request no_memory unused is)
+  pub asked_end : (words : List Text) (end : EndOver files) (request : Request) → AskForRequest words request → IsEndFor files gives request before after end → IsEndOf files gives words before after end
+  asked_end words (Replayed outcome unused) request asks is = (request, asks, is)
+  asked_end words (Formatted outcome) request asks is = (request, asks, is)
+  asked_end words (Shown outcome) request asks is = (request, asks, is)
+  asked_end words (Served outcome) request asks is = (request, asks, is)
+  asked_end words (OtherWords unused) request asks is = absurd (no_other_for request unused is)
+  asked_end words (NoWords no_memory unused) request asks is = absurd (no_words_for request no_memory unused is)
 
-  -- so it is of whatever a request comes to, over a reader of this input
-  pub asked_ended : {T R : Type 0} (remaining : R → Option (List ℕ)) (reader read : R) (words : List Text) (request : Request) (result : Result T (EndOver files)) → reader ≡ read → AskForRequest words request
-      → IfErr result (IsEndFor files gives request before after) → WritesFor files (remaining reader) request before after → IfErr result (IsEndOf files gives (remaining read) words before after)
-  asked_ended remaining reader read words request (Ok ready) same asks is writes = tt
-  asked_ended {T} {R} remaining reader read words request (Err end) same asks is writes =
-      asked_end (remaining read) words end request asks is (subst (λ (r : R). WritesFor files (remaining r) request before after) same writes)
+  -- so it is of whatever a request comes to
+  pub asked_ended : {T : Type 0} (words : List Text) (request : Request) (result : Result T (EndOver files)) → AskForRequest words request
+      → IfErr result (IsEndFor files gives request before after) → IfErr result (IsEndOf files gives words before after)
+  asked_ended words request (Ok ready) asks is = tt
+  asked_ended words request (Err end) asks is = asked_end words end request asks is
 
--- and so it was written
-pub asked_output : {T R W : Type 0} (files : CommandFiles) (gives : ℕ → Option Listener → Type 0) (contents : W → Option (List ℕ)) (takes : W → List ℕ → Option ℕ → W → Type 0) (flushes : W → Bool → W → Type 0) (remaining : R → Option (List ℕ)) (reader read : R) (words : List Text) (request : Request)
-    (result : Result T (EndOver files)) (old new : W) → reader ≡ read → IfErr result (IsEndFor files gives request (contents old) (contents new)) → IfErr result (λ end. IsReportOfEnd (remaining reader) end (contents old) (contents new))
-    → IfErr result (λ end. failed_for end ≡ Some (File Output) → WriterHasFailed takes flushes old new) → IfErr result (λ end. IsPassedOn end (IsFlushed takes flushes old new))
-    → IfErr result (λ end. IsOutputOf contents takes flushes (remaining read) words files.image.opener end old new)
-asked_output files gives contents takes flushes remaining reader read words request (Ok ready) old new same is report unwritten passed_on = tt
-asked_output {T} {R} files gives contents takes flushes remaining reader read words request (Err end) old new same is report unwritten passed_on = record {
-  report = subst (λ (r : R). IsReportOfEnd (remaining r) end (contents old) (contents new)) same report;
-  answered = λ other. absurd (no_other_for files gives (contents old) (contents new) request files.image.opener (subst (λ (e : EndOver files). IsEndFor files gives request (contents old) (contents new) e) other is));
-  unwritten = unwritten;
-  passed_on = passed_on;
-}
+-- and so it was written, over a reader of this input
+pub asked_output : {T M S V F O R : Type 0} (is_flushed has_failed : Type 0) (remaining : R → Option (List ℕ)) (reader read : R) (words : List Text) (result : Result T (End M S V F O)) (before after : Option (List ℕ)) → reader ≡ read
+    → IfErr result (λ end. (words : List Text) → IsOutputOf is_flushed has_failed (remaining reader) words end before after) → IfErr result (λ end. IsOutputOf is_flushed has_failed (remaining read) words end before after)
+asked_output is_flushed has_failed remaining reader read words (Ok ready) before after same written = tt
+asked_output {R = R} is_flushed has_failed remaining reader read words (Err end) before after same written =
+    subst (λ (r : R). IsOutputOf is_flushed has_failed (remaining r) words end before after) same (written words)
 
--- the input is left as the words ask
-pub asked_left : {T R : Type 0} (files : CommandFiles) (remaining : R → Option (List ℕ)) (words : List Text) (request : Request) (result : Result T (EndOver files)) (old new : InputState R) → AskForRequest words request
-    → IsInputLeft remaining (request ≡ Replay) files.image.opener result old new
-    → IsInputLeft remaining (AskForRequest words Replay) files.image.opener result old new
-asked_left files remaining words request result old new asks left = record {
-  unasked = λ none. left.unasked (λ same. none (subst (AskForRequest words) same asks));
-  unwaiting = left.unwaiting;
-  good = left.good;
-  unread = left.unread;
-  read = left.read;
-  few_calls = left.few_calls;
-}
+-- so the input is left as a request has left it
+pub asked_left : {T M S V F O R : Type 0} (remaining : R → Option (List ℕ)) (result : Result T (End M S V F O)) (given old new left : InputState R) → given ≡ old → left ≡ new
+    → IfErr result (λ end. IsInputLeft remaining end given new) → IfErr result (λ end. IsInputLeft remaining end old left)
+asked_left {R = R} remaining result given old new left from same is =
+    subst (λ (i : InputState R). IfErr result (λ end. IsInputLeft remaining end i left)) from (subst (λ (i : InputState R). IfErr result (λ end. IsInputLeft remaining end given i)) (sym same) is)
 
--- what was written of a script is a prefix of its report
-pub replayed_front : (input before after : Option (List ℕ)) (outcome : Result Verdict Fault) → ReportsAll input before after outcome → ReportsPrefix input before after
-replayed_front input before after (Ok verdict) reports = report_front input before after verdict reports
-replayed_front input before after (Err fault) reports = reports
+-- what came of a journal that was to be made,
+pub formatted_end : (files : CommandFiles) (gives : ℕ → Option Listener → Type 0) (before after : Option (List ℕ)) (image building : Bor Text) (half : ℕ) (outcome : Result files.image.Made (Failure files.image.Made files.image.File files.image.Opener))
+    → IfOk outcome (IsMadeWith files image.now building.now half) → IfErr outcome (IsUnmade files image.now building.now half) → IsEndFor files gives (Format image building half) before after (Formatted outcome)
+formatted_end files gives before after image building half (Ok left) made failure = made
+formatted_end files gives before after image building half (Err unmade) made failure = failure
 
--- what a command over an image has failed for
-pub image_failed : {T D F O : Type 0} (P : Type 0) (wanted : Fault) (outcome : Result T (Failure D F O)) → IfErr outcome (λ failure. fault_in failure ≡ wanted → P) → fault_of outcome ≡ Some wanted → P
-image_failed P wanted (Ok done) holds is = absurd (let other = is in cc)
-image_failed P wanted (Err failure) holds is = holds (ap fault_there is)
-
--- which is never the standard output where a journal was to be made
-pub unmade_no_output : (files : CommandFiles) (image building : List ℕ) (half : ℕ) (P : Type 0) (outcome : Result files.image.Made (Failure files.image.Made files.image.File files.image.Opener)) → IfErr outcome (IsUnmade files image building half)
-    → fault_of outcome ≡ Some (File Output) → P
-unmade_no_output files image building half P (Ok left) is same = absurd (let other = same in cc)
-unmade_no_output files image building half P (Err (NoBuilding fault unused)) is same = absurd (building_no_output _ _ fault is.0 (ap fault_there same))
-unmade_no_output files image building half P (Err (NoImage refused)) is same = absurd (image_no_output refused.fault is.no_image.is_fault (ap fault_there same))
-unmade_no_output files image building half P (Err (Opened fault left)) is same = absurd (let other = sym is.is_fault ∙ ap fault_there same in cc)
+-- and of one that was to be shown
+pub shown_end : (files : CommandFiles) (gives : ℕ → Option Listener → Type 0) (before after : Option (List ℕ)) (image building : Bor Text) (outcome : Result files.image.Shown (Failure files.image.Shown files.image.File files.image.Opener))
+    → IfOk outcome (λ disk. IsShown files image.now building.now disk before after) → IfErr outcome (IsShowingFailure files image.now building.now) → IfErr outcome (λ failure. fault_in failure ≢ Network)
+    → OnErr outcome (ShowsPart files image.now building.now before after) → IsEndFor files gives (Show image building) before after (Shown outcome)
+shown_end files gives before after image building (Ok left) shown failure portless front = shown
+shown_end files gives before after image building (Err unshown) shown failure portless front = (failure, portless, front)
 
 -- what was ready was served
-pub served_end : (files : CommandFiles) (gives : ℕ → Option Listener → Type 0) (before after : Option (List ℕ)) (image building : List ℕ) (port sessions : ℕ) (policy : Dispatching Shipped)
+pub served_end : (files : CommandFiles) (gives : ℕ → Option Listener → Type 0) (before after : Option (List ℕ)) (image building : Bor Text) (port sessions : ℕ) (policy : Dispatching Shipped)
     (a : AllocatorState (Dispatching Shipped)) (f : FlusherState files.image.Served) (terms : EndedState) (serving : Serving files.image.Served)
-    → IsReadyOver files (gives port) image building policy sessions a f terms → serving.port ≡ port → IsServedOver files.image.served_state a f terms serving
-    → IsServeEnd files (gives port) image building port sessions policy before after (Ok serving)
-served_end files gives before after image building port sessions policy a f terms serving ready at served = record {
-  port_is = at;
-  serving = record {
+    → IsReadyOver files (gives port) image.now building.now policy sessions a f terms → serving.port ≡ port → IsServedOver files.image.served_state a f terms serving
+    → IsEndFor files gives (Serve image building port sessions policy) before after (Served (Ok serving))
+served_end files gives before after image building port sessions policy a f terms serving ready at served = (
+  at,
+  record {
     a = a;
     f = f;
     terms = terms;
     ready = ready;
     served = served;
-    keeps = λ honest base accepted given found.
-        let stays = files.image.stays image ready.has.opened ready.has.fresh honest in
-        keeps_over files.image.served_state files.image.held ready.plan ready.has.opened ready.keeper ready.has.recovers ready.has.starts ready.has.whole ready.has.no_doubt ready.has.own (file_found ready) honest stays.0 stays.1 base accepted given found
+    keeps = λ honest base accepted given holds.
+        let from = ready.from in
+        let is = ready.is_kept in
+        let stays = files.image.stays image.now from.opened from.fresh honest in
+        keeps_over files.image.served_state files.image.held from.plan from.opened ready.keeper is.recovers is.starts is.whole is.no_doubt is.own (files.image.found image.now from.opened from.fresh) honest stays.0 stays.1 base accepted given holds
         policy a f served.g ready.group served.keeps;
-  };
-  failure = tt;
-  refused = tt;
-  quiet = tt;
-}
+  },
+)
 
 -- words ask for what their request is
 pub asked_of : {T U : Type 0} (words : List Text) (request : Request) (result : Result T U) (of : T → Request) → AskForRequest words request → IfOk result (λ t. request ≡ of t) → IfOk result (λ t. AskForRequest words (of t))
 asked_of words request (Ok t) of asks same = subst (AskForRequest words) same asks
 asked_of words request (Err end) of asks same = tt
 
--- a group that was served has kept every letter
-served_keeps : (files : CommandFiles) (gives : ℕ → Option Listener → Type 0) (before after : Option (List ℕ)) (request : Request) (serving : Serving files.image.Served) → IsEndFor files gives request before after (Served (Ok serving)) → KeepsFor files request serving
-served_keeps files gives before after Replay serving never = absurd never
-served_keeps files gives before after (Format image building half) serving never = absurd never
-served_keeps files gives before after (Show image building) serving never = absurd never
-served_keeps files gives before after (Serve image building port sessions policy) serving is =
-    let s = is.serving in
-    record {
-      plan = s.ready.plan;
-      described = s.ready.described;
-      keeper = s.ready.keeper;
-      has = s.ready.has;
-      a = s.a;
-      b = s.served.b;
-      f = s.f;
-      g = s.served.g;
-      group = s.ready.group;
-      ran = s.served.ran;
-      is_left = s.served.is_left;
-      keeps = s.keeps;
-    }
-
--- and one that wasn't has left them
-left_letters : (files : CommandFiles) (image building : List ℕ) (fault : Fault) (left : files.image.Served) → IsLeftAs (files.is_text building) (files.image.is_to_be_served image) files.image.served_state fault left → HasLeftLetters files image building left
+-- a group that wasn't served has left its letters
+left_letters : (files : CommandFiles) (image building : List ℕ) (fault : Fault) (left : files.image.Served) → IsLeftAs files building (files.image.is_to_be_served image) files.image.served_state fault left → HasLeftLetters files image building fault left
 left_letters files image building fault left is =
-    let file = files.image.found image is.opened is.fresh in
-    let old = files.image.held file in
-    let opened = files.image.served_state is.opened in
+    let from = is.from in
+    let old = files.image.held (files.image.found image from.opened from.fresh) in
+    let opened = files.image.served_state from.opened in
     let new = files.image.served_state left in
     let keeps : (honest : old.is_honest) (P : Image → Type 0) → LeavesNow old P → LeavesNow opened P =
-    λ honest P holds. same_leaves old opened P honest (files.image.stays image is.opened is.fresh honest).1 holds in
+    λ honest P holds. same_leaves old opened P honest (files.image.stays image from.opened from.fresh honest).1 holds in
     record {
-      plan = is.plan;
-      described = is.building;
-      opened = is.opened;
-      fresh = is.fresh;
+      is_left = is;
       cut = λ honest base accepted given holds after.
-          let P = KeepsPrefix files.image.Served is.plan base accepted given in
-          let stays = files.image.stays image is.opened is.fresh honest in
+          let P = KeepsPrefix files.image.Served from.plan base accepted given in
+          let stays = files.image.stays image from.opened from.fresh honest in
           starts_keep old new (files.image.held after) P honest
           (leaves_from old opened new P honest stays.0 stays.1
           (leaves_weaker opened new (MayLeave opened) P (λ was found may. keeps honest P holds was found may) is.moments));
       next = λ recovered honest base accepted given holds after.
-          let P = KeepsPrefix files.image.Served is.plan base accepted given in
-          let was = (files.image.stays image is.opened is.fresh honest).0 in
+          let P = KeepsPrefix files.image.Served from.plan base accepted given in
+          let was = (files.image.stays image from.opened from.fresh honest).0 in
           let reopens = recovered.4 in
           starts_keep_now new (files.image.held after) P (is.moments.honest.1 was)
           (λ same found may.
@@ -190,21 +139,22 @@ left_letters files image building fault left is =
           (keeps honest P holds was new.image (reopens.seen was)));
     }
 
-served_leaves : (files : CommandFiles) (gives : ℕ → Option Listener → Type 0) (before after : Option (List ℕ)) (request : Request) (failure : Failure files.image.Served files.image.File files.image.Opener)
-    → IsEndFor files gives request before after (Served (Err failure)) → LeavesFor files request failure
-served_leaves files gives before after Replay failure never = absurd never
-served_leaves files gives before after (Format image building half) failure never = absurd never
-served_leaves files gives before after (Show image building) failure never = absurd never
-served_leaves files gives before after (Serve image building port sessions policy) (NoBuilding fault unused) is = tt
-served_leaves files gives before after (Serve image building port sessions policy) (NoImage refused) is = tt
-served_leaves files gives before after (Serve image building port sessions policy) (Opened fault left) is =
-    left_letters files image.now building.now fault left is.failure
+-- and one that was has kept them
+kept_for : (files : CommandFiles) (gives : ℕ → Option Listener → Type 0) (before after : Option (List ℕ)) (request : Request) (outcome : Result (Serving files.image.Served) (Failure files.image.Served files.image.File files.image.Opener))
+    → IsEndFor files gives request before after (Served outcome) → KeepsFor files gives request outcome
+kept_for files gives before after Replay outcome never = absurd never
+kept_for files gives before after (Format image building half) outcome never = absurd never
+kept_for files gives before after (Show image building) outcome never = absurd never
+kept_for files gives before after (Serve image building port sessions policy) (Ok serving) is = is.1
+kept_for files gives before after (Serve image building port sessions policy) (Err (NoBuilding fault unused)) is = tt
+kept_for files gives before after (Serve image building port sessions policy) (Err (NoImage refused)) is = tt
+kept_for files gives before after (Serve image building port sessions policy) (Err (Opened fault left)) is =
+    left_letters files image.now building.now fault left is.0
 
-pub end_keeps : (files : CommandFiles) (gives : ℕ → Option Listener → Type 0) (input : Option (List ℕ)) (words : List Text) (before after : Option (List ℕ)) (end : EndOver files) → IsEndOf files gives input words before after end → KeepsIfServed files words end
-end_keeps files gives input words before after (Replayed outcome unused) is = tt
-end_keeps files gives input words before after (Formatted outcome) is = tt
-end_keeps files gives input words before after (Shown outcome) is = tt
-end_keeps files gives input words before after (Served (Ok serving)) (request, asks, is, writes) = (request, asks, served_keeps files gives before after request serving is)
-end_keeps files gives input words before after (Served (Err failure)) (request, asks, is, writes) = (request, asks, served_leaves files gives before after request failure is)
-end_keeps files gives input words before after (OtherWords unused) is = tt
-end_keeps files gives input words before after (NoWords no_memory unused) is = tt
+pub end_keeps : (files : CommandFiles) (gives : ℕ → Option Listener → Type 0) (words : List Text) (before after : Option (List ℕ)) (end : EndOver files) → IsEndOf files gives words before after end → KeepsIfServed files gives words end
+end_keeps files gives words before after (Replayed outcome unused) is = tt
+end_keeps files gives words before after (Formatted outcome) is = tt
+end_keeps files gives words before after (Shown outcome) is = tt
+end_keeps files gives words before after (Served outcome) (request, asks, is) = (request, asks, kept_for files gives before after request outcome is)
+end_keeps files gives words before after (OtherWords unused) is = tt
+end_keeps files gives words before after (NoWords no_memory unused) is = tt

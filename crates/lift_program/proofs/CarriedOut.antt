@@ -1,25 +1,22 @@
 -- What a script came to, of every reader and writer.
-use Rattle.std.proofs.Common.{◌≡◌, ◌≤◌, ℕ, Bool, true, false, List, [], Option, Some, sym, subst, ap, inl, inr, refl, arith}
+use Rattle.std.proofs.Common.{◌≡◌, ℕ, Bool, true, false, List, [], Option, Some, sym, subst, ap, inl, inr, refl}
 use Rattle.std.proofs.lemmas.List.{append-nil}
 use Rattle.std.proofs.KnownBytes.{Appends-kept}
 use Rattle.std.specs.Io.KnownBytes.{Appends, Keeps}
-use Rattle.std.specs.Prelude.{Result, Ok, Err}
+use Rattle.std.specs.Prelude.{Err}
 use Rattle.lift_base.specs.Input.{InputState}
 use Rattle.lift_base.specs.Output.{OutputTally, flushed_by}
 use Rattle.lift_replay.specs.Replaying.{ReportsPrefixOfWhatCame, ReportsWhatCame}
 use Rattle.lift_replay.specs.Writing.{GoesInto, IsCalledTill, TakesSomeEachCall, gone_in}
 use Rattle.lift_replay.specs.declared.lines.Verdict.{Verdict}
-use Rattle.lift_replay.specs.declared.lines.Verdict.TheVariants.{Good}
 use Rattle.lift_replay.specs.declared.script.ReplayFault.{ReplayFault}
 use Rattle.lift_replay.specs.declared.script.ReplayFault.TheVariants.{Memory as NoMemory, Read, Write}
-use Rattle.lift_program.specs.Ends.{IsCalledFor, IsFileFault, IsInputLeft, IsInputLeftAt, IsScriptEnd, IsServingEnd, uncalled}
+use Rattle.lift_program.specs.Ends.{IsCalledFor, IsFileFault, IsInputLeft, IsScriptEnd, IsServingEnd}
 use Rattle.lift_program.specs.Faults.{of_replay}
 use Rattle.lift_program.specs.declared.end.End.{End}
 use Rattle.lift_program.specs.declared.end.End.TheVariants.{Replayed, Formatted, Shown, Served, OtherWords, NoWords}
 use Rattle.lift_program.specs.declared.fault.Fault.{Fault}
-use Rattle.lift_program.specs.declared.fault.Fault.TheVariants.{File}
-use Rattle.lift_program.specs.declared.fault.Role.TheVariants.{Input, Output}
-use Rattle.lift_program.proofs.Flushing.{err_same}
+use Rattle.lift_program.specs.declared.fault.Role.TheVariants.{Output}
 
 -- a flush adds nothing to what was taken
 pub gone_kept : {W : Type 0} (sent : W → OutputTally) (mid new : W) (done : Bool) → sent new ≡ flushed_by done (sent mid) → gone_in sent new ≡ gone_in sent mid
@@ -65,32 +62,11 @@ serving_no_script sent contents gives flushes came came' old new (Served outcome
 serving_no_script sent contents gives flushes came came' old new (OtherWords unused) is = tt
 serving_no_script sent contents gives flushes came came' old new (NoWords no_memory unused) is = tt
 
-not_replayed : {M S V F O : Type 0} (end : End M S V F O) (outcome : Result Verdict Fault) (unused : O) → IsServingEnd end → ◌≡◌ {A = Result (Unit {0}) (End M S V F O)} (Err end) (Err (Replayed outcome unused)) → ⊥
-not_replayed {M} {S} {V} {F} {O} end outcome unused is same = subst (λ (e : End M S V F O). IsServingEnd e) (err_same end (Replayed outcome unused) same) is
-
 -- and nothing was read for it
-pub serving_unread : {M S V F O R : Type 0} (remaining : R → Option (List ℕ)) (replays : Type 0) (unused : O) (reader : R) (left : InputState R) (end : End M S V F O) → IsServingEnd end → left ≡ uncalled reader
-    → IsInputLeftAt remaining replays unused end (uncalled reader) left
-serving_unread remaining replays unused reader left end is same = record {
-  unasked = λ none. same;
-  unwaiting = tt;
-  good = λ replayed. absurd (not_replayed end (Ok Good) unused is replayed);
-  unread = λ replayed. absurd (not_replayed end (Err (File Input)) unused is replayed);
-  read = λ replayed. absurd (not_replayed end (Err (File Output)) unused is replayed);
-  few_calls = subst (λ (n : ℕ). n ≤ 2097152) (sym (ap (λ (i : InputState _). i.calls) same)) (omega arith);
-}
-
--- an input is left at an end as it was left by what came to it
-pub left_at : {T M S V F O R : Type 0} (remaining : R → Option (List ℕ)) (replays : Type 0) (unused : O) (end : End M S V F O) (old new : InputState R) → IsInputLeft {T = T} remaining replays unused (Err end) old new
-    → IsInputLeftAt remaining replays unused end old new
-left_at {T} {M} {S} {V} {F} {O} remaining replays unused end old new left =
-    let so : (outcome : Result Verdict Fault) → ◌≡◌ {A = Result (Unit {0}) (End M S V F O)} (Err end) (Err (Replayed outcome unused)) → ◌≡◌ {A = Result T (End M S V F O)} (Err end) (Err (Replayed outcome unused)) =
-    λ outcome same. ap (λ (e : End M S V F O). Err e) (err_same end (Replayed outcome unused) same) in
-    record {
-      unasked = left.unasked;
-      unwaiting = tt;
-      good = λ same. left.good (so (Ok Good) same);
-      unread = λ same. left.unread (so (Err (File Input)) same);
-      read = λ same. left.read (so (Err (File Output)) same);
-      few_calls = left.few_calls;
-    }
+pub serving_unread : {M S V F O R : Type 0} (remaining : R → Option (List ℕ)) (old new : InputState R) (end : End M S V F O) → IsServingEnd end → new ≡ old → IsInputLeft remaining end old new
+serving_unread remaining old new (Replayed outcome unused) never same = absurd never
+serving_unread remaining old new (Formatted outcome) is same = same
+serving_unread remaining old new (Shown outcome) is same = same
+serving_unread remaining old new (Served outcome) is same = same
+serving_unread remaining old new (OtherWords unused) is same = same
+serving_unread remaining old new (NoWords no_memory unused) is same = same

@@ -1,7 +1,7 @@
 -- How the output was called.
 use Rattle.std.proofs.Common.{◌≡◌, ◌<◌, ◌∙◌, ℕ, Bool, true, false, List, Option, length, refl, subst, sym, inl, inr}
 use Rattle.std.proofs.lemmas.Bool.{false≢true}
-use Rattle.std.specs.Prelude.{Result, Ok, Err, IfErr, OnOk, is_err}
+use Rattle.std.specs.Prelude.{Result, Ok, Err, IfErr, OnErr, OnOk, is_err}
 use Rattle.lift_base.specs.Output.{WroteAll, WroteUpToFault}
 use Rattle.lift_base.specs.declared.text.output.WriteFault.{WriteFault}
 use Rattle.lift_replay.specs.Writing.{TakesSomeEachCall}
@@ -45,7 +45,7 @@ pub image_no_output : (fault : Fault) → IsFileFault OfImage fault → fault �
 image_no_output fault (inl is) same = absurd (let other = sym is ∙ same in cc)
 image_no_output fault (inr is) same = subst IsOfBuilding (sym is ∙ same) tt
 
-image_no_network : (fault : Fault) → IsFileFault OfImage fault → fault ≡ Network → ⊥
+pub image_no_network : (fault : Fault) → IsFileFault OfImage fault → fault ≡ Network → ⊥
 image_no_network fault (inl is) same = absurd (let other = sym is ∙ same in cc)
 image_no_network fault (inr is) same = subst IsOfBuilding (sym is ∙ same) tt
 
@@ -69,6 +69,11 @@ network_no_output fault is same = absurd (let other = sym is ∙ same in cc)
 -- want of memory isn't the standard output
 pub memory_no_output : (fault : Fault) → fault ≡ Memory tt → fault ≡ File Output → ⊥
 memory_no_output fault is same = absurd (let other = sym is ∙ same in cc)
+
+-- what holds anyhow
+pub on_err : {T E : Type 0} (result : Result T E) (P : Type 0) → P → OnErr result P
+on_err (Ok value) P p = tt
+on_err (Err error) P p = p
 
 pub err_same : {T E : Type 0} (told wanted : E) → ◌≡◌ {A = Result T E} (Err told) (Err wanted) → told ≡ wanted
 err_same {T} {E} told wanted same = subst (λ (r : Result T E). IfErr r (λ other. told ≡ other)) same refl

@@ -1,5 +1,5 @@
 -- What the faults of each stage are to a whole command.
-use Rattle.std.proofs.Common.{◌≡◌, ◌≢◌, ◌<◌, ◌≤◌, ◌+◌, ◌*◌, ℕ, List, [], Option, Some, None, length, false, refl, sym, ap, subst, ◌∙◌, inl, inr}
+use Rattle.std.proofs.Common.{◌≡◌, ◌≢◌, ◌<◌, ◌≤◌, ◌+◌, ◌*◌, ◌⊎◌, ℕ, List, [], Option, Some, length, false, refl, sym, ap, subst, ◌∙◌, inl, inr}
 use Rattle.std.specs.Prelude.{Result, Ok, Err, IfErr}
 use Rattle.std.specs.Str.{IsUtf8}
 use Rattle.lift_building.specs.Describes.{IsTextOf}
@@ -18,12 +18,12 @@ use Rattle.lift_policy.specs.declared.policies.Shipped.{Shipped}
 use Rattle.lift_serve.specs.Open.{EndedState}
 use Rattle.lift_serve.specs.Ready.{IsNewGroup}
 use Rattle.lift_serve.specs.lemmas.Made.{made_keeps}
-use Rattle.lift_journal.specs.declared.fault.JournalFault.TheVariants.{Disk, NotFormatted, Damaged, Full, Broken}
+use Rattle.lift_journal.specs.declared.fault.JournalFault.TheVariants.{Disk}
 use Rattle.lift_decider.specs.Decider.{starting}
 use Rattle.lift_keeper.specs.Keeper.{KeeperView}
 use Rattle.lift_keeper.specs.Reopening.{RefusesReopening, Reopens}
 use Rattle.lift_keeper.specs.declared.fault.KeeperFault.{KeeperFault}
-use Rattle.lift_keeper.specs.declared.fault.KeeperFault.TheVariants.{Journal as OfJournal, OtherBuilding, BadEntry}
+use Rattle.lift_keeper.specs.declared.fault.KeeperFault.TheVariants.{Journal as OfJournal}
 use Rattle.std.specs.declared.fs.options.OpenOptions.{OpenOptions}
 use Rattle.lift_disk.specs.FileCalls.{FileCall}
 use Rattle.lift_disk.specs.Files.{IsMeasured, sector_file_state_of}
@@ -35,12 +35,12 @@ use Rattle.lift_disk.specs.declared.file.FileFault.{FileFault}
 use Rattle.lift_disk.specs.declared.told.ToldFile.{Ghosts as Told}
 use Rattle.lift_disk.specs.declared.sectors.SectorFile.{SectorFile}
 use Rattle.lift_program.specs.Images.{CommandFiles, ImageFiles, IsOpened}
-use Rattle.lift_program.specs.Ends.{IsFileFault, IsMadeWith, IsUnformatted, IsReportOfFault, IsShowingFault}
+use Rattle.lift_program.specs.Ends.{IsFileFault, IsMadeWith, IsUnformatted, IsReportOfFailure, IsShowingFault}
 use Rattle.lift_program.specs.Faults.{of_building}
 use Rattle.std.specs.declared.net.tcp.TcpListener.{TcpListener as Listener}
 use Rattle.lift_program.specs.Serving.{IsReadyOver}
-use Rattle.lift_program.specs.Showing.{ShowsPrefix, ShowsPart}
-use Rattle.lift_program.specs.Stages.{HasBuilding, HasKeeperOf, HasNoImage, HasNoKeeperOf, HasRecovered, IsBuildingFault, IsImageFault, IsLeftAs, IsNoImage, IsOpeningFault, IsFailure, IsKeeperFailure, ReadsBuilding, GoesNoFurther, most_text}
+use Rattle.lift_program.specs.Showing.{ShowsRegister, ShowsPart, WritesFront}
+use Rattle.lift_program.specs.Stages.{HasBuilding, HasKeeperOf, HasNoImage, HasNoKeeperOf, HasRecovered, IsBuildingFault, IsImageFault, IsLeftAs, IsFailure, IsKeeperFailure, ReadsBuilding, GoesNoFurther, fault_in, most_text}
 use Rattle.lift_program.specs.declared.leftover.Failure.{Failure}
 use Rattle.lift_program.specs.declared.leftover.Failure.TheVariants.{NoBuilding, NoImage, Opened}
 use Rattle.lift_program.proofs.Writing.{part_shown}
@@ -75,7 +75,7 @@ pub has_keeper : (files : ImageFiles) (path : List ℕ) (plan : Plan) (opened : 
     → Reopens plan (files.served_state opened) (files.served_state keeper.writer.device) keeper.writer.register keeper.writer.half keeper.writer.is_in_second_half keeper.writer.used
     → keeper.state ≡ starting keeper.writer.register → keeper.writer.is_broken ≡ false → keeper.writer.doubt ≡ [] → keeper.writer.plan ≡ plan → HasKeeperOf files path plan told
 has_keeper files path plan opened keeper told same fresh recovers starts whole no_doubt own =
-    subst (λ (k : KeeperView files.Served). HasKeeperOf files path plan k) (sym same) (record { opened = opened; fresh = fresh; recovers = recovers; starts = starts; whole = whole; no_doubt = no_doubt; own = own })
+    subst (λ (k : KeeperView files.Served). HasKeeperOf files path plan k) (sym same) (record { opened = opened; fresh = fresh; is_kept = record { recovers = recovers; starts = starts; whole = whole; no_doubt = no_doubt; own = own } })
 
 pub has_no_keeper : {D : Type 0} (is_fresh : D → Type 0) (state : D → DiskState) (plan : Plan) (opened left told : D) (refusal : KeeperFault) → told ≡ left → is_fresh opened
     → RefusesReopening plan (state opened) (state left) refusal → HasNoKeeperOf D is_fresh state plan (Journal refusal) told
@@ -92,10 +92,7 @@ pub is_made : (files : CommandFiles) (path building : List ℕ) (plan : Plan) (h
     → IsMadeWith files path building half told
 is_made files path building plan half image left told same has sound fresh runs made size calls writes failures reads synced =
     subst (λ (d : files.image.Made). IsMadeWith files path building half d) (sym same) (record {
-      plan = plan;
-      described = has;
-      opened = image;
-      fresh = fresh;
+      from = record { plan = plan; described = has; opened = image; fresh = fresh };
       made = made;
       size = size;
       calls = calls;
@@ -111,7 +108,7 @@ pub is_unformatted : (files : CommandFiles) (path building : List ℕ) (plan : P
     → (files.image.made_state image).failures < (files.image.made_state left).failures → IsUnformatted files path building half fault told
 is_unformatted files path building plan half image left told fault same has fresh is stops runs failed =
     subst (λ (d : files.image.Made). IsUnformatted files path building half fault d) (sym same)
-    (record { plan = plan; described = has; opened = image; fresh = fresh; is_fault = is; front = stops; runs = runs; failed = failed })
+    (record { from = record { plan = plan; described = has; opened = image; fresh = fresh }; is_fault = is; front = stops; runs = runs; failed = failed })
 
 pub reads_building : (is_text : List ℕ → Type 0) (plan : Plan) → HasBuilding is_text plan → ReadsBuilding is_text
 reads_building is_text plan has = (plan, has)
@@ -120,12 +117,12 @@ reads_building is_text plan has = (plan, has)
 bytes_refuse : (is_text : List ℕ → Type 0) (is_no_text : Type 0) (bytes : List ℕ) (fault : Fault) → is_text bytes → (¬ IsUtf8 bytes → is_no_text) → IsBuildingFault (λ t. t ≡ bytes) (¬ IsUtf8 bytes) fault → IsBuildingFault is_text is_no_text fault
 bytes_refuse is_text is_no_text bytes (Building fault) read none is =
     record { text = bytes; read = read; short = subst (λ t. length t ≤ most_text) is.read is.short; first = subst (λ t. IsFirstFault t fault) is.read is.first }
-bytes_refuse is_text is_no_text bytes (Journal fault) read none is = absurd is
 bytes_refuse is_text is_no_text bytes (File OfBuilding) read none is = none is
+bytes_refuse is_text is_no_text bytes (Memory no_memory) read none is = tt
+bytes_refuse is_text is_no_text bytes (Journal fault) read none is = absurd is
 bytes_refuse is_text is_no_text bytes (File OfImage) read none is = absurd is
 bytes_refuse is_text is_no_text bytes (File Input) read none is = absurd is
 bytes_refuse is_text is_no_text bytes (File Output) read none is = absurd is
-bytes_refuse is_text is_no_text bytes (Memory no_memory) read none is = tt
 bytes_refuse is_text is_no_text bytes Network read none is = absurd is
 bytes_refuse is_text is_no_text bytes Thread read none is = absurd is
 
@@ -134,35 +131,19 @@ pub bytes_refused : {T : Type 0} (is_text : List ℕ → Type 0) (is_no_text : T
 bytes_refused is_text is_no_text bytes (Ok value) read none is = tt
 bytes_refused is_text is_no_text bytes (Err fault) read none is = bytes_refuse is_text is_no_text bytes fault read none is
 
-opening_fault : (plan : Plan) (old new : DiskState) (fault : KeeperFault) → RefusesReopening plan old new fault → IsOpeningFault fault
-opening_fault plan old new (OfJournal Disk) refuses = tt
-opening_fault plan old new (OfJournal NotFormatted) refuses = tt
-opening_fault plan old new (OfJournal (Damaged sector)) refuses = tt
-opening_fault plan old new (OfJournal Full) refuses = refuses.cause
-opening_fault plan old new (OfJournal Broken) refuses = refuses.cause
-opening_fault plan old new OtherBuilding refuses = tt
-opening_fault plan old new (BadEntry place) refuses = tt
-
 -- a file that is refused gives no image
 pub has_no_image : {F O : Type 0} (is_refused : FileFault F O → Type 0) (fault : Fault) (given cause : FileFault F O) → cause ≡ given → IsFileFault OfImage fault → IsImageFault given fault → is_refused given → HasNoImage is_refused fault cause
 has_no_image {F} {O} is_refused fault given cause same is told refused =
     subst (λ (c : FileFault F O). HasNoImage is_refused fault c) (sym same) (record { is_fault = is; told = told; refused = refused })
 
--- no image was had for a building that was read
-pub no_image : {F O : Type 0} (is_text : List ℕ → Type 0) (is_refused : FileFault F O → Type 0) (plan : Plan) (fault : Fault) (cause : FileFault F O) → HasBuilding is_text plan → HasNoImage is_refused fault cause
-    → IsNoImage is_text is_refused fault cause
-no_image is_text is_refused plan fault cause has unhad = record { building = (plan, has); no_image = unhad }
-
 -- all that a serving takes was had
 pub is_ready : (files : CommandFiles) (gives : Option Listener → Type 0) (image building : List ℕ) (plan standing : Plan) (keeper : KeeperView files.image.Served) (listener : Listener) (policy : Dispatching Shipped) (sessions : ℕ) (a : AllocatorState (Dispatching Shipped)) (f : FlusherState files.image.Served) (terms : EndedState)
-    → standing ≡ plan → HasBuilding (files.is_text building) plan → HasKeeperOf files.image image standing keeper → keeper.state.batch ≡ [] → gives (Some listener) → terms ≡ record { listener = listener; sessions = sessions }
+    → standing ≡ plan → HasBuilding (files.is_text building) plan → HasKeeperOf files.image image standing keeper → gives (Some listener) → terms ≡ record { listener = listener; sessions = sessions }
     → IsNewGroup files.image.served_state policy keeper a f → IsReadyOver files gives image building policy sessions a f terms
-is_ready files gives image building plan standing keeper listener policy sessions a f terms stands has kept empty_batch here bound group = record {
-  plan = standing;
-  described = subst (HasBuilding (files.is_text building)) (sym stands) has;
+is_ready files gives image building plan standing keeper listener policy sessions a f terms stands has kept here bound group = record {
+  from = record { plan = standing; described = subst (HasBuilding (files.is_text building)) (sym stands) has; opened = kept.opened; fresh = kept.fresh };
   keeper = keeper;
-  has = kept;
-  empty_batch = empty_batch;
+  is_kept = kept.is_kept;
   group = group;
   here = subst (λ (t : EndedState). gives (Some t.listener)) (sym bound) here;
   count = ap (λ (t : EndedState). t.sessions) bound;
@@ -181,121 +162,121 @@ pub stands_so : (is_text : List ℕ → Type 0) (plan standing : Plan) → stand
 stands_so is_text plan standing same has = subst (HasBuilding is_text) (sym same) has
 
 -- the recovery was refused, or no image could be opened
-pub keeper_failure : {D F O : Type 0} (is_text : List ℕ → Type 0) (is_no_text : Type 0) (opener : O) (is_fresh : D → Type 0) (state : D → DiskState) (is_refused : FileFault F O → Type 0) (plan : Plan) (failure : Failure D F O) → HasBuilding is_text plan
-    → IsKeeperFailure is_fresh state is_refused plan failure → IsFailure is_text is_no_text opener is_fresh state is_refused failure
-keeper_failure is_text is_no_text opener is_fresh state is_refused plan (NoBuilding fault unused) has never = absurd never
-keeper_failure is_text is_no_text opener is_fresh state is_refused plan (NoImage refused) has is = record { building = (plan, has); no_image = is }
-keeper_failure is_text is_no_text opener is_fresh state is_refused plan (Opened fault left) has is = record {
-  plan = plan;
-  building = has;
-  opened = is.opened;
-  fresh = is.fresh;
-  cause = subst (GoesNoFurther plan (state is.opened) (state left)) (sym is.is_refusal) (opening_fault plan _ _ is.refusal is.refused, is.refused);
+pub keeper_failure : {D : Type 0} (files : CommandFiles) (building : List ℕ) (is_fresh : D → Type 0) (state : D → DiskState) (is_refused : FileFault files.image.File files.image.Opener → Type 0) (plan : Plan) (failure : Failure D files.image.File files.image.Opener) → HasBuilding (files.is_text building) plan
+    → IsKeeperFailure is_fresh state is_refused plan failure → IsFailure files building is_refused (IsLeftAs files building is_fresh state) failure
+keeper_failure files building is_fresh state is_refused plan (NoBuilding fault unused) has never = absurd never
+keeper_failure files building is_fresh state is_refused plan (NoImage refused) has is = ((plan, has), is)
+keeper_failure files building is_fresh state is_refused plan (Opened fault left) has is = record {
+  from = record { plan = plan; described = has; opened = is.opened; fresh = is.fresh };
+  cause = subst (GoesNoFurther plan (state is.opened) (state left)) (sym is.is_refusal) is.refused;
   moments = is.refused.moments;
   unwritten = is.refused.writes;
 }
 
 -- after the recovery
-kept_left : (is_text : List ℕ → Type 0) (files : ImageFiles) (path : List ℕ) (plan : Plan) (keeper : KeeperView files.Served) (left : files.Served) (fault : Fault) → HasBuilding is_text plan → HasKeeperOf files path plan keeper → left ≡ keeper.writer.device
-    → ((old new : DiskState) → HasRecovered plan old new → GoesNoFurther plan old new fault) → IsLeftAs is_text (files.is_to_be_served path) files.served_state fault left
-kept_left is_text files path plan keeper left fault has opened is stops =
-    subst (λ (d : files.Served). IsLeftAs is_text (files.is_to_be_served path) files.served_state fault d) (sym is) (record {
-      plan = plan;
-      building = has;
-      opened = opened.opened;
-      fresh = opened.fresh;
-      cause = stops _ _ (keeper.writer.register, keeper.writer.half, keeper.writer.is_in_second_half, keeper.writer.used, opened.recovers);
-      moments = opened.recovers.moments;
-      unwritten = opened.recovers.writes;
+kept_left : (files : CommandFiles) (building path : List ℕ) (plan : Plan) (keeper : KeeperView files.image.Served) (left : files.image.Served) (fault : Fault) → HasBuilding (files.is_text building) plan → HasKeeperOf files.image path plan keeper → left ≡ keeper.writer.device
+    → ((old new : DiskState) → HasRecovered plan old new → GoesNoFurther plan old new fault) → IsLeftAs files building (files.image.is_to_be_served path) files.image.served_state fault left
+kept_left files building path plan keeper left fault has opened is stops =
+    let recovers = opened.is_kept.recovers in
+    subst (λ (d : files.image.Served). IsLeftAs files building (files.image.is_to_be_served path) files.image.served_state fault d) (sym is) (record {
+      from = record { plan = plan; described = has; opened = opened.opened; fresh = opened.fresh };
+      cause = stops _ _ (keeper.writer.register, keeper.writer.half, keeper.writer.is_in_second_half, keeper.writer.used, recovers);
+      moments = recovers.moments;
+      unwritten = recovers.writes;
     })
 
 -- the port was refused
-pub port_left : (is_text : List ℕ → Type 0) (files : ImageFiles) (path : List ℕ) (plan : Plan) (keeper : KeeperView files.Served) (left : files.Served) (fault : Fault) → HasBuilding is_text plan → HasKeeperOf files path plan keeper → left ≡ keeper.writer.device
-    → fault ≡ Network → IsLeftAs is_text (files.is_to_be_served path) files.served_state fault left
-port_left is_text files path plan keeper left fault has opened is network =
-    kept_left is_text files path plan keeper left fault has opened is (λ old new recovered. subst (GoesNoFurther plan old new) (sym network) recovered)
+pub port_left : (files : CommandFiles) (building path : List ℕ) (plan : Plan) (keeper : KeeperView files.image.Served) (left : files.image.Served) (fault : Fault) → HasBuilding (files.is_text building) plan → HasKeeperOf files.image path plan keeper → left ≡ keeper.writer.device
+    → fault ≡ Network → IsLeftAs files building (files.image.is_to_be_served path) files.image.served_state fault left
+port_left files building path plan keeper left fault has opened is network =
+    kept_left files building path plan keeper left fault has opened is (λ old new recovered. subst (GoesNoFurther plan old new) (sym network) recovered)
 
 -- the standard output failed, or memory was wanting
-pub output_left : (is_text : List ℕ → Type 0) (files : ImageFiles) (path : List ℕ) (plan : Plan) (keeper : KeeperView files.Served) (left : files.Served) (fault : Fault) → HasBuilding is_text plan → HasKeeperOf files path plan keeper → left ≡ keeper.writer.device
-    → IsFileFault Output fault → IsLeftAs is_text (files.is_to_be_served path) files.served_state fault left
-output_left is_text files path plan keeper left fault has opened is (inl output) =
-    kept_left is_text files path plan keeper left fault has opened is (λ old new recovered. subst (GoesNoFurther plan old new) (sym output) recovered)
-output_left is_text files path plan keeper left fault has opened is (inr memory) =
-    kept_left is_text files path plan keeper left fault has opened is (λ old new recovered. subst (GoesNoFurther plan old new) (sym memory) recovered)
-
-recovered_left : {D : Type 0} (is_text : List ℕ → Type 0) (is_fresh : D → Type 0) (state : D → DiskState) (plan : Plan) (opened left : D) (before after : Option (List ℕ)) (fault : Fault) → HasBuilding is_text plan
-    → is_fresh opened → (HasRecovered plan (state opened) (state left) → GoesNoFurther plan (state opened) (state left) fault)
-    → ShowsPrefix plan (state opened) (state left) before after → IsLeftAs is_text is_fresh state fault left
-recovered_left is_text is_fresh state plan opened left before after fault has fresh stops shows =
-    let r = shows.recovers in
-    record {
-      plan = plan;
-      building = has;
-      opened = opened;
-      fresh = fresh;
-      cause = stops (shows.register, r.half, r.is_in_second_half, r.used, r.reopens);
-      moments = r.reopens.moments;
-      unwritten = r.reopens.writes;
-    }
+pub output_left : (files : CommandFiles) (building path : List ℕ) (plan : Plan) (keeper : KeeperView files.image.Served) (left : files.image.Served) (fault : Fault) → HasBuilding (files.is_text building) plan → HasKeeperOf files.image path plan keeper → left ≡ keeper.writer.device
+    → IsFileFault Output fault → IsLeftAs files building (files.image.is_to_be_served path) files.image.served_state fault left
+output_left files building path plan keeper left fault has opened is (inl output) =
+    kept_left files building path plan keeper left fault has opened is (λ old new recovered. subst (GoesNoFurther plan old new) (sym output) recovered)
+output_left files building path plan keeper left fault has opened is (inr memory) =
+    kept_left files building path plan keeper left fault has opened is (λ old new recovered. subst (GoesNoFurther plan old new) (sym memory) recovered)
 
 -- how the showing of a journal that failed has left its image
-shown_left : {D : Type 0} (is_text : List ℕ → Type 0) (is_fresh : D → Type 0) (state : D → DiskState) (plan : Plan) (opened left : D) (before after : Option (List ℕ)) (fault : Fault) → HasBuilding is_text plan
-    → is_fresh opened → IsShowingFault fault
-    → ((refusal : KeeperFault) → fault ≡ Journal refusal → RefusesReopening plan (state opened) (state left) refusal)
-    → (IsFileFault Output fault → ShowsPrefix plan (state opened) (state left) before after) → IsLeftAs is_text is_fresh state fault left
-shown_left is_text is_fresh state plan opened left before after (Building fault) has fresh is refused front = absurd is
-shown_left is_text is_fresh state plan opened left before after (Journal fault) has fresh is refused front =
-    let r = refused fault refl in
-    record { plan = plan; building = has; opened = opened; fresh = fresh; cause = (is, r); moments = r.moments; unwritten = r.writes }
-shown_left is_text is_fresh state plan opened left before after (File OfBuilding) has fresh is refused front = absurd is
-shown_left is_text is_fresh state plan opened left before after (File OfImage) has fresh is refused front = absurd is
-shown_left is_text is_fresh state plan opened left before after (File Input) has fresh is refused front = absurd is
-shown_left is_text is_fresh state plan opened left before after (File Output) has fresh is refused front =
-    recovered_left is_text is_fresh state plan opened left before after (File Output) has fresh (λ recovered. recovered) (front (inl refl))
-shown_left is_text is_fresh state plan opened left before after (Memory no_memory) has fresh is refused front =
-    recovered_left is_text is_fresh state plan opened left before after (Memory no_memory) has fresh (λ recovered. recovered) (front (inr refl))
-shown_left is_text is_fresh state plan opened left before after Network has fresh is refused front = absurd is
-shown_left is_text is_fresh state plan opened left before after Thread has fresh is refused front = absurd is
+module _ {D : Type 0} (files : CommandFiles) (building : List ℕ) (is_fresh : D → Type 0) (state : D → DiskState) (plan : Plan) (opened left : D) (before after : Option (List ℕ)) (has : HasBuilding (files.is_text building) plan) (fresh : is_fresh opened) where
+  recovered_left : (fault : Fault) → (HasRecovered plan (state opened) (state left) → GoesNoFurther plan (state opened) (state left) fault)
+      → ShowsRegister plan (state opened) (state left) (WritesFront before after) → IsLeftAs files building is_fresh state fault left
+  recovered_left fault stops shows =
+      let r = shows.recovers in
+      record {
+        from = record { plan = plan; described = has; opened = opened; fresh = fresh };
+        cause = stops (shows.register, r.half, r.is_in_second_half, r.used, r.reopens);
+        moments = r.reopens.moments;
+        unwritten = r.reopens.writes;
+      }
 
-pub showing_left : {D : Type 0} (is_text : List ℕ → Type 0) (is_fresh : D → Type 0) (state : D → DiskState) (plan : Plan) (opened left told : D) (before after : Option (List ℕ)) (fault : Fault) → told ≡ left → HasBuilding is_text plan
-    → is_fresh opened → IsShowingFault fault
-    → ((refusal : KeeperFault) → fault ≡ Journal refusal → RefusesReopening plan (state opened) (state left) refusal)
-    → (IsFileFault Output fault → ShowsPrefix plan (state opened) (state left) before after) → IsLeftAs is_text is_fresh state fault told
-showing_left {D} is_text is_fresh state plan opened left told before after fault same has fresh is refused front =
-    subst (λ (d : D). IsLeftAs is_text is_fresh state fault d) (sym same) (shown_left is_text is_fresh state plan opened left before after fault has fresh is refused front)
+  shown_left : (fault : Fault) → IsShowingFault fault
+      → ((refusal : KeeperFault) → fault ≡ Journal refusal → RefusesReopening plan (state opened) (state left) refusal)
+      → (IsFileFault Output fault → ShowsRegister plan (state opened) (state left) (WritesFront before after)) → IsLeftAs files building is_fresh state fault left
+  shown_left (Journal fault) is refused front =
+      let r = refused fault refl in
+      record { from = record { plan = plan; described = has; opened = opened; fresh = fresh }; cause = r; moments = r.moments; unwritten = r.writes }
+  shown_left (File Output) is refused front = recovered_left (File Output) (λ recovered. recovered) (front (inl refl))
+  shown_left (Memory no_memory) is refused front = recovered_left (Memory no_memory) (λ recovered. recovered) (front (inr refl))
+  shown_left (Building fault) is refused front = absurd is
+  shown_left (File OfBuilding) is refused front = absurd is
+  shown_left (File OfImage) is refused front = absurd is
+  shown_left (File Input) is refused front = absurd is
+  shown_left Network is refused front = absurd is
+  shown_left Thread is refused front = absurd is
+
+  pub showing_left : (told : D) (fault : Fault) → told ≡ left → IsShowingFault fault
+      → ((refusal : KeeperFault) → fault ≡ Journal refusal → RefusesReopening plan (state opened) (state left) refusal)
+      → (IsFileFault Output fault → ShowsRegister plan (state opened) (state left) (WritesFront before after)) → IsLeftAs files building is_fresh state fault told
+  showing_left told fault same is refused front =
+      subst (λ (d : D). IsLeftAs files building is_fresh state fault d) (sym same) (shown_left fault is refused front)
 
 -- what was written of a journal on an image whose showing failed
-pub showing_part : (files : CommandFiles) (path building : List ℕ) (plan : Plan) (opened left : files.image.Shown) (before after : Option (List ℕ)) (fault : Fault) → HasBuilding (files.is_text building) plan
-    → files.image.is_to_be_shown path opened → IsShowingFault fault → IsReportOfFault fault before after
-    → (IsFileFault Output fault → ShowsPrefix plan (files.image.shown_state opened) (files.image.shown_state left) before after) → ShowsPart files path building before after
-showing_part files path building plan opened left before after (Building fault) described fresh is written front = absurd is
-showing_part files path building plan opened left before after (Journal fault) described fresh is written front = inl written
-showing_part files path building plan opened left before after (File OfBuilding) described fresh is written front = absurd is
-showing_part files path building plan opened left before after (File OfImage) described fresh is written front = absurd is
-showing_part files path building plan opened left before after (File Input) described fresh is written front = absurd is
-showing_part files path building plan opened left before after (File Output) described fresh is written front =
-    part_shown files path building plan opened left before after described fresh (front (inl refl))
-showing_part files path building plan opened left before after (Memory no_memory) described fresh is written front =
-    part_shown files path building plan opened left before after described fresh (front (inr refl))
-showing_part files path building plan opened left before after Network described fresh is written front = absurd is
-showing_part files path building plan opened left before after Thread described fresh is written front = absurd is
+pub showing_part : (files : CommandFiles) (path building : List ℕ) (plan : Plan) (opened left : files.image.Shown) (before after : Option (List ℕ)) (fault : Fault) (has_failed : Type 0) → HasBuilding (files.is_text building) plan
+    → files.image.is_to_be_shown path opened → (after ≡ before) ⊎ (has_failed × IsFileFault Output fault)
+    → (IsFileFault Output fault → ShowsRegister plan (files.image.shown_state opened) (files.image.shown_state left) (WritesFront before after)) → ShowsPart files path building before after
+showing_part files path building plan opened left before after fault has_failed described fresh (inl same) front = inl same
+showing_part files path building plan opened left before after fault has_failed described fresh (inr (failed, is)) front =
+    part_shown files path building plan opened left before after described fresh (front is)
 
--- where nothing was written any fault may be told
-pub nothing_written : (fault : Fault) (written : Option (List ℕ)) → IsReportOfFault fault written written
-nothing_written (Building fault) written = refl
-nothing_written (Journal fault) written = refl
-nothing_written (File OfBuilding) written = refl
-nothing_written (File OfImage) written = refl
-nothing_written (File Input) written = refl
-nothing_written (File Output) written = tt
-nothing_written (Memory no_memory) written = tt
-nothing_written Network written = refl
-nothing_written Thread written = tt
+-- where nothing was written any fault may be told but the output
+pub nothing_written : {D F O : Type 0} (has_failed : Type 0) (failure : Failure D F O) (written : Option (List ℕ)) → fault_in failure ≢ File Output → IsReportOfFailure has_failed failure written written
+nothing_written has_failed (NoBuilding fault unused) written other = refl
+nothing_written has_failed (NoImage refused) written other = refl
+nothing_written has_failed (Opened (Building fault) left) written other = refl
+nothing_written has_failed (Opened (Journal fault) left) written other = refl
+nothing_written has_failed (Opened (File OfBuilding) left) written other = refl
+nothing_written has_failed (Opened (File OfImage) left) written other = refl
+nothing_written has_failed (Opened (File Input) left) written other = refl
+nothing_written has_failed (Opened (File Output) left) written other = absurd (other refl)
+nothing_written has_failed (Opened (Memory no_memory) left) written other = inl refl
+nothing_written has_failed (Opened Network left) written other = refl
+nothing_written has_failed (Opened Thread left) written other = refl
 
--- of a writer that failed a prefix may be written
-pub output_report : (fault : Fault) (before after : Option (List ℕ)) → IsFileFault Output fault → IsReportOfFault fault before after
-output_report fault before after (inl is) = subst (λ (f : Fault). IsReportOfFault f before after) (sym is) tt
-output_report fault before after (inr is) = subst (λ (f : Fault). IsReportOfFault f before after) (sym is) tt
+-- no fault but the output, and want of memory, is told where that has failed
+still_so : (same has_failed : Type 0) (fault : Fault) → fault ≢ File Output → fault ≢ Memory tt → same ⊎ (has_failed × IsFileFault Output fault) → same
+still_so same has_failed fault no_output no_memory (inl is) = is
+still_so same has_failed fault no_output no_memory (inr (failed, inl is)) = absurd (no_output is)
+still_so same has_failed fault no_output no_memory (inr (failed, inr is)) = absurd (no_memory is)
+
+pub output_report : {D : Type 0} (has_failed : Type 0) (fault : Fault) (left : D) (before after : Option (List ℕ)) → (after ≡ before) ⊎ (has_failed × IsFileFault Output fault) → (fault ≡ File Output → has_failed)
+    → IsReportOfFailure {D = D} {F = Unit {0}} {O = Unit {0}} has_failed (Opened fault left) before after
+output_report has_failed (File Output) left before after so failed = failed refl
+output_report has_failed (Memory no_memory) left before after (inl same) failed = inl same
+output_report has_failed (Memory no_memory) left before after (inr so) failed = inr so.0
+output_report has_failed (Building fault) left before after so failed = still_so _ has_failed (Building fault) (λ same. cc) (λ same. cc) so
+output_report has_failed (Journal fault) left before after so failed = still_so _ has_failed (Journal fault) (λ same. cc) (λ same. cc) so
+output_report has_failed (File OfBuilding) left before after so failed = still_so _ has_failed (File OfBuilding) (λ same. cc) (λ same. cc) so
+output_report has_failed (File OfImage) left before after so failed = still_so _ has_failed (File OfImage) (λ same. cc) (λ same. cc) so
+output_report has_failed (File Input) left before after so failed = still_so _ has_failed (File Input) (λ same. cc) (λ same. cc) so
+output_report has_failed Network left before after so failed = still_so _ has_failed Network (λ same. cc) (λ same. cc) so
+output_report has_failed Thread left before after so failed = still_so _ has_failed Thread (λ same. cc) (λ same. cc) so
+
+-- no port was asked for to show a journal
+pub showing_no_network : (fault : Fault) → IsShowingFault fault → fault ≢ Network
+showing_no_network fault is same = subst IsShowingFault same is
 
 -- a file whose writes are refused holds what it would else
 pub unwritten_holds : {F : Type 0} {told : Told F} (holds : F → DiskState) (d : UnwrittenFile F told) → HoldsTheSame (sector_file_state_of holds (unwritten_file_of d)) (unwritten_state_of holds d)
@@ -322,8 +303,3 @@ is_opened {F} {told} opens gives holds how first image file below path same unca
       honest = λ is. honest (measured.honest.1 is);
       held = λ is. holds_then (holds measured.file) (sector_file_state_of holds file) image (measured.held is) held;
     })
-
--- the fault that is there
-abbrev pub fault_there : Option Fault → Fault
-fault_there None = Memory tt
-fault_there (Some fault) = fault

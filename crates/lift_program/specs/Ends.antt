@@ -1,20 +1,17 @@
 -- How the program ends, and what it says of it.
-use Rattle.std.specs.Prelude.{ℕ, ◌≡◌, ◌⊎◌, ◌<◌, ◌+◌, ◌*◌, List, [], ◌∷◌, ◌++◌, Option, Some, None}
-use Rattle.std.specs.Prelude.{◌≤◌, Result, Ok, Err, OnOk, IfOk, IfErr, Bool, true, false, codes}
-use Rattle.std.specs.Prelude.{take}
+use Rattle.std.specs.Prelude.{ℕ, ◌≡◌, ◌≢◌, ◌⊎◌, ◌<◌, ◌+◌, ◌*◌, List, [], ◌∷◌, ◌++◌, Option, Some, None}
+use Rattle.std.specs.Prelude.{◌≤◌, Result, Ok, Err, IfErr, Bool, true, false, codes}
 use Rattle.std.specs.Fmt.{decimal}
 use Rattle.std.specs.Io.KnownBytes.{Appends}
 use Rattle.std.specs.declared.net.tcp.TcpListener.{TcpListener as Listener}
 use Rattle.clap.specs.Words.{Text}
 use Rattle.lift_base.specs.Input.{InputState}
 use Rattle.lift_base.specs.Output.{OutputState, OutputTally}
-use Rattle.lift_building.specs.Plan.{Plan, shape_of}
+use Rattle.lift_building.specs.Plan.{shape_of}
 use Rattle.lift_disk.specs.Disk.{RunsOn}
 use Rattle.lift_journal.specs.Calls.{MakesPrefix, format_calls}
 use Rattle.lift_journal.specs.declared.fault.JournalFault.TheVariants.{Disk}
 use Rattle.lift_keeper.specs.declared.fault.KeeperFault.TheVariants.{Journal as OfJournal}
-use Rattle.lift_policy.specs.declared.dispatching.Dispatching.{Dispatching}
-use Rattle.lift_policy.specs.declared.policies.Shipped.{Shipped}
 use Rattle.lift_register.specs.Register.{empty}
 use Rattle.lift_serve.specs.Keeping.{HoldsLetters}
 use Rattle.lift_replay.specs.declared.lines.Verdict.{Verdict}
@@ -26,50 +23,35 @@ use Rattle.lift_replay.specs.Writing.{GoesInto, gone_in}
 use Rattle.lift_program.specs.Faults.{fault_text, usage_text}
 use Rattle.lift_program.specs.Output.{IsFlushed, IsWrittenOrFailed, SaysText, WasTaken}
 use Rattle.lift_program.specs.Output.{WriterHasFailed}
-use Rattle.lift_program.specs.Serving.{HasKeptLetters, HasLeftLetters, IsServing}
+use Rattle.lift_program.specs.Serving.{HasLeftLetters, IsServing}
 use Rattle.lift_program.specs.Images.{CommandFiles}
-use Rattle.lift_program.specs.Showing.{IsShown, ShowsPart}
-use Rattle.lift_program.specs.Stages.{HasBuilding, IsBuildingFault, IsNoImage, IsOpeningFault}
+use Rattle.lift_program.specs.Showing.{IsShown, ShowsPart, WritesFront}
+use Rattle.lift_program.specs.Stages.{HasOpened, IsFailure, IsOpeningFault}
 use Rattle.lift_program.specs.Stages.{IsServingFailure, IsShowingFailure, fault_in}
 use Rattle.lift_program.specs.Words.{AskForRequest, AsksForHelp, help_text}
 use Rattle.lift_program.specs.declared.fault.Fault.{Fault}
-use Rattle.lift_program.specs.declared.fault.Fault.TheVariants.{Building, Journal, File, Memory}
-use Rattle.lift_program.specs.declared.fault.Fault.TheVariants.{Network, Thread}
+use Rattle.lift_program.specs.declared.fault.Fault.TheVariants.{Journal, File, Memory}
+use Rattle.lift_program.specs.declared.fault.Fault.TheVariants.{Network}
 use Rattle.lift_program.specs.declared.fault.Role.{Role}
-use Rattle.lift_program.specs.declared.fault.Role.TheVariants.{Building as OfBuilding}
-use Rattle.lift_program.specs.declared.fault.Role.TheVariants.{Image as OfImage, Input, Output}
+use Rattle.lift_program.specs.declared.fault.Role.TheVariants.{Input, Output}
 use Rattle.lift_program.specs.declared.end.End.{End}
 use Rattle.lift_program.specs.declared.end.End.TheVariants.{Replayed, Formatted, Shown, Served}
 use Rattle.lift_program.specs.declared.end.End.TheVariants.{OtherWords, NoWords}
 use Rattle.lift_program.specs.declared.leftover.Failure.{Failure}
-use Rattle.lift_program.specs.declared.leftover.Failure.TheVariants.{NoBuilding, NoImage, Opened}
+use Rattle.lift_program.specs.declared.leftover.Failure.TheVariants.{Opened}
 use Rattle.lift_program.specs.declared.serve.Serving.{Serving}
 use Rattle.lift_program.specs.declared.words.Request.{Request}
 use Rattle.lift_program.specs.declared.words.Request.TheVariants.{Replay, Format, Show, Serve}
 
--- what a replay has failed for, if it has
-abbrev pub replay_fault_of : {T : Type 0} → Result T Fault → Option Fault
-replay_fault_of (Ok verdict) = None
-replay_fault_of (Err fault) = Some fault
-
--- what a command over an image has failed for, if it has
-abbrev pub fault_of : {T D F O : Type 0} → Result T (Failure D F O) → Option Fault
-fault_of (Ok done) = None
-fault_of (Err failure) = Some (fault_in failure)
-
--- what the command has failed for, if it has
-abbrev pub failed_for : {M S V F O : Type 0} → End M S V F O → Option Fault
-failed_for (Replayed outcome unused) = replay_fault_of outcome
-failed_for (Formatted outcome) = fault_of outcome
-failed_for (Shown outcome) = fault_of outcome
-failed_for (Served outcome) = fault_of outcome
-failed_for (OtherWords unused) = None
-failed_for (NoWords no_memory unused) = Some (Memory tt)
-
--- what is reported: that, or why a serving failed
+-- what is reported: why the command has failed, or what a serving was refused that ended
 abbrev pub reported : {M S V F O : Type 0} → End M S V F O → Option Fault
+reported (Replayed (Err fault) unused) = Some fault
+reported (Formatted (Err failure)) = Some (fault_in failure)
+reported (Shown (Err failure)) = Some (fault_in failure)
+reported (Served (Err failure)) = Some (fault_in failure)
 reported (Served (Ok serving)) = serving.fault
-reported end = failed_for end
+reported (NoWords no_memory unused) = Some (Memory tt)
+reported _ = None
 
 -- 1 for a fault
 abbrev pub status_for : Option Fault → ℕ
@@ -82,14 +64,10 @@ exit_status_of (Replayed (Ok Bad) unused) = 1
 exit_status_of (OtherWords unused) = 2
 exit_status_of end = status_for (reported end)
 
--- the line of a fault
-abbrev pub told_line : Fault → Option (List ℕ)
-told_line fault = Some (fault_text fault ++ 10 ∷ [])
-
--- its line, none where there is no fault
+-- the line of a fault, none where there is none
 abbrev pub line_for : Option Fault → Option (List ℕ)
 line_for None = None
-line_for (Some fault) = told_line fault
+line_for (Some fault) = Some (fault_text fault ++ 10 ∷ [])
 
 -- the line on standard error, none where there is nothing to report
 abbrev pub line_of : {M S V F O : Type 0} → End M S V F O → Option (List ℕ)
@@ -98,23 +76,13 @@ line_of end = line_for (reported end)
 
 -- that a device failed is reported at once, while the building is served
 abbrev pub line_at_once_in : Option Fault → Option (List ℕ)
-line_at_once_in None = None
-line_at_once_in (Some (Building fault)) = None
-line_at_once_in (Some (Journal fault)) = told_line (Journal fault)
-line_at_once_in (Some (File role)) = None
-line_at_once_in (Some (Memory no_memory)) = None
-line_at_once_in (Some Network) = None
-line_at_once_in (Some Thread) = None
+line_at_once_in (Some (Journal fault)) = line_for (Some (Journal fault))
+line_at_once_in _ = None
 
 -- and what else a serving has failed for at its end
 abbrev pub line_at_end_in : Option Fault → Option (List ℕ)
-line_at_end_in None = None
-line_at_end_in (Some (Building fault)) = told_line (Building fault)
 line_at_end_in (Some (Journal fault)) = None
-line_at_end_in (Some (File role)) = told_line (File role)
-line_at_end_in (Some (Memory no_memory)) = told_line (Memory no_memory)
-line_at_end_in (Some Network) = told_line Network
-line_at_end_in (Some Thread) = told_line Thread
+line_at_end_in fault = line_for fault
 
 -- the line that is written before the end, none but of a device that failed while it was served
 abbrev pub line_at_once : {M S V F O : Type 0} → End M S V F O → Option (List ℕ)
@@ -150,17 +118,15 @@ EndOver files = End files.image.Made files.image.Shown files.image.Served files.
 -- crash may leave from now on keeps the answers of nobody, and no entry.
 pub record IsMadeWith (files : CommandFiles) (image building : List ℕ) (half : ℕ)
     (left : files.image.Made) : Type 0 where
-  pub plan : Plan
-  pub described : HasBuilding (files.is_text building) plan
-  pub opened : files.image.Made
-  pub fresh : files.image.is_just_made image (2 + 2 * half) opened
-  pub made : (files.image.made_state left).trace ≡ format_calls (shape_of plan half)
+  pub from : HasOpened files building (files.image.is_just_made image (2 + 2 * half))
+  pub made : (files.image.made_state left).trace ≡ format_calls (shape_of from.plan half)
   pub size : (files.image.made_state left).size ≡ 2 + 2 * half
   pub calls : (files.image.made_state left).calls ≡ 5
   pub writes : (files.image.made_state left).writes ≡ 3
   pub failures : (files.image.made_state left).failures ≡ 0
-  pub honest : (files.image.made_state opened).is_honest → (files.image.made_state left).is_honest
-  pub keeps : HoldsLetters files.image.Served plan empty [] [] (files.image.made_state left)
+  pub honest : (files.image.made_state from.opened).is_honest
+      → (files.image.made_state left).is_honest
+  pub keeps : HoldsLetters files.image.Served from.plan empty [] [] (files.image.made_state left)
 
 -- a file in this role, or want of memory
 abbrev pub IsFileFault : Role → Fault → Type 0
@@ -168,59 +134,34 @@ IsFileFault role fault = (fault ≡ File role) ⊎ (fault ≡ Memory tt)
 
 -- the standard input, the standard output, or want of memory
 abbrev pub IsReplayFault : Fault → Type 0
-IsReplayFault (Building fault) = ⊥
-IsReplayFault (Journal fault) = ⊥
-IsReplayFault (File OfBuilding) = ⊥
-IsReplayFault (File OfImage) = ⊥
 IsReplayFault (File Input) = Unit {0}
 IsReplayFault (File Output) = Unit {0}
 IsReplayFault (Memory no_memory) = Unit {0}
-IsReplayFault Network = ⊥
-IsReplayFault Thread = ⊥
+IsReplayFault _ = ⊥
 
 -- An image was made at this path for a building that was read, and the journal couldn't be made on it:
 -- the calls by which that is done were made up to one that failed, and the image was left so.
 pub record IsUnformatted (files : CommandFiles) (image building : List ℕ) (half : ℕ)
     (fault : Fault) (left : files.image.Made) : Type 0 where
-  pub plan : Plan
-  pub described : HasBuilding (files.is_text building) plan
-  pub opened : files.image.Made
-  pub fresh : files.image.is_just_made image (2 + 2 * half) opened
+  pub from : HasOpened files building (files.image.is_just_made image (2 + 2 * half))
   pub is_fault : fault ≡ Journal (OfJournal Disk)
-  pub front : MakesPrefix (format_calls (shape_of plan half)) (files.image.made_state opened)
-      (files.image.made_state left)
-  pub runs : RunsOn (files.image.made_state opened) (files.image.made_state left)
-  pub failed : (files.image.made_state opened).failures < (files.image.made_state left).failures
+  pub front : MakesPrefix (format_calls (shape_of from.plan half))
+      (files.image.made_state from.opened) (files.image.made_state left)
+  pub runs : RunsOn (files.image.made_state from.opened) (files.image.made_state left)
+  pub failed : (files.image.made_state from.opened).failures < (files.image.made_state left).failures
 
 -- why no journal was made, and how its image, its file or what was to open it was left
 abbrev pub IsUnmade : (files : CommandFiles) → (image building : List ℕ) → (half : ℕ)
     → Failure files.image.Made files.image.File files.image.Opener → Type 0
-IsUnmade files image building half (NoBuilding fault unused) =
-    IsBuildingFault (files.is_text building) (files.is_no_text building) fault
-    × (unused ≡ files.image.opener)
-IsUnmade files image building half (NoImage refused) =
-    IsNoImage (files.is_text building) (files.image.is_unmade image (2 + 2 * half)) refused.fault
-    refused.cause
-IsUnmade files image building half (Opened fault left) =
-    IsUnformatted files image building half fault left
+IsUnmade files image building half = IsFailure files building
+    (files.image.is_unmade image (2 + 2 * half)) (IsUnformatted files image building half)
 
 -- what an opening may be refused for, want of memory, or the standard output
 abbrev pub IsShowingFault : Fault → Type 0
-IsShowingFault (Building fault) = ⊥
 IsShowingFault (Journal fault) = IsOpeningFault fault
-IsShowingFault (File OfBuilding) = ⊥
-IsShowingFault (File OfImage) = ⊥
-IsShowingFault (File Input) = ⊥
 IsShowingFault (File Output) = Unit {0}
 IsShowingFault (Memory no_memory) = Unit {0}
-IsShowingFault Network = ⊥
-IsShowingFault Thread = ⊥
-
--- so it is with an image that was opened
-abbrev pub HasShowingFault : {D F O : Type 0} → Failure D F O → Type 0
-HasShowingFault (NoBuilding fault unused) = Unit {0}
-HasShowingFault (NoImage refused) = Unit {0}
-HasShowingFault (Opened fault left) = IsShowingFault fault
+IsShowingFault _ = ⊥
 
 -- a reader of which no call was made yet
 abbrev pub uncalled : {R : Type 0} → R → InputState R
@@ -292,170 +233,94 @@ IsServingEnd end = ⊥
 abbrev pub IsUnread : {R : Type 0} → InputState R → Type 0
 IsUnread new = (new.failed ≡ true) ⊎ ((new.calls ≡ 2097152) × (new.ended ≡ false))
 
--- How the input is left: only a replay reads it, and nothing that becomes ready does. A good script
--- was read to its end; one that failed for the standard input could not be read, and one that failed
--- for the standard output was.
-pub record IsInputLeft {T M S V F O R : Type 0} (remaining : R → Option (List ℕ)) (replays : Type 0)
-    (unused : O) (result : Result T (End M S V F O)) (old new : InputState R) : Type 0 where
-  pub unasked : ¬ replays → new ≡ old
-  pub unwaiting : OnOk result (new ≡ old)
-  pub good : result ≡ Err (Replayed (Ok Good) unused) → new.ended ≡ true
-  pub unread : result ≡ Err (Replayed (Err (File Input)) unused) → IsUnread new
-  pub read : result ≡ Err (Replayed (Err (File Output)) unused) → IsInputRead remaining old new
+-- How a script has left its input: a good one was read to its end; one that failed for the standard
+-- input could not be read, and one that failed for the standard output was.
+pub record IsScriptRead {R : Type 0} (remaining : R → Option (List ℕ)) (outcome : Result Verdict Fault)
+    (old new : InputState R) : Type 0 where
+  pub good : outcome ≡ Ok Good → new.ended ≡ true
+  pub unread : outcome ≡ Err (File Input) → IsUnread new
+  pub read : outcome ≡ Err (File Output) → IsInputRead remaining old new
   pub few_calls : new.calls ≤ 2097152
 
--- so it is left at an end
-abbrev pub IsInputLeftAt : {M S V F O R : Type 0} → (remaining : R → Option (List ℕ))
-    → (replays : Type 0) → (unused : O) → End M S V F O → (old new : InputState R) → Type 0
-IsInputLeftAt remaining replays unused end old new =
-    IsInputLeft {T = Unit {0}} remaining replays unused (Err end) old new
-
--- A journal was to be made of so many sectors in a half, over the image at this path, and it came to
--- this.
-pub record IsFormatEnd (files : CommandFiles) (image building : List ℕ) (half : ℕ) (outcome : Result
-    files.image.Made
-    (Failure files.image.Made files.image.File files.image.Opener)) : Type 0 where
-  pub made : IfOk outcome (IsMadeWith files image building half)
-  pub failure : IfErr outcome (IsUnmade files image building half)
-
--- a socket was had
-abbrev pub IsSocketHad : (gives : Option Listener → Type 0) → Type 0
-IsSocketHad gives = (listener : Listener) × gives (Some listener)
-
--- how much is written by a command that fails: nothing until this was had
-abbrev pub IsQuietUntil : {D F O : Type 0} → (had : Type 0) → Failure D F O
-    → (before after : Option (List ℕ)) → Type 0
-IsQuietUntil had (NoBuilding fault unused) before after = after ≡ before
-IsQuietUntil had (NoImage refused) before after = after ≡ before
-IsQuietUntil had (Opened fault left) before after = (after ≡ before) ⊎ had
-
--- The open calls of the journal at this path were asked for, and it came to this.
-pub record IsShowEnd (files : CommandFiles) (image building : List ℕ)
-    (before after : Option (List ℕ)) (outcome : Result files.image.Shown
-    (Failure files.image.Shown files.image.File files.image.Opener)) : Type 0 where
-  pub shown : IfOk outcome (λ disk. IsShown files image building disk before after)
-  pub failure : IfErr outcome (IsShowingFailure files image building)
-  pub showing : IfErr outcome HasShowingFault
-  pub quiet : IfErr outcome (λ failure. IsQuietUntil (Unit {0}) failure before after)
-
--- A building was to be served on this port over the image at this path, until so many connections
--- had ended, and it came to this. A socket at the port gives this. Why it isn't served is the port only
--- where a socket there was refused, and something was written then only where one was had.
-pub record IsServeEnd (files : CommandFiles) (gives : Option Listener → Type 0)
-    (image building : List ℕ) (port sessions : ℕ) (policy : Dispatching Shipped)
-    (before after : Option (List ℕ)) (outcome : Result (Serving files.image.Served)
-    (Failure files.image.Served files.image.File files.image.Opener)) : Type 0 where
-  pub port_is : IfOk outcome (λ serving. serving.port ≡ port)
-  pub serving : IfOk outcome (IsServing files gives image building policy sessions)
-  pub failure : IfErr outcome (IsServingFailure files image building)
-  pub refused : IfErr outcome (λ failure. fault_in failure ≡ Network → gives None)
-  pub quiet : IfErr outcome (λ failure. IsQuietUntil (IsSocketHad gives) failure before after)
-
--- What a request may come to. Where nothing was asked of an image, what was to open it is left; and
--- where no image was had, nothing was written. A socket at a port gives this here, in all that follows.
-abbrev pub IsEndFor : (files : CommandFiles) → (gives : ℕ → Option Listener → Type 0) → Request → (before after : Option (List ℕ))
-    → EndOver files → Type 0
-IsEndFor files gives Replay before after (Replayed outcome unused) =
-    IfErr outcome IsReplayFault × (unused ≡ files.image.opener)
-IsEndFor files gives (Format image building half) before after (Formatted outcome) =
-    IsFormatEnd files image.now building.now half outcome
-IsEndFor files gives (Show image building) before after (Shown outcome) =
-    IsShowEnd files image.now building.now before after outcome
-IsEndFor files gives (Serve image building port sessions policy) before after (Served outcome) =
-    IsServeEnd files (gives port) image.now building.now port sessions policy before after outcome
-IsEndFor files gives request before after end = ⊥
+-- how the input is left, by the end: nothing but a script reads it
+abbrev pub IsInputLeft : {M S V F O R : Type 0} → (remaining : R → Option (List ℕ))
+    → End M S V F O → (old new : InputState R) → Type 0
+IsInputLeft remaining (Replayed outcome unused) old new = IsScriptRead remaining outcome old new
+IsInputLeft remaining end old new = new ≡ old
 
 -- what is said where a port is served
 abbrev pub serving_text : ℕ → List ℕ
 serving_text port = codes "serving " ++ decimal port ++ 10 ∷ []
 
--- what says that a port is served was written, or a prefix of it
-abbrev pub SaysPrefix : ℕ → (before after : Option (List ℕ)) → Type 0
-SaysPrefix port before after = (count : ℕ) × Appends before after (take count (serving_text port))
+-- Nothing was written; or a socket was had, and what says that this port is served was written, or a
+-- prefix of it.
+abbrev pub MaySay : (gives : Option Listener → Type 0) → ℕ → (before after : Option (List ℕ)) → Type 0
+MaySay gives port before after = (after ≡ before)
+    ⊎ ((listener : Listener) × gives (Some listener) × WritesFront before after (serving_text port))
 
--- What is written for a request, however it ends: for a script a prefix of the report of the input;
--- for a journal that is made nothing; for one that is shown a prefix of its open calls; for a
--- serving a prefix of what says so.
-abbrev pub WritesFor : CommandFiles → (input : Option (List ℕ)) → Request
-    → (before after : Option (List ℕ)) → Type 0
-WritesFor files input Replay before after = ReportsPrefix input before after
-WritesFor files input (Format image building half) before after = after ≡ before
-WritesFor files input (Show image building) before after =
-    ShowsPart files image.now building.now before after
-WritesFor files input (Serve image building port sessions policy) before after =
-    SaysPrefix port before after
-
--- What these words come to: an end of what they ask for; want of memory for them, with nothing
--- written; or, where they ask for nothing, other words. In these two nothing was asked of an image.
-abbrev pub IsEndOf : (files : CommandFiles) → (gives : ℕ → Option Listener → Type 0) → (input : Option (List ℕ)) → List Text
+-- What a request may come to, by its outcome; a socket at a port gives this. A script, or why it wasn't
+-- carried out, and what was to open an image is left. A journal was made, or why not. Open calls were
+-- shown, or why not, which is no port, and how much of them was written. A group was served on this port
+-- until so many connections had ended; or why not, which is the port only where a socket there was
+-- refused, and then something was written only where one was had.
+abbrev pub IsEndFor : (files : CommandFiles) → (gives : ℕ → Option Listener → Type 0) → Request
     → (before after : Option (List ℕ)) → EndOver files → Type 0
-IsEndOf files gives input words before after (OtherWords unused) =
+IsEndFor files gives Replay before after (Replayed outcome unused) =
+    IfErr outcome IsReplayFault × (unused ≡ files.image.opener)
+IsEndFor files gives (Format image building half) before after (Formatted (Ok left)) =
+    IsMadeWith files image.now building.now half left
+IsEndFor files gives (Format image building half) before after (Formatted (Err failure)) =
+    IsUnmade files image.now building.now half failure
+IsEndFor files gives (Show image building) before after (Shown (Ok left)) =
+    IsShown files image.now building.now left before after
+IsEndFor files gives (Show image building) before after (Shown (Err failure)) =
+    IsShowingFailure files image.now building.now failure × (fault_in failure ≢ Network)
+    × ShowsPart files image.now building.now before after
+IsEndFor files gives (Serve image building port sessions policy) before after (Served (Ok serving)) =
+    (serving.port ≡ port)
+    × IsServing files (gives port) image.now building.now policy sessions serving
+IsEndFor files gives (Serve image building port sessions policy) before after (Served (Err failure)) =
+    IsServingFailure files image.now building.now failure
+    × (fault_in failure ≡ Network → gives port None) × MaySay (gives port) port before after
+IsEndFor files gives request before after end = ⊥
+
+-- What these words come to: an end of what they ask for; want of memory for them; or, where they ask
+-- for nothing, other words. In these two nothing was asked of an image.
+abbrev pub IsEndOf : (files : CommandFiles) → (gives : ℕ → Option Listener → Type 0) → List Text
+    → (before after : Option (List ℕ)) → EndOver files → Type 0
+IsEndOf files gives words before after (OtherWords unused) =
     ((request : Request) → AskForRequest words request → ⊥) × (unused ≡ files.image.opener)
-IsEndOf files gives input words before after (NoWords no_memory unused) =
-    (unused ≡ files.image.opener) × (after ≡ before)
-IsEndOf files gives input words before after end =
-    (request : Request) × AskForRequest words request × IsEndFor files gives request before after end
-    × WritesFor files input request before after
+IsEndOf files gives words before after (NoWords no_memory unused) = unused ≡ files.image.opener
+IsEndOf files gives words before after end = (request : Request) × AskForRequest words request
+    × IsEndFor files gives request before after end
 
--- what is kept of a group that these words ask to be served
-abbrev pub KeepsFor : (files : CommandFiles) → Request → Serving files.image.Served → Type 0
-KeepsFor files (Serve image building port sessions policy) serving =
-    HasKeptLetters files image.now building.now policy serving
-KeepsFor files request serving = ⊥
-
--- and what is left of one that isn't, once its image was opened
-abbrev pub LeavesFor : (files : CommandFiles) → Request
-    → Failure files.image.Served files.image.File files.image.Opener → Type 0
-LeavesFor files (Serve image building port sessions policy) (Opened fault left) =
-    HasLeftLetters files image.now building.now left
-LeavesFor files (Serve image building port sessions policy) failure = Unit {0}
-LeavesFor files request failure = ⊥
+-- What is kept of a group that was to be served: every letter; and what is left of one that wasn't, once
+-- its image was opened.
+abbrev pub KeepsFor : (files : CommandFiles) → (gives : ℕ → Option Listener → Type 0) → Request
+    → Result (Serving files.image.Served)
+    (Failure files.image.Served files.image.File files.image.Opener) → Type 0
+KeepsFor files gives (Serve image building port sessions policy) (Ok serving) =
+    IsServing files (gives port) image.now building.now policy sessions serving
+KeepsFor files gives (Serve image building port sessions policy) (Err (Opened fault left)) =
+    HasLeftLetters files image.now building.now fault left
+KeepsFor files gives (Serve image building port sessions policy) (Err failure) = Unit {0}
+KeepsFor files gives request outcome = ⊥
 
 -- A group that was served has kept every letter, and one that was not has left them.
-abbrev pub KeepsIfServed : (files : CommandFiles) → List Text → EndOver files → Type 0
-KeepsIfServed files words (Served (Ok serving)) =
-    (request : Request) × AskForRequest words request × KeepsFor files request serving
-KeepsIfServed files words (Served (Err failure)) =
-    (request : Request) × AskForRequest words request × LeavesFor files request failure
-KeepsIfServed files words end = Unit {0}
+abbrev pub KeepsIfServed : (files : CommandFiles) → (gives : ℕ → Option Listener → Type 0) → List Text
+    → EndOver files → Type 0
+KeepsIfServed files gives words (Served outcome) =
+    (request : Request) × AskForRequest words request × KeepsFor files gives request outcome
+KeepsIfServed files gives words end = Unit {0}
 
--- What was written of a fault: nothing of a building's, an image's, a journal's, or the port's.
-abbrev pub IsReportOfFault : Fault → (before after : Option (List ℕ)) → Type 0
-IsReportOfFault (Building fault) before after = after ≡ before
-IsReportOfFault (Journal fault) before after = after ≡ before
-IsReportOfFault (File OfBuilding) before after = after ≡ before
-IsReportOfFault (File OfImage) before after = after ≡ before
-IsReportOfFault (File Input) before after = after ≡ before
-IsReportOfFault (File Output) before after = Unit {0}
-IsReportOfFault (Memory no_memory) before after = Unit {0}
-IsReportOfFault Network before after = after ≡ before
-IsReportOfFault Thread before after = Unit {0}
-
--- what was written, by the end: of a script the report of the input, and of a serving what says so;
--- for other words it is written beside this
-abbrev pub IsReportOfEnd : {M S V F O : Type 0} → (input : Option (List ℕ)) → End M S V F O
+-- What a command over an image has written that failed: nothing; but where its output is the fault that
+-- has failed, and out of memory it may have.
+abbrev pub IsReportOfFailure : {D F O : Type 0} → (has_failed : Type 0) → Failure D F O
     → (before after : Option (List ℕ)) → Type 0
-IsReportOfEnd input (Replayed (Ok verdict) unused) before after =
-    ReportsInput input before after verdict
-IsReportOfEnd input (Replayed (Err fault) unused) before after = IsReportOfFault fault before after
-IsReportOfEnd input (Formatted outcome) before after = after ≡ before
-IsReportOfEnd input (Shown outcome) before after =
-    IfErr outcome (λ failure. IsReportOfFault (fault_in failure) before after)
-IsReportOfEnd input (Served (Ok serving)) before after =
-    Appends before after (serving_text serving.port)
-IsReportOfEnd input (Served (Err failure)) before after =
-    IsReportOfFault (fault_in failure) before after
-IsReportOfEnd input (OtherWords unused) before after = Unit {0}
-IsReportOfEnd input (NoWords no_memory unused) before after = after ≡ before
-
--- Where all was done, what was written was passed on.
-abbrev pub IsPassedOn : {M S V F O : Type 0} → End M S V F O → (is_flushed : Type 0) → Type 0
-IsPassedOn (Replayed outcome unused) is_flushed = OnOk outcome is_flushed
-IsPassedOn (Formatted outcome) is_flushed = Unit {0}
-IsPassedOn (Shown outcome) is_flushed = OnOk outcome is_flushed
-IsPassedOn (Served outcome) is_flushed = OnOk outcome is_flushed
-IsPassedOn (OtherWords unused) is_flushed = Unit {0}
-IsPassedOn (NoWords no_memory unused) is_flushed = Unit {0}
+IsReportOfFailure has_failed (Opened (File Output) left) before after = has_failed
+IsReportOfFailure has_failed (Opened (Memory no_memory) left) before after =
+    (after ≡ before) ⊎ has_failed
+IsReportOfFailure has_failed failure before after = after ≡ before
 
 -- What was written for words that ask for nothing: how the program is called, where they ask for help,
 -- and else nothing.
@@ -464,14 +329,21 @@ pub record IsAnswered (words : List Text) (is_flushed has_failed : Type 0)
   pub help : AsksForHelp words → SaysText help_text is_flushed has_failed before after
   pub quiet : ¬ AsksForHelp words → after ≡ before
 
--- What was written at an end: its report; for words that ask for nothing what answers them; that is the
--- fault only where the output has failed; and where all was done it was passed on.
-pub record IsOutputOf {M S V F O W : Type 0} (contents : W → Option (List ℕ)) (gives : W → List ℕ → Option ℕ
-    → W → Type 0) (flushes : W → Bool → W → Type 0) (input : Option (List ℕ)) (words : List Text)
-    (opener : O) (end : End M S V F O) (old new : W) : Type 0 where
-  pub report : IsReportOfEnd input end (contents old) (contents new)
-  pub answered : end ≡ OtherWords opener
-      → IsAnswered words (IsFlushed gives flushes old new) (WriterHasFailed gives flushes old new)
-      (contents old) (contents new)
-  pub unwritten : failed_for end ≡ Some (File Output) → WriterHasFailed gives flushes old new
-  pub passed_on : IsPassedOn end (IsFlushed gives flushes old new)
+-- What was written, by the end, and passed on where all was done: of a script the report of the input,
+-- or a prefix of it (how, see `IsScriptEnd`); of a journal that is made nothing; of one that is shown see
+-- `IsShown`; of a serving what says so; and for words that ask for nothing what answers them.
+abbrev pub IsOutputOf : {M S V F O : Type 0} → (is_flushed has_failed : Type 0)
+    → (input : Option (List ℕ)) → List Text → End M S V F O → (before after : Option (List ℕ))
+    → Type 0
+IsOutputOf is_flushed has_failed input words (Replayed outcome unused) before after =
+    ReportsAll input before after outcome
+IsOutputOf is_flushed has_failed input words (Shown (Ok left)) before after = is_flushed
+IsOutputOf is_flushed has_failed input words (Shown (Err failure)) before after =
+    IsReportOfFailure has_failed failure before after
+IsOutputOf is_flushed has_failed input words (Served (Ok serving)) before after =
+    is_flushed × Appends before after (serving_text serving.port)
+IsOutputOf is_flushed has_failed input words (Served (Err failure)) before after =
+    IsReportOfFailure has_failed failure before after
+IsOutputOf is_flushed has_failed input words (OtherWords unused) before after =
+    IsAnswered words is_flushed has_failed before after
+IsOutputOf is_flushed has_failed input words end before after = after ≡ before

@@ -4,12 +4,11 @@ use Rattle.std.specs.Fmt.{decimal}
 use Rattle.lift_building.specs.Text.{fault_number as building_number}
 use Rattle.lift_building.specs.declared.fault.BuildingFault.{BuildingFault}
 use Rattle.lift_building.specs.declared.fault.BuildingFault.TheVariants.{Detour, Memory as NoRoom}
-use Rattle.lift_journal.specs.declared.fault.JournalFault.TheVariants.{Disk, NotFormatted, Damaged}
-use Rattle.lift_journal.specs.declared.fault.JournalFault.TheVariants.{Full, Broken}
+use Rattle.lift_journal.specs.declared.fault.JournalFault.TheVariants.{Disk, Damaged}
 use Rattle.lift_keeper.specs.Fault.{fault_number as journal_number}
 use Rattle.lift_keeper.specs.declared.fault.KeeperFault.{KeeperFault}
 use Rattle.lift_keeper.specs.declared.fault.KeeperFault.TheVariants.{Journal as OfJournal}
-use Rattle.lift_keeper.specs.declared.fault.KeeperFault.TheVariants.{OtherBuilding, BadEntry}
+use Rattle.lift_keeper.specs.declared.fault.KeeperFault.TheVariants.{BadEntry}
 use Rattle.lift_replay.specs.declared.script.ReplayFault.{ReplayFault}
 use Rattle.lift_replay.specs.declared.script.ReplayFault.TheVariants.{Memory as NoMemory, Read}
 use Rattle.lift_replay.specs.declared.script.ReplayFault.TheVariants.{Write}
@@ -30,13 +29,9 @@ building_fault_line fault = codes "liftd: building " ++ decimal (building_number
 -- where in the journal a fault was found: damage has its sector, a record that doesn't fit its
 -- place
 abbrev pub place_text : KeeperFault → List ℕ
-place_text (OfJournal Disk) = []
-place_text (OfJournal NotFormatted) = []
 place_text (OfJournal (Damaged sector)) = 32 ∷ decimal sector
-place_text (OfJournal Full) = []
-place_text (OfJournal Broken) = []
-place_text OtherBuilding = []
 place_text (BadEntry place) = 32 ∷ decimal place
+place_text _ = []
 
 -- a journal's fault by its number, and where it was found
 abbrev pub journal_text : KeeperFault → List ℕ

@@ -10,7 +10,7 @@ use Rattle.lift_register.specs.Register.{RegisterState}
 use Rattle.lift_register.specs.WellFormed.{IsWellFormed}
 use Rattle.lift_replay.specs.Report.{register_text}
 use Rattle.lift_program.specs.Images.{CommandFiles}
-use Rattle.lift_program.specs.Stages.{HasBuilding}
+use Rattle.lift_program.specs.Stages.{HasOpened}
 
 -- The recovery has opened a device of the building: this is the register that it gave, and it is
 -- possible in the building.
@@ -24,32 +24,24 @@ pub record RecoversRegister (plan : Plan) (old new : DiskState)
   pub belongs : BelongsTo plan register
   pub balanced : IsBalanced register
 
--- The open calls of the register that the recovery gave were written.
-pub record ShowsRegister (plan : Plan) (old new : DiskState)
-    (before after : Option (List ℕ)) : Type 0 where
+-- The open calls of the register that the recovery gave were written so.
+pub record ShowsRegister (plan : Plan) (old new : DiskState) (is_written : List ℕ → Type 0) : Type 0 where
   pub register : RegisterState
   pub recovers : RecoversRegister plan old new register
-  pub written : Appends before after (register_text register)
+  pub written : is_written (register_text register)
 
--- A prefix of them was.
-pub record ShowsPrefix (plan : Plan) (old new : DiskState)
-    (before after : Option (List ℕ)) : Type 0 where
-  pub register : RegisterState
-  pub recovers : RecoversRegister plan old new register
-  pub count : ℕ
-  pub written : Appends before after (take count (register_text register))
+-- a prefix of this was written
+abbrev pub WritesFront : (before after : Option (List ℕ)) → List ℕ → Type 0
+WritesFront before after text = (count : ℕ) × Appends before after (take count text)
 
--- A prefix of them was, of a journal in the file that was opened at this path, and of a building
--- that the text describes which was read from its file.
+-- A prefix of the open calls of a journal was written, of the file that was opened at this path, and of
+-- a building that the text describes which was read from its file.
 pub record ShowsPrefixOfFile (files : CommandFiles) (image building : List ℕ)
     (before after : Option (List ℕ)) : Type 0 where
-  pub plan : Plan
-  pub described : HasBuilding (files.is_text building) plan
-  pub opened : files.image.Shown
-  pub fresh : files.image.is_to_be_shown image opened
+  pub from : HasOpened files building (files.image.is_to_be_shown image)
   pub left : files.image.Shown
-  pub front : ShowsPrefix plan (files.image.shown_state opened) (files.image.shown_state left)
-      before after
+  pub front : ShowsRegister from.plan (files.image.shown_state from.opened) (files.image.shown_state left)
+      (WritesFront before after)
 
 -- nothing was written, or such a prefix
 abbrev pub ShowsPart : CommandFiles → (image building : List ℕ)
@@ -62,10 +54,7 @@ ShowsPart files image building before after =
 -- write.
 pub record IsShown (files : CommandFiles) (image building : List ℕ) (disk : files.image.Shown)
     (before after : Option (List ℕ)) : Type 0 where
-  pub plan : Plan
-  pub described : HasBuilding (files.is_text building) plan
-  pub opened : files.image.Shown
-  pub fresh : files.image.is_to_be_shown image opened
-  pub shows : ShowsRegister plan (files.image.shown_state opened) (files.image.shown_state disk)
-      before after
+  pub from : HasOpened files building (files.image.is_to_be_shown image)
+  pub shows : ShowsRegister from.plan (files.image.shown_state from.opened) (files.image.shown_state disk)
+      (Appends before after)
   pub only_read : files.image.is_only_read disk

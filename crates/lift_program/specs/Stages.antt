@@ -16,23 +16,21 @@ use Rattle.lift_disk.specs.declared.file.FileFault.{FileFault}
 use Rattle.lift_disk.specs.declared.file.FileFault.TheVariants.{Untold, NotAFile, Unopened, Failed}
 use Rattle.lift_program.specs.Images.{CommandFiles, ImageFiles, IsTextRead}
 use Rattle.lift_decider.specs.Decider.{starting}
-use Rattle.lift_journal.specs.declared.fault.JournalFault.TheVariants.{Disk, NotFormatted, Damaged}
 use Rattle.lift_journal.specs.declared.fault.JournalFault.TheVariants.{Full, Broken}
 use Rattle.lift_keeper.specs.Keeper.{KeeperView}
 use Rattle.lift_keeper.specs.Reopening.{RefusesReopening, Reopens}
 use Rattle.lift_keeper.specs.declared.fault.KeeperFault.{KeeperFault}
 use Rattle.lift_keeper.specs.declared.fault.KeeperFault.TheVariants.{Journal as OfJournal}
-use Rattle.lift_keeper.specs.declared.fault.KeeperFault.TheVariants.{OtherBuilding, BadEntry}
 use Rattle.lift_register.specs.Register.{RegisterState}
 use Rattle.lift_replay.specs.Reading.{ReaderFails}
 use Rattle.lift_program.specs.declared.fault.Fault.{Fault}
 use Rattle.lift_program.specs.declared.fault.Fault.TheVariants.{Building, Journal, File, Memory}
-use Rattle.lift_program.specs.declared.fault.Fault.TheVariants.{Network, Thread}
+use Rattle.lift_program.specs.declared.fault.Fault.TheVariants.{Network}
 use Rattle.lift_program.specs.declared.leftover.Failure.{Failure}
 use Rattle.lift_program.specs.declared.leftover.Failure.TheVariants.{NoBuilding, NoImage, Opened}
 use Rattle.lift_program.specs.declared.fault.Role.{Role}
 use Rattle.lift_program.specs.declared.fault.Role.TheVariants.{Building as OfBuilding}
-use Rattle.lift_program.specs.declared.fault.Role.TheVariants.{Image as OfImage, Input, Output}
+use Rattle.lift_program.specs.declared.fault.Role.TheVariants.{Image as OfImage, Output}
 
 -- a building's text has so many bytes at most
 abbrev pub most_text : ℕ
@@ -75,18 +73,30 @@ pub record HasNoBuilding (is_text : List ℕ → Type 0) (fault : BuildingFault)
   pub short : length text ≤ most_text
   pub first : IsFirstFault text fault
 
--- the image at this path was opened, and the recovery from it, of this building, gave this keeper
-pub record HasKeeperOf (files : ImageFiles) (path : List ℕ) (plan : Plan)
-    (keeper : KeeperView files.Served) : Type 0 where
-  pub opened : files.Served
-  pub fresh : files.is_to_be_served path opened
-  pub recovers : Reopens plan (files.served_state opened)
-      (files.served_state keeper.writer.device) keeper.writer.register keeper.writer.half
-      keeper.writer.is_in_second_half keeper.writer.used
+-- A building was read, and an image opened as such a device.
+pub record HasOpened {D : Type 0} (files : CommandFiles) (building : List ℕ)
+    (is_fresh : D → Type 0) : Type 0 where
+  pub plan : Plan
+  pub described : HasBuilding (files.is_text building) plan
+  pub opened : D
+  pub fresh : is_fresh opened
+
+-- the recovery from an image that was opened, of this building, gave this keeper
+pub record RecoversKeeper {D : Type 0} (state : D → DiskState) (plan : Plan) (opened : D)
+    (keeper : KeeperView D) : Type 0 where
+  pub recovers : Reopens plan (state opened) (state keeper.writer.device) keeper.writer.register
+      keeper.writer.half keeper.writer.is_in_second_half keeper.writer.used
   pub starts : keeper.state ≡ starting keeper.writer.register
   pub whole : keeper.writer.is_broken ≡ false
   pub no_doubt : keeper.writer.doubt ≡ []
   pub own : keeper.writer.plan ≡ plan
+
+-- the image at this path was opened, and gave this keeper
+pub record HasKeeperOf (files : ImageFiles) (path : List ℕ) (plan : Plan)
+    (keeper : KeeperView files.Served) : Type 0 where
+  pub opened : files.Served
+  pub fresh : files.is_to_be_served path opened
+  pub is_kept : RecoversKeeper files.served_state plan opened keeper
 
 -- an image was opened as such a device, and the recovery from it, of this building, was refused for
 -- this, and left it so
@@ -110,54 +120,37 @@ HasRecovered plan old new = (register : RegisterState) × (half : ℕ) × (is_in
 -- What an opening may be refused for: what the journal's opening is, a building of another shape,
 -- or a record that doesn't fit.
 abbrev pub IsOpeningFault : KeeperFault → Type 0
-IsOpeningFault (OfJournal Disk) = Unit {0}
-IsOpeningFault (OfJournal NotFormatted) = Unit {0}
-IsOpeningFault (OfJournal (Damaged sector)) = Unit {0}
 IsOpeningFault (OfJournal Full) = ⊥
 IsOpeningFault (OfJournal Broken) = ⊥
-IsOpeningFault OtherBuilding = Unit {0}
-IsOpeningFault (BadEntry place) = Unit {0}
+IsOpeningFault _ = Unit {0}
 
 -- Why a command went no further over a device that was opened: the recovery was refused for this; or
 -- it gave a register, and then the port was refused, or the standard output failed, or memory was
 -- wanting.
 abbrev pub GoesNoFurther : Plan → (old new : DiskState) → Fault → Type 0
-GoesNoFurther plan old new (Building fault) = ⊥
-GoesNoFurther plan old new (Journal fault) = IsOpeningFault fault
-    × RefusesReopening plan old new fault
-GoesNoFurther plan old new (File OfBuilding) = ⊥
-GoesNoFurther plan old new (File OfImage) = ⊥
-GoesNoFurther plan old new (File Input) = ⊥
+GoesNoFurther plan old new (Journal fault) = RefusesReopening plan old new fault
 GoesNoFurther plan old new (File Output) = HasRecovered plan old new
 GoesNoFurther plan old new (Memory no_memory) = HasRecovered plan old new
 GoesNoFurther plan old new Network = HasRecovered plan old new
-GoesNoFurther plan old new Thread = ⊥
+GoesNoFurther plan old new _ = ⊥
 
 -- A building was read, and an image opened as such a device. The command has failed for this, and
 -- left the device so: nothing was written, and each image that a crash at any moment since the
 -- opening may leave is one that it might have left before. So what was kept is kept.
-pub record IsLeftAs {D : Type 0} (is_text : List ℕ → Type 0) (is_fresh : D → Type 0)
+pub record IsLeftAs {D : Type 0} (files : CommandFiles) (building : List ℕ) (is_fresh : D → Type 0)
     (state : D → DiskState) (fault : Fault) (left : D) : Type 0 where
-  pub plan : Plan
-  pub building : HasBuilding is_text plan
-  pub opened : D
-  pub fresh : is_fresh opened
-  pub cause : GoesNoFurther plan (state opened) (state left) fault
-  pub moments : LeavesOnly (state opened) (state left) (MayLeave (state opened))
-  pub unwritten : (state left).writes ≡ (state opened).writes
+  pub from : HasOpened files building is_fresh
+  pub cause : GoesNoFurther from.plan (state from.opened) (state left) fault
+  pub moments : LeavesOnly (state from.opened) (state left) (MayLeave (state from.opened))
+  pub unwritten : (state left).writes ≡ (state from.opened).writes
 
 -- What no building is had for: its file, only where that is no text; want of memory; or its text's
 -- first fault.
 abbrev pub IsBuildingFault : (is_text : List ℕ → Type 0) → (is_no_text : Type 0) → Fault → Type 0
 IsBuildingFault is_text is_no_text (Building fault) = HasNoBuilding is_text fault
-IsBuildingFault is_text is_no_text (Journal fault) = ⊥
 IsBuildingFault is_text is_no_text (File OfBuilding) = is_no_text
-IsBuildingFault is_text is_no_text (File OfImage) = ⊥
-IsBuildingFault is_text is_no_text (File Input) = ⊥
-IsBuildingFault is_text is_no_text (File Output) = ⊥
 IsBuildingFault is_text is_no_text (Memory no_memory) = Unit {0}
-IsBuildingFault is_text is_no_text Network = ⊥
-IsBuildingFault is_text is_no_text Thread = ⊥
+IsBuildingFault is_text is_no_text _ = ⊥
 
 -- what the system's refusal of a file in this role comes to: want of memory where it said so, else
 -- the file
@@ -184,12 +177,6 @@ pub record HasNoImage {F O : Type 0} (is_refused : FileFault F O → Type 0) (fa
   pub told : IsImageFault cause fault
   pub refused : is_refused cause
 
--- A building was read, and no image was had for it.
-pub record IsNoImage {F O : Type 0} (is_text : List ℕ → Type 0)
-    (is_refused : FileFault F O → Type 0) (fault : Fault) (cause : FileFault F O) : Type 0 where
-  pub building : ReadsBuilding is_text
-  pub no_image : HasNoImage is_refused fault cause
-
 -- the fault that a command over an image has failed for
 abbrev pub fault_in : {D F O : Type 0} → Failure D F O → Fault
 fault_in (NoBuilding fault unused) = fault
@@ -198,27 +185,27 @@ fault_in (Opened fault left) = fault
 
 -- Why a command over an image has failed, and how it has left the image, its file or what was to open
 -- it. The first of these that stands: no building was had; no image was had; or one was.
-abbrev pub IsFailure : {D F O : Type 0} → (is_text : List ℕ → Type 0) → (is_no_text : Type 0)
-    → (opener : O) → (is_fresh : D → Type 0) → (state : D → DiskState)
-    → (is_refused : FileFault F O → Type 0) → Failure D F O → Type 0
-IsFailure is_text is_no_text opener is_fresh state is_refused (NoBuilding fault unused) =
-    IsBuildingFault is_text is_no_text fault × (unused ≡ opener)
-IsFailure is_text is_no_text opener is_fresh state is_refused (NoImage refused) =
-    IsNoImage is_text is_refused refused.fault refused.cause
-IsFailure is_text is_no_text opener is_fresh state is_refused (Opened fault left) =
-    IsLeftAs is_text is_fresh state fault left
+abbrev pub IsFailure : {D : Type 0} → (files : CommandFiles) → (building : List ℕ)
+    → (is_refused : FileFault files.image.File files.image.Opener → Type 0)
+    → (is_left : Fault → D → Type 0) → Failure D files.image.File files.image.Opener → Type 0
+IsFailure files building is_refused is_left (NoBuilding fault unused) =
+    IsBuildingFault (files.is_text building) (files.is_no_text building) fault
+    × (unused ≡ files.image.opener)
+IsFailure files building is_refused is_left (NoImage refused) =
+    ReadsBuilding (files.is_text building) × HasNoImage is_refused refused.fault refused.cause
+IsFailure files building is_refused is_left (Opened fault left) = is_left fault left
 
 -- so it is of an image that was to be served
 abbrev pub IsServingFailure : (files : CommandFiles) → (image building : List ℕ)
     → Failure files.image.Served files.image.File files.image.Opener → Type 0
-IsServingFailure files image building = IsFailure (files.is_text building)
-    (files.is_no_text building) files.image.opener (files.image.is_to_be_served image) files.image.served_state (files.image.is_unserved image)
+IsServingFailure files image building = IsFailure files building (files.image.is_unserved image)
+    (IsLeftAs files building (files.image.is_to_be_served image) files.image.served_state)
 
 -- and of one that was to be shown
 abbrev pub IsShowingFailure : (files : CommandFiles) → (image building : List ℕ)
     → Failure files.image.Shown files.image.File files.image.Opener → Type 0
-IsShowingFailure files image building = IsFailure (files.is_text building)
-    (files.is_no_text building) files.image.opener (files.image.is_to_be_shown image) files.image.shown_state (files.image.is_unshown image)
+IsShowingFailure files image building = IsFailure files building (files.image.is_unshown image)
+    (IsLeftAs files building (files.image.is_to_be_shown image) files.image.shown_state)
 
 -- What no keeper of this building is had for: no image was had, or the recovery was refused.
 abbrev pub IsKeeperFailure : {D F O : Type 0} → (is_fresh : D → Type 0) → (state : D → DiskState)

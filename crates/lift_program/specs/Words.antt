@@ -44,10 +44,6 @@ serve_app = with_rule (with_rule (with_rule (with_rule (app_on (codes "serve"))
     (option_rule (codes "port"))) (option_rule (codes "sessions"))) (option_rule (codes "policy")))
     (flag_rule (codes "absent-last"))
 
--- `replay`
-abbrev pub replay_app : App
-replay_app = new_app (codes "replay")
-
 -- A command that, added to a program, is this command of it, after those that it had.
 abbrev pub IsCommand : App → Command → Type 0
 IsCommand app command = (old new : Command) → AddsSubcommand old command new
@@ -61,8 +57,8 @@ bare_app = record (new_app
 -- the program with its commands
 abbrev pub liftd_app : App
 liftd_app = with_subcommand
-    (with_subcommand (with_subcommand (with_subcommand bare_app replay_app.top) format_app.top)
-    show_app.top) serve_app.top
+    (with_subcommand (with_subcommand (with_subcommand bare_app (new_app (codes "replay")).top)
+    format_app.top) show_app.top) serve_app.top
 
 -- how the program is called, line by line
 abbrev pub help_text : List ℕ
@@ -80,18 +76,14 @@ IsOver rows image building = (first_of (codes "image") rows ≡ Some image)
 
 -- what the words after `format` ask for
 abbrev pub IsFormat : List Row → Request → Type 0
-IsFormat rows Replay = ⊥
 IsFormat rows (Format image building half) = IsOver rows image.now building.now
     × IsHalf (first_of (codes "half") rows) half
-IsFormat rows (Show image building) = ⊥
-IsFormat rows (Serve image building port sessions policy) = ⊥
+IsFormat rows _ = ⊥
 
 -- what the words after `show` ask for
 abbrev pub IsShow : List Row → Request → Type 0
-IsShow rows Replay = ⊥
-IsShow rows (Format image building half) = ⊥
-IsShow rows (Serve image building port sessions policy) = ⊥
 IsShow rows (Show image building) = IsOver rows image.now building.now
+IsShow rows _ = ⊥
 
 -- a number from 1 to the most that the option's word spells
 abbrev pub IsCount : (most : ℕ) → Option Text → ℕ → Type 0
@@ -110,14 +102,12 @@ IsAbsentLast word false = word ≢ Some (codes "true")
 
 -- what the words after `serve` ask for
 abbrev pub IsServe : List Row → Request → Type 0
-IsServe rows Replay = ⊥
-IsServe rows (Format image building half) = ⊥
-IsServe rows (Show image building) = ⊥
 IsServe rows (Serve image building port sessions policy) = IsOver rows image.now building.now
     × IsCount 65535 (first_of (codes "port") rows) port
     × IsCount 1000000 (first_of (codes "sessions") rows) sessions
     × IsPolicy (first_of (codes "policy") rows) policy.policy
     × IsAbsentLast (first_of (codes "absent-last") rows) policy.absent_last
+IsServe rows _ = ⊥
 
 -- what a command asks for; without one a script is carried out
 abbrev pub IsFor : Option (Text × List Row) → Request → Type 0
@@ -143,12 +133,11 @@ AsksNothing is_asked = (request : Request) → is_asked request → ⊥
 
 -- 64 to 1,000,000 sectors in a half
 abbrev pub IsRequestInRange : Request → Type 0
-IsRequestInRange Replay = Unit {0}
 IsRequestInRange (Format image building half) = (64 ≤ half) × (half ≤ 1000000)
-IsRequestInRange (Show image building) = Unit {0}
 IsRequestInRange (Serve image building port sessions policy) = (1 ≤ port) × (port ≤ 65535)
     × (1 ≤ sessions)
     × (sessions ≤ 1000000)
+IsRequestInRange _ = Unit {0}
 
 -- the words ask for help, and for nothing else
 abbrev pub AsksForHelp : List Text → Type 0

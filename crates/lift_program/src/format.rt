@@ -15,7 +15,7 @@ use std::alloc::Global;
 /// Makes an empty journal in the file `image`, for the building in the file `building`, with so
 /// many sectors in a half. Nothing is made for a building that is refused.
 #[inline(never)]
-#[tactic(auto, using(crate::proofs::Stages::no_image, crate::proofs::Stages::reads_building))]
+#[tactic(auto, using(crate::proofs::Stages::reads_building))]
 pub fn format<B: TextOpener, I: FileOpener>(
     files: Files<B, I>,
     alloc: Global,

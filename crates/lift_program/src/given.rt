@@ -1,13 +1,12 @@
 //! What the program is given, and what its words come to before anything is served.
 
-ghost use Rattle.std.specs.Prelude.{◌≡◌, ◌≢◌, ℕ, List, [], Option, None, Some, Err, map, IfOk};
-ghost use Rattle.std.specs.Prelude.{IfErr, OnOk};
-ghost use Rattle.lift_program.specs.declared.fault.Role.TheVariants.{Output};
+ghost use Rattle.std.specs.Prelude.{◌≡◌, ◌≢◌, List, [], Option, None, Some, Err, map, IfOk};
+ghost use Rattle.std.specs.Prelude.{IfErr, OnErr, OnOk};
+ghost use Rattle.clap.specs.Words.{Text};
 ghost use Rattle.lift_program.specs.declared.words.Request.TheVariants.{Replay, Serve};
-ghost use Rattle.lift_program.specs.Ends.{IsEndFor, IsEndOf, IsInputLeft, IsOutputOf, IsPassedOn};
-ghost use Rattle.lift_program.specs.Ends.{IsQuietUntil, IsReportOfEnd, IsReportOfFault, IsSocketHad};
-ghost use Rattle.lift_program.specs.Ends.{IsScriptEnd, IsUncalled, SaysPrefix, WritesFor};
-ghost use Rattle.lift_program.specs.Ends.{line_at_once, serving_text, uncalled, failed_for};
+ghost use Rattle.lift_program.specs.Ends.{IsEndFor, IsEndOf, IsInputLeft, IsOutputOf};
+ghost use Rattle.lift_program.specs.Ends.{IsReportOfFailure, IsScriptEnd, IsUncalled, MaySay};
+ghost use Rattle.lift_program.specs.Ends.{line_at_once, serving_text, uncalled};
 ghost use Rattle.lift_program.specs.Listening.{local};
 ghost use Rattle.lift_program.specs.Output.{IsFlushed, WriterHasFailed};
 ghost use Rattle.lift_program.specs.Serving.{IsReadyOver};
@@ -64,7 +63,6 @@ pub(crate) struct ToServe<'w, B, I, L, E> {
 
 /// Does what a request asks for of an image; but of what is to be served nothing is done.
 #[inline(never)]
-#[tactic(auto, using(crate::proofs::Writing::nothing_said))]
 fn done<'w, B: TextOpener, I: FileOpener, L: Listens, R: Read + Drop, W: Outflow, E: Write + Drop>(
     openers: Openers<B, I, ForServing<L>>,
     alloc: Global,
@@ -82,17 +80,12 @@ fn done<'w, B: TextOpener, I: FileOpener, L: Listens, R: Read + Drop, W: Outflow
     ensures end { IfErr result (IsEndFor (⟦<Files<B, I> as FilesView>⟧.view openers.files)
         (L.gives openers.socket local) request.entry (W.contents writer.old)
         (W.contents writer.new)) }
-    ensures only { WritesFor (⟦<Files<B, I> as FilesView>⟧.view openers.files)
-        (R.remaining input.old.reader) request.entry (W.contents writer.old)
-        (W.contents writer.new) }
-    ensures report { IfErr result (λ end. IsReportOfEnd (R.remaining input.old.reader) end
-        (W.contents writer.old) (W.contents writer.new)) }
-    ensures passed_on { IfErr result (λ end.
-        IsPassedOn end (IsFlushed W.gives W.flushes writer.old writer.new)) }
-    ensures left { IsInputLeft R.remaining (request.entry ≡ Replay) openers.files.image result
-        input.old input.new }
-    ensures unwritten { IfErr result (λ end. failed_for end ≡ Some (Fault.File Output)
-        → WriterHasFailed W.gives W.flushes writer.old writer.new) }
+    ensures output { IfErr result (λ end. (words : List Text)
+        → IsOutputOf (IsFlushed W.gives W.flushes writer.old writer.new)
+        (WriterHasFailed W.gives W.flushes writer.old writer.new) (R.remaining input.old.reader) words
+        end (W.contents writer.old) (W.contents writer.new)) }
+    ensures unread { input.new ≡ input.old }
+    ensures left { IfErr result (λ end. IsInputLeft R.remaining end input.old input.new) }
     // Nothing is reported at once but of what is served.
     ensures quiet { IfErr result (λ end. line_at_once end ≡ None) }
     ensures no_script { IfErr result (λ end. IsScriptEnd W.sent W.contents W.gives W.flushes []
@@ -152,21 +145,19 @@ impl<'w, B: TextOpener, I: FileOpener, L: Listens, E: Write + Drop> ToServe<'w, 
         ensures said { OnOk result
             (Appends (W.contents writer.old) (W.contents writer.new) (serving_text self.entry.port)) }
         ensures flushed { OnOk result (IsFlushed W.gives W.flushes writer.old writer.new) }
-        ensures front { SaysPrefix self.entry.port (W.contents writer.old) (W.contents writer.new) }
         // The port is the fault only where that was refused.
         ensures refused { IfErr result (λ failure. fault_in failure ≡ Fault.Network
             → L.gives self.entry.openers.socket local self.entry.port None) }
         ensures failure { IfErr result (IsServingFailure
             (⟦<Files<B, I> as FilesView>⟧.view self.entry.openers.files) self.entry.image.now
             self.entry.building.now) }
-        ensures report { IfErr result (λ failure.
-            IsReportOfFault (fault_in failure) (W.contents writer.old) (W.contents writer.new)) }
-        ensures quiet { IfErr result (λ failure. IsQuietUntil
-            (IsSocketHad (L.gives self.entry.openers.socket local self.entry.port)) failure
+        // Nothing was said, or the standard output failed.
+        ensures report { IfErr result (λ failure. IsReportOfFailure
+            (WriterHasFailed W.gives W.flushes writer.old writer.new) failure
             (W.contents writer.old) (W.contents writer.new)) }
-        // The standard output is the fault only where it failed.
-        ensures failed { IfErr result (λ failure. fault_in failure ≡ Fault.File Output
-            → WriterHasFailed W.gives W.flushes writer.old writer.new) }
+        ensures front { OnErr result (MaySay
+            (L.gives self.entry.openers.socket local self.entry.port) self.entry.port
+            (W.contents writer.old) (W.contents writer.new)) }
     {
         let ToServe {
             openers,
@@ -225,19 +216,20 @@ impl<'w, B: TextOpener, I: FileOpener, L: Listens, S: AsStr, R: Read + Drop, E: 
         ensures openers { IfOk result.1 (λ asked. asked.openers
             ≡ record { files = self.entry.files; socket = self.entry.socket }) }
         ensures unsaid { OnOk result.1 (writer.new ≡ writer.old) }
-        // It ends as the words ask, and nothing is written but a prefix of what they ask for.
+        // It ends as the words ask.
         ensures end { IfErr result.1 (IsEndOf (⟦<Files<B, I> as FilesView>⟧.view self.entry.files)
-            (L.gives self.entry.socket local) (R.remaining self.entry.reader)
-            (map S.text self.entry.words.now) (W.contents writer.old) (W.contents writer.new)) }
-        // What was written is its report, passed on where all was done; and the output is the fault only
-        // where it failed.
-        ensures output { IfErr result.1 (λ end. IsOutputOf W.contents W.gives W.flushes
-            (R.remaining self.entry.reader) (map S.text self.entry.words.now)
-            self.entry.files.image end writer.old writer.new) }
+            (L.gives self.entry.socket local) (map S.text self.entry.words.now)
+            (W.contents writer.old) (W.contents writer.new)) }
+        // What was written is its report, passed on where all was done.
+        ensures output { IfErr result.1 (λ end. IsOutputOf
+            (IsFlushed W.gives W.flushes writer.old writer.new)
+            (WriterHasFailed W.gives W.flushes writer.old writer.new)
+            (R.remaining self.entry.reader) (map S.text self.entry.words.now) end
+            (W.contents writer.old) (W.contents writer.new)) }
         // Only a replay reads: nothing was read of a group that is to be served.
-        ensures left { IsInputLeft R.remaining
-            (AskForRequest (map S.text self.entry.words.now) Replay) self.entry.files.image result.1
-            (uncalled self.entry.reader) result.0 }
+        ensures unread { OnOk result.1 (result.0 ≡ uncalled self.entry.reader) }
+        ensures left { IfErr result.1 (λ end.
+            IsInputLeft R.remaining end (uncalled self.entry.reader) result.0) }
         ensures quiet { IfErr result.1 (λ end. line_at_once end ≡ None) }
         // Of every reader and writer: what was written of a script is the report of the bytes that came.
         ensures script { IfErr result.1 (λ end. IsScriptEnd W.sent W.contents W.gives W.flushes []

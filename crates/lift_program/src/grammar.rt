@@ -1,9 +1,9 @@
 //! The grammar of the program's words: its commands and their arguments, and the text that lists
 //! them.
 
-ghost use Rattle.std.specs.Prelude.{◌≡◌, false, IfOk};
-ghost use Rattle.clap.specs.Words.{App, app_of, rule_of, with_subcommand};
-ghost use Rattle.lift_program.specs.Words.{liftd_app, bare_app, replay_app, format_app, show_app};
+ghost use Rattle.std.specs.Prelude.{◌≡◌, codes, false, IfOk};
+ghost use Rattle.clap.specs.Words.{App, app_of, new_app, rule_of, with_subcommand};
+ghost use Rattle.lift_program.specs.Words.{liftd_app, bare_app, format_app, show_app};
 ghost use Rattle.lift_program.specs.Words.{serve_app, word_rule, option_rule, flag_rule, IsCommand};
 
 use clap::{Arg, ArgAction, Command};
@@ -54,7 +54,7 @@ fn flag<'a>(alloc: Global, name: &'a str) -> Arg<'a>
 
 /// `replay`.
 fn replay_command<'a>(alloc: Global) -> Command<'a>
-    ensures { IsCommand replay_app result }
+    ensures { IsCommand (new_app (codes "replay")) result }
 {
     Command::new(alloc, "replay")
 }

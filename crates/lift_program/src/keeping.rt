@@ -1,6 +1,6 @@
 //! The keeper of an image, and how a group leaves that image.
 
-ghost use Rattle.std.specs.Prelude.{◌≡◌, [], IfOk, IfErr};
+ghost use Rattle.std.specs.Prelude.{◌≡◌, IfOk, IfErr};
 ghost use Rattle.lift_program.specs.Stages.{HasKeeperOf, IsServingKeeperFailure};
 
 use crate::at_once::AtOnce;
@@ -37,7 +37,6 @@ pub fn keeper_in<'b, I: FileOpener>(
 ) -> Result<Keeper<'b, BufferedFile<I::Told>>, Failure<BufferedFile<I::Told>, I::Told, I>>
     ensures opened { IfOk result
         (HasKeeperOf (⟦<I as ImageView>⟧.image opener) path.now building.now) }
-    ensures empty_batch { IfOk result (λ keeper. keeper.state.batch ≡ []) }
     ensures failure { IfErr result
         (IsServingKeeperFailure (⟦<I as ImageView>⟧.image opener) path.now building.now) }
 {

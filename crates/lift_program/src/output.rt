@@ -21,6 +21,7 @@ pub fn write_out<W: Outflow>(writer: &mut W, bytes: &[u8]) -> Result<(), Fault>
         × Appends (W.contents writer.old) (W.contents writer.new) (take n bytes.now)) }
     ensures fault { IfErr result (IsFileFault Output) }
     ensures passed_on { IsPassedOnOrFailed W.gives W.flushes writer.old writer.new result }
+    ensures failed { OnErr result (WriterHasFailed W.gives W.flushes writer.old writer.new) }
 {
     if put_all(writer, bytes).is_err() {
         return Err(Fault::File(Role::Output));

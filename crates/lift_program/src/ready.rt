@@ -2,11 +2,11 @@
 
 ghost use Rattle.std.specs.Prelude.{◌≡◌, Some, None, IfOk, IfErr, OnOk, OnErr};
 ghost use Rattle.std.specs.Io.KnownBytes.{Appends};
-ghost use Rattle.lift_program.specs.Ends.{IsFileFault, IsQuietUntil, IsReportOfFault, IsSocketHad};
-ghost use Rattle.lift_program.specs.Ends.{SaysPrefix, serving_text};
+ghost use Rattle.lift_program.specs.Ends.{IsFileFault, IsReportOfFailure, MaySay, serving_text};
 ghost use Rattle.lift_program.specs.Listening.{local};
 ghost use Rattle.lift_program.specs.Output.{IsFlushed, IsPassedOnOrFailed, WriterHasFailed};
 ghost use Rattle.lift_program.specs.Serving.{IsReadyOver};
+ghost use Rattle.lift_program.specs.Showing.{WritesFront};
 ghost use Rattle.lift_program.specs.Stages.{IsServingFailure, fault_in};
 ghost use Rattle.lift_program.specs.declared.fault.Role.TheVariants.{Output};
 
@@ -61,9 +61,10 @@ fn say<W: Outflow>(port: u16, writer: &mut W) -> Result<(), Fault>
     ensures said { OnOk result
         (Appends (W.contents writer.old) (W.contents writer.new) (serving_text port)) }
     ensures front { OnErr result
-        (SaysPrefix port (W.contents writer.old) (W.contents writer.new)) }
+        (WritesFront (W.contents writer.old) (W.contents writer.new) (serving_text port)) }
     ensures fault { IfErr result (IsFileFault Output) }
     ensures passed_on { IsPassedOnOrFailed W.gives W.flushes writer.old writer.new result }
+    ensures failed { OnErr result (WriterHasFailed W.gives W.flushes writer.old writer.new) }
 {
     let mut digits = Buffer::new();
     let mut line: ArrayString<64> = ArrayString::new();
@@ -89,7 +90,6 @@ fn listen_here<L: Listens>(socket: ForServing<L>, port: u16) -> Result<Listening
 /// the journal in the file `image`, until so many connections have ended. The building stands in
 /// `place`, and the desk in `room`. That the port is served is said after all that can be refused here.
 #[inline(never)]
-#[tactic(auto, using(crate::proofs::Stages::nothing_written, crate::proofs::Writing::nothing_said, crate::proofs::Writing::said_front))]
 pub(crate) fn ready_for<
     'd,
     'b: 'd,
@@ -125,15 +125,13 @@ pub(crate) fn ready_for<
     // Nothing was written to an image that isn't served.
     ensures failure { IfErr result (IsServingFailure
         (⟦<Files<B, I> as FilesView>⟧.view openers.files) image.now building.now) }
-    ensures report { IfErr result (λ failure.
-        IsReportOfFault (fault_in failure) (W.contents writer.old) (W.contents writer.new)) }
-    ensures front { SaysPrefix port (W.contents writer.old) (W.contents writer.new) }
-    // Nothing is said until the socket was had.
-    ensures quiet { IfErr result (λ failure. IsQuietUntil
-        (IsSocketHad (L.gives openers.socket local port)) failure (W.contents writer.old)
+    // Nothing was said of what can't be served, unless the output failed to say it.
+    ensures report { IfErr result (λ failure. IsReportOfFailure
+        (WriterHasFailed W.gives W.flushes writer.old writer.new) failure (W.contents writer.old)
         (W.contents writer.new)) }
-    ensures failed { IfErr result (λ failure. fault_in failure ≡ Fault.File Output
-        → WriterHasFailed W.gives W.flushes writer.old writer.new) }
+    // Nothing is said until the socket was had.
+    ensures front { OnErr result (MaySay (L.gives openers.socket local port) port
+        (W.contents writer.old) (W.contents writer.new)) }
 {
     let Openers { files, socket } = openers;
     let described = match building_in(files.building, alloc, building) {

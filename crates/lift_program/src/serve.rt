@@ -3,7 +3,7 @@
 ghost use Rattle.std.specs.Prelude.{◌≡◌, false};
 ghost use Rattle.lift_program.specs.Ends.{TellsLine, line_at_once_in};
 ghost use Rattle.lift_program.specs.Faults.{served_fault};
-ghost use Rattle.lift_program.specs.Serving.{IsServedBy, IsServedOver};
+ghost use Rattle.lift_program.specs.Serving.{IsServedOver};
 
 use crate::at_once::{AtOnce, FAILED};
 use crate::fault::Fault;

@@ -1,14 +1,14 @@
 //! The open calls of a group, begun again from its image.
 
-ghost use Rattle.std.specs.Prelude.{◌≡◌, ◌≢◌, ℕ, List, take, Ok, Err, IfOk, IfErr, OnOk, OnErr};
+ghost use Rattle.std.specs.Prelude.{◌≡◌, ◌≢◌, ◌⊎◌, Ok, Err, IfOk, IfErr, OnOk};
+ghost use Rattle.std.specs.Prelude.{OnErr};
 ghost use Rattle.std.specs.Io.KnownBytes.{Appends};
 ghost use Rattle.lift_keeper.specs.Reopening.{RefusesReopening};
 ghost use Rattle.lift_keeper.specs.declared.fault.KeeperFault.{KeeperFault as Refusal};
 ghost use Rattle.lift_replay.specs.Report.{register_text};
-ghost use Rattle.lift_program.specs.Ends.{IsFileFault, IsReportOfFault, IsShowingFault};
-ghost use Rattle.lift_program.specs.Ends.{IsQuietUntil, HasShowingFault};
+ghost use Rattle.lift_program.specs.Ends.{IsFileFault, IsReportOfFailure, IsShowingFault};
 ghost use Rattle.lift_program.specs.Output.{WriterHasFailed, IsFlushed, IsPassedOnOrFailed};
-ghost use Rattle.lift_program.specs.Showing.{IsShown, ShowsRegister, ShowsPrefix, ShowsPart};
+ghost use Rattle.lift_program.specs.Showing.{IsShown, ShowsRegister, ShowsPart, WritesFront};
 ghost use Rattle.lift_program.specs.Stages.{IsShowingFailure, fault_in};
 ghost use Rattle.lift_program.specs.declared.fault.Fault.TheVariants.{Journal as OfJournal};
 ghost use Rattle.lift_program.specs.declared.fault.Role.TheVariants.{Output};
@@ -30,11 +30,12 @@ use std::alloc::Global;
 fn write_rows<W: Outflow>(alloc: Global, register: &Register, writer: &mut W) -> Result<(), Fault>
     ensures written { OnOk result
         (Appends (W.contents writer.old) (W.contents writer.new) (register_text register.now)) }
-    ensures front { OnErr result ((n : ℕ)
-        × Appends (W.contents writer.old) (W.contents writer.new)
-        (take n (register_text register.now))) }
+    ensures front { OnErr result (WritesFront (W.contents writer.old) (W.contents writer.new)
+        (register_text register.now)) }
     ensures fault { IfErr result (IsFileFault Output) }
     ensures passed_on { IsPassedOnOrFailed W.gives W.flushes writer.old writer.new result }
+    ensures unwritten { OnErr result ((W.contents writer.new ≡ W.contents writer.old)
+        ⊎ WriterHasFailed W.gives W.flushes writer.old writer.new) }
 {
     let mut report = String::new(alloc);
     push_rows(&mut report, register)?;
@@ -50,19 +51,19 @@ fn show_on<D: Disk + Drop, W: Outflow>(
     writer: &mut W,
 ) -> (D, Result<(), Fault>)
     // What is written is exactly the lines of the register that the recovery gave,
-    ensures shown { OnOk result.1
-        (ShowsRegister building.now (D.state disk) (D.state result.0) (W.contents writer.old)
-        (W.contents writer.new)) }
+    ensures shown { OnOk result.1 (ShowsRegister building.now (D.state disk) (D.state result.0)
+        (Appends (W.contents writer.old) (W.contents writer.new))) }
     ensures flushed { OnOk result.1 (IsFlushed W.gives W.flushes writer.old writer.new) }
     // or a prefix of them, where they can't be written.
     ensures front { IfErr result.1 (λ fault. IsFileFault Output fault
-        → ShowsPrefix building.now (D.state disk) (D.state result.0) (W.contents writer.old)
-        (W.contents writer.new)) }
+        → ShowsRegister building.now (D.state disk) (D.state result.0)
+        (WritesFront (W.contents writer.old) (W.contents writer.new))) }
     // Where the recovery is refused its cause is answered, and nothing is written.
     ensures refused { (fault : Refusal) → result.1 ≡ Err (OfJournal fault)
         → RefusesReopening building.now (D.state disk) (D.state result.0) fault }
-    ensures unwritten { IfErr result.1 (λ fault.
-        IsReportOfFault fault (W.contents writer.old) (W.contents writer.new)) }
+    // Nothing is, unless the output fails, or that for want of memory.
+    ensures unwritten { IfErr result.1 (λ fault. (W.contents writer.new ≡ W.contents writer.old)
+        ⊎ (WriterHasFailed W.gives W.flushes writer.old writer.new × IsFileFault Output fault)) }
     ensures fault { IfErr result.1 IsShowingFault }
     ensures writes { (D.state result.0).writes ≡ (D.state disk).writes }
     // The standard output is the fault only where it failed.
@@ -81,7 +82,7 @@ fn show_on<D: Disk + Drop, W: Outflow>(
 /// Shows the open calls of the journal in the file `image`, which is of the building in the file
 /// `building`.
 #[inline(never)]
-#[tactic(auto, using(crate::proofs::Stages::no_image, crate::proofs::Stages::nothing_written))]
+#[tactic(auto, using(crate::proofs::Stages::reads_building))]
 pub fn show<B: TextOpener, I: FileOpener, W: Outflow>(
     files: Files<B, I>,
     alloc: Global,
@@ -92,18 +93,15 @@ pub fn show<B: TextOpener, I: FileOpener, W: Outflow>(
     ensures shown { IfOk result (λ disk. IsShown (⟦<Files<B, I> as FilesView>⟧.view files) image.now
         building.now disk (W.contents writer.old) (W.contents writer.new)) }
     ensures flushed { OnOk result (IsFlushed W.gives W.flushes writer.old writer.new) }
-    ensures only { ShowsPart (⟦<Files<B, I> as FilesView>⟧.view files) image.now building.now
-        (W.contents writer.old) (W.contents writer.new) }
+    ensures front { OnErr result (ShowsPart (⟦<Files<B, I> as FilesView>⟧.view files) image.now
+        building.now (W.contents writer.old) (W.contents writer.new)) }
     ensures failure { IfErr result
         (IsShowingFailure (⟦<Files<B, I> as FilesView>⟧.view files) image.now building.now) }
-    ensures showing { IfErr result HasShowingFault }
-    ensures report { IfErr result (λ failure.
-        IsReportOfFault (fault_in failure) (W.contents writer.old) (W.contents writer.new)) }
-    // Nothing is written until an image was had.
-    ensures quiet { IfErr result (λ failure. IsQuietUntil (Unit {0}) failure (W.contents writer.old)
+    ensures portless { IfErr result (λ failure. fault_in failure ≢ Fault.Network) }
+    // Nothing is written but the calls, and of these no prefix unless the output fails.
+    ensures report { IfErr result (λ failure. IsReportOfFailure
+        (WriterHasFailed W.gives W.flushes writer.old writer.new) failure (W.contents writer.old)
         (W.contents writer.new)) }
-    ensures failed { IfErr result (λ failure. fault_in failure ≡ Fault.File Output
-        → WriterHasFailed W.gives W.flushes writer.old writer.new) }
 {
     let building = match building_in(files.building, alloc, building) {
         Ok(building) => building,

@@ -1,12 +1,13 @@
 //! From the program's words to its end.
 
 ghost use Rattle.std.specs.Prelude.{ℕ, List, [], Option, map};
-ghost use Rattle.lift_program.specs.Ends.{IsEndOf, IsInputLeftAt, IsOutputOf, IsScriptEnd};
+ghost use Rattle.lift_program.specs.Ends.{IsEndOf, IsInputLeft, IsOutputOf, IsScriptEnd};
 ghost use Rattle.lift_program.specs.Ends.{IsServingEnd, KeepsIfServed, TellsLine, line_at_once};
 ghost use Rattle.lift_program.specs.Ends.{line_of, uncalled};
 ghost use Rattle.lift_program.specs.Listening.{local};
+ghost use Rattle.lift_program.specs.Output.{IsFlushed, WriterHasFailed};
 ghost use Rattle.lift_program.specs.Words.{AskForRequest};
-ghost use Rattle.lift_program.specs.declared.words.Request.TheVariants.{Replay, Serve};
+ghost use Rattle.lift_program.specs.declared.words.Request.TheVariants.{Serve};
 ghost use Rattle.clap.specs.Words.{Text};
 
 use crate::end::{End, EndBy};
@@ -41,15 +42,15 @@ fn served<
     writer: &mut W,
     errors: Watched<E>,
 ) -> (EndBy<I, I::Told>, Watched<E>)
-    ensures end { (input : Option (List ℕ)) → (words : List Text)
-        → AskForRequest words (Serve asked.entry.image asked.entry.building asked.entry.port
-        asked.entry.sessions asked.entry.policy)
+    ensures end { (words : List Text) → AskForRequest words (Serve asked.entry.image
+        asked.entry.building asked.entry.port asked.entry.sessions asked.entry.policy)
         → IsEndOf (⟦<Files<B, I> as FilesView>⟧.view asked.entry.openers.files)
-        (L.gives asked.entry.openers.socket local) input words (W.contents writer.old)
+        (L.gives asked.entry.openers.socket local) words (W.contents writer.old)
         (W.contents writer.new) result.0 }
     ensures output { (input : Option (List ℕ)) → (words : List Text)
-        → IsOutputOf W.contents W.gives W.flushes input words asked.entry.openers.files.image
-        result.0 writer.old writer.new }
+        → IsOutputOf (IsFlushed W.gives W.flushes writer.old writer.new)
+        (WriterHasFailed W.gives W.flushes writer.old writer.new) input words result.0
+        (W.contents writer.old) (W.contents writer.new) }
     // The line of a device that failed was written before the end, and no other.
     ensures at_once { TellsLine E.contents (line_at_once result.0) errors result.1 }
     ensures of_serving { IsServingEnd result.0 }
@@ -92,22 +93,22 @@ pub fn start<
 ) -> (EndBy<I, I::Told>, Watched<E>, Leftover<Counted<R>>)
     // It did what the words ask for, and nothing else.
     ensures end { IsEndOf (⟦<Files<B, I> as FilesView>⟧.view given.entry.files)
-        (L.gives given.entry.socket local) (R.remaining given.entry.reader)
-        (map S.text given.entry.words.now) (W.contents writer.old) (W.contents writer.new) result.0 }
+        (L.gives given.entry.socket local) (map S.text given.entry.words.now)
+        (W.contents writer.old) (W.contents writer.new) result.0 }
     // A group that was served has kept every letter over power cuts, if its file is an honest device.
     ensures keeps { KeepsIfServed (⟦<Files<B, I> as FilesView>⟧.view given.entry.files)
-        (map S.text given.entry.words.now) result.0 }
-    // What was written is its report, passed on where all was done; and the output is the fault only
-    // where it failed.
-    ensures output { IsOutputOf W.contents W.gives W.flushes (R.remaining given.entry.reader)
-        (map S.text given.entry.words.now) given.entry.files.image result.0 writer.old writer.new }
+        (L.gives given.entry.socket local) (map S.text given.entry.words.now) result.0 }
+    // What was written is its report, passed on where all was done; one that failed over an image has
+    // written nothing, or the output has failed.
+    ensures output { IsOutputOf (IsFlushed W.gives W.flushes writer.old writer.new)
+        (WriterHasFailed W.gives W.flushes writer.old writer.new) (R.remaining given.entry.reader)
+        (map S.text given.entry.words.now) result.0 (W.contents writer.old) (W.contents writer.new) }
     // Of every reader and writer: what the output took of a script is the report of the bytes that came
     // of the input, or a prefix of it.
     ensures script { IsScriptEnd W.sent W.contents W.gives W.flushes [] result.2.came writer.old
         writer.new result.0 }
     // Only a script is read, as far as its end says.
-    ensures input { IsInputLeftAt R.remaining (AskForRequest (map S.text given.entry.words.now) Replay)
-        given.entry.files.image result.0 (uncalled given.entry.reader) result.2 }
+    ensures input { IsInputLeft R.remaining result.0 (uncalled given.entry.reader) result.2 }
     // Its line was written, and nothing else.
     ensures line { TellsLine E.contents (line_of result.0) errors result.1 }
 {

@@ -36,3 +36,12 @@ returns-in-Err-clause-front g c = (
   length c.args.bytes.now,
   subst (Appends (g.W.Outflow.contents c.args.writer.now) (g.W.Outflow.contents c.pass_on.new.writer)) (sym (take-length c.args.bytes.now)) (search rules),
 )
+
+pub returns-then-is_err-clause-failed : goal.returns-then-is_err-clause-failed
+returns-then-is_err-clause-failed g c =
+    put_failed g.W.Outflow.gives g.W.Outflow.flushes c.args.bytes.now _ _ c.put_all.result (sym c.is_err.ensures.value ∙ c.if-is_err.true) c.put_all.ensures.within c.put_all.ensures.each_so_far
+
+pub returns-in-Err-clause-failed : goal.returns-in-Err-clause-failed
+returns-in-Err-clause-failed g c =
+    let taken = takes_put g.W.Outflow.gives c.args.bytes.now _ _ c.put_all.result (sym c.is_err.ensures.value ∙ c.if-is_err.false) c.put_all.ensures.each in
+    inr (c.put_all.new.writer, taken, c.in-Err.ensures.failed)

@@ -1,4 +1,4 @@
-use Rattle.std.proofs.Common.{◌≡◌, ◌∙◌, sym}
+use Rattle.std.proofs.Common.{◌∙◌, sym}
 use Rattle.lift_program.proofs.Flushing.{err_same, memory_no_file}
 use Rattle.lift_program.proofs.refused.text_in.Goals as goal
 

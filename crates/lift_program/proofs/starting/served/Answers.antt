@@ -1,4 +1,4 @@
-use Rattle.std.proofs.Common.{◌∙◌, ℕ, List, Option, Ok, Err, ap, subst, sym}
+use Rattle.std.proofs.Common.{◌∙◌, ℕ, Option, Ok, subst, sym}
 use Rattle.std.specs.Io.KnownBytes.{Appends}
 use Rattle.std.specs.declared.net.tcp.TcpListener.{TcpListener as Listener}
 use Rattle.lift_disk.specs.Below.{buffered_state_of}
@@ -11,7 +11,6 @@ use Rattle.lift_program.specs.Unwritten.{unwritten_state_of}
 use Rattle.lift_program.specs.declared.end.End.TheVariants.{Served}
 use Rattle.lift_program.specs.declared.words.Request.TheVariants.{Serve}
 use Rattle.lift_program.proofs.Asked.{asked_end, served_end}
-use Rattle.lift_program.proofs.Stages.{fault_there}
 use Rattle.lift_program.proofs.starting.served.Goals as goal
 
 pub returns-in-Ok-clause-end : goal.returns-in-Ok-clause-end
@@ -26,17 +25,15 @@ returns-in-Ok-clause-end g c =
     let before = g.W.Outflow.contents c.args.writer.now in
     let after = g.W.Outflow.contents c.made_ready.new.writer in
     let of = c.in-Ok.ready.group in
-    λ input words asks. asked_end files gives before after input words (Served (Ok c.serve-serving.result.0)) (Serve a.image a.building a.port a.sessions a.policy) asks
-    (served_end files gives before after a.image.now a.building.now a.port a.sessions a.policy of.allocator of.flusher of.bound c.serve-serving.result.0
-    c.in-Ok.ensures.ready (c.serve-serving.ensures.port ∙ c.in-Ok.ensures.port) c.serve-serving.ensures.served) c.made_ready.ensures.front
+    λ words asks. asked_end files gives before after words (Served (Ok c.serve-serving.result.0)) (Serve a.image a.building a.port a.sessions a.policy) asks
+    (served_end files gives before after a.image a.building a.port a.sessions a.policy of.allocator of.flusher of.bound c.serve-serving.result.0
+    c.in-Ok.ensures.ready (c.serve-serving.ensures.port ∙ c.in-Ok.ensures.port) c.serve-serving.ensures.served)
 
 pub returns-in-Ok-clause-output : goal.returns-in-Ok-clause-output
 returns-in-Ok-clause-output g c =
     let before = g.W.Outflow.contents c.args.writer.now in
     let after = g.W.Outflow.contents c.made_ready.new.writer in
-    λ input words. record {
-      report = subst (λ (p : ℕ). Appends before after (serving_text p)) (sym (c.serve-serving.ensures.port ∙ c.in-Ok.ensures.port)) c.in-Ok.ensures.said;
-      answered = λ same. absurd (let other = same in cc);
-      unwritten = λ same. absurd (let other = same in cc);
-      passed_on = c.in-Ok.ensures.flushed;
-    }
+    λ input words. (
+      c.in-Ok.ensures.flushed,
+      subst (λ (p : ℕ). Appends before after (serving_text p)) (sym (c.serve-serving.ensures.port ∙ c.in-Ok.ensures.port)) c.in-Ok.ensures.said,
+    )

@@ -1,16 +1,16 @@
-use Rattle.std.proofs.Common.{◌≡◌, ◌∙◌, ℕ, Option, map, refl, subst, sym}
-use Rattle.std.specs.declared.net.tcp.TcpListener.{TcpListener as Listener}
+use Rattle.std.proofs.Common.{map, refl, subst, sym}
 use Rattle.lift_disk.specs.Below.{buffered_state_of}
 use Rattle.lift_disk.specs.Files.{sector_file_state_of}
 use Rattle.lift_program.specs.Images.{CommandFiles, IsTextRead, image_files}
-use Rattle.lift_program.specs.Ends.{IsEndOf, IsInputLeftAt, IsOutputOf, IsScriptEnd, TellsLine, line_at_once, uncalled}
+use Rattle.lift_program.specs.Ends.{IsEndOf, IsOutputOf, TellsLine, line_at_once}
 use Rattle.lift_program.specs.Listening.{local}
+use Rattle.lift_program.specs.Output.{IsFlushed, WriterHasFailed}
 use Rattle.lift_program.specs.Stages.{IsNoText}
 use Rattle.lift_program.specs.Unwritten.{unwritten_state_of}
 use Rattle.lift_program.specs.declared.opening.Files.{Files}
 use Rattle.lift_program.specs.declared.opening.Openers.{Openers}
 use Rattle.lift_program.proofs.Asked.{end_keeps}
-use Rattle.lift_program.proofs.CarriedOut.{left_at, serving_no_script, serving_unread}
+use Rattle.lift_program.proofs.CarriedOut.{serving_no_script, serving_unread}
 use Rattle.lift_program.proofs.Telling.{told_once}
 use Rattle.lift_program.proofs.starting.start.Goals.{in-Ok, in-Err}
 use Rattle.lift_program.proofs.starting.start.Goals as goal
@@ -22,30 +22,28 @@ returns-clause-end g c =
       is_text = λ path. IsTextRead (g.B.TextOpener.opens f.building path) g.B.Text.Read.remaining;
       is_no_text = λ path. IsNoText (g.B.TextOpener.opens f.building path) g.B.Text.Read.remaining g.B.TextOpener.reads;
     } in
-    let input = g.R.Read.remaining c.args.given.reader in
     let words = map g.S.AsStr.text c.args.given.words.now in
     elim c.match-outcome.branch [
       | in-Ok w ↦ let openers = rw w.in-Ok.is at c.prepare-input.ensures.openers in
           let unsaid = rw w.in-Ok.is at c.prepare-input.ensures.unsaid in
           rw w.end-is (rw w.writer-is (subst
-          (λ (p : Openers g.row.B.Denot g.row.I.Denot g.row.L.Denot × g.row.W.Denot). IsEndOf (files p.0.files) (g.L.Listens.gives p.0.socket local) input words (g.W.Outflow.contents p.1) (g.W.Outflow.contents w.served.new.writer) w.served.result.0)
-          (λ i. (openers i, unsaid i)) (w.served.ensures.end input words (rw w.in-Ok.is at c.prepare-input.ensures.to_serve))))
+          (λ (p : Openers g.row.B.Denot g.row.I.Denot g.row.L.Denot × g.row.W.Denot). IsEndOf (files p.0.files) (g.L.Listens.gives p.0.socket local) words (g.W.Outflow.contents p.1) (g.W.Outflow.contents w.served.new.writer) w.served.result.0)
+          (λ i. (openers i, unsaid i)) (w.served.ensures.end words (rw w.in-Ok.is at c.prepare-input.ensures.to_serve))))
       | in-Err w ↦ rw w.end-is (rw w.writer-is (rw w.in-Err.is at c.prepare-input.ensures.end))
     ]
 
 pub returns-clause-keeps : goal.returns-clause-keeps
-returns-clause-keeps g c = end_keeps _ _ _ _ _ _ c.match-outcome.end.0 (returns-clause-end g c)
+returns-clause-keeps g c = end_keeps _ _ _ _ _ c.match-outcome.end.0 (returns-clause-end g c)
 
 pub returns-clause-output : goal.returns-clause-output
 returns-clause-output g c =
     let input = g.R.Read.remaining c.args.given.reader in
     let words = map g.S.AsStr.text c.args.given.words.now in
     elim c.match-outcome.branch [
-      | in-Ok w ↦ let openers = rw w.in-Ok.is at c.prepare-input.ensures.openers in
-          let unsaid = rw w.in-Ok.is at c.prepare-input.ensures.unsaid in
+      | in-Ok w ↦ let unsaid = rw w.in-Ok.is at c.prepare-input.ensures.unsaid in
           rw w.end-is (rw w.writer-is (subst
-          (λ (p : Openers g.row.B.Denot g.row.I.Denot g.row.L.Denot × g.row.W.Denot). IsOutputOf g.W.Outflow.contents g.W.Outflow.gives g.W.Outflow.flushes input words p.0.files.image w.served.result.0 p.1 w.served.new.writer)
-          (λ i. (openers i, unsaid i)) (w.served.ensures.output input words)))
+          (λ (d : g.row.W.Denot). IsOutputOf (IsFlushed g.W.Outflow.gives g.W.Outflow.flushes d w.served.new.writer) (WriterHasFailed g.W.Outflow.gives g.W.Outflow.flushes d w.served.new.writer) input words w.served.result.0 (g.W.Outflow.contents d) (g.W.Outflow.contents w.served.new.writer))
+          unsaid (w.served.ensures.output input words)))
       | in-Err w ↦ rw w.end-is (rw w.writer-is (rw w.in-Err.is at c.prepare-input.ensures.output))
     ]
 
@@ -59,8 +57,8 @@ returns-clause-script g c =
 pub returns-clause-input : goal.returns-clause-input
 returns-clause-input g c =
     elim c.match-outcome.branch [
-      | in-Ok w ↦ rw w.end-is (serving_unread _ _ _ _ _ w.served.result.0 w.served.ensures.of_serving (rw w.in-Ok.is at c.prepare-input.ensures.left).unwaiting)
-      | in-Err w ↦ rw w.end-is (left_at _ _ _ w.in-Err.end _ _ (rw w.in-Err.is at c.prepare-input.ensures.left))
+      | in-Ok w ↦ rw w.end-is (serving_unread _ _ _ w.served.result.0 w.served.ensures.of_serving (rw w.in-Ok.is at c.prepare-input.ensures.unread))
+      | in-Err w ↦ rw w.end-is (rw w.in-Err.is at c.prepare-input.ensures.left)
     ]
 
 pub returns-clause-line : goal.returns-clause-line
