@@ -75,9 +75,8 @@ pub record IsBody (number : ℕ) (batch : Batch) (sectors : Image) : Type 0 wher
 -- From their first sector on these hold the batches, the first of them with this number: each batch
 -- after an open gate, and a closed gate at the end.
 abbrev pub IsChain : List Batch → ℕ → Image → Type 0
-IsChain [] number [] = ⊥
+IsChain _ number [] = ⊥
 IsChain [] number (gate ∷ rest) = IsClosed gate
-IsChain (batch ∷ batches) number [] = ⊥
 IsChain (batch ∷ batches) number (gate ∷ rest) =
     IsOpen gate × IsBody number batch (take (size_of batch) rest)
     × IsChain batches (number + 1) (drop (size_of batch) rest)
