@@ -1,7 +1,7 @@
 -- Which batches an image holds. This looks at one image at rest.
 use Rattle.std.specs.Prelude.{◌≡◌, ◌<◌, ◌≤◌, ◌+◌, ◌-◌, ◌*◌, ℕ, suc, Bool, true, false}
 use Rattle.std.specs.Prelude.{if◌then◌else◌, ◌==◌, nat_lt, List, [], ◌∷◌, ◌++◌, length, take, drop}
-use Rattle.std.specs.Prelude.{replicate, slice_get, unwrap_or, All}
+use Rattle.std.specs.Prelude.{replicate, slice_get, unwrap_or, All, codes, None}
 use Rattle.std.specs.Int.{w32, to_be_bytes}
 use Rattle.std.specs.List.{concat, flat_map}
 use Rattle.lift_base.specs.declared.history.Record.{Record}
@@ -14,7 +14,7 @@ use Rattle.lift_record.specs.declared.version.Version.TheVariants.{One, Two}
 use Rattle.lift_record.specs.Version.{version_number}
 use Rattle.lift_record.specs.Record.{IsSayable, spelling_of}
 use Rattle.lift_record.specs.Header.{header_bytes}
-use Rattle.lift_journal.specs.Order.{AreRecordsInOrder, IsComplete}
+use Rattle.lift_journal.specs.Order.{IsInOrderAfter, MayEnd, last_record_after}
 
 -- the records that were written at once, and the version of their spelling
 pub record Batch : Type 0 where
@@ -107,8 +107,7 @@ start_of half image = if picks_second image then half + 2 else 2
 -- the name of the format, the numbers of floors, cars and kiosks, and the sectors of a half
 abbrev pub stamp_bytes : Shape → List ℕ
 stamp_bytes shape =
-    76 ∷ 73 ∷ 70 ∷ 84 ∷ 74 ∷ 82 ∷ 78 ∷ 76 ∷ shape.floors ∷ shape.cars ∷ shape.kiosks ∷ 0
-    ∷ to_be_bytes w32 shape.half
+    codes "LIFTJRNL" ++ shape.floors ∷ shape.cars ∷ shape.kiosks ∷ 0 ∷ to_be_bytes w32 shape.half
 
 -- a formatted image of this shape
 pub record IsStamped (shape : Shape) (image : Image) : Type 0 where
@@ -120,8 +119,8 @@ pub record IsStamped (shape : Shape) (image : Image) : Type 0 where
 -- none, and then entries
 pub record IsSound (batches : List Batch) : Type 0 where
   pub versions : NeverFall One batches
-  pub ordered : AreRecordsInOrder (records_of batches)
-  pub complete : IsComplete (records_of batches)
+  pub ordered : IsInOrderAfter None (records_of batches)
+  pub complete : MayEnd (last_record_after None (records_of batches))
 
 -- the image holds these batches
 pub record Holds (shape : Shape) (batches : List Batch) (image : Image) : Type 0 where

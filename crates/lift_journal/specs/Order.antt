@@ -30,20 +30,13 @@ abbrev pub IsInOrderAfter : Option Record → List Record → Type 0
 IsInOrderAfter last [] = Unit {0}
 IsInOrderAfter last (next ∷ rest) = MayFollow last next × IsInOrderAfter (Some next) rest
 
-abbrev pub AreRecordsInOrder : List Record → Type 0
-AreRecordsInOrder records = IsInOrderAfter None records
-
 -- the last of these records, or that one where there are none
 abbrev pub last_record_after : Option Record → List Record → Option Record
 last_record_after last [] = last
 last_record_after last (next ∷ rest) = last_record_after (Some next) rest
 
--- a chain may end after it: no checkpoint is begun
+-- a chain may end after it: a checkpoint that has begun has ended with its count of done calls
 abbrev pub MayEnd : Option Record → Type 0
 MayEnd (Some (Row row)) = ⊥
 MayEnd (Some (Last terminal last)) = ⊥
 MayEnd _ = Unit {0}
-
--- a checkpoint that has begun has ended with its count of done calls
-abbrev pub IsComplete : List Record → Type 0
-IsComplete records = MayEnd (last_record_after None records)

@@ -1,8 +1,8 @@
 //! The order of the records in a chain.
-ghost use Rattle.std.specs.Prelude.{◌≡◌, ◌↔◌, IsTrue, Some};
+ghost use Rattle.std.specs.Prelude.{◌≡◌, ◌↔◌, IsTrue, Some, None};
 ghost use Rattle.lift_base.specs.declared.history.Last.{Last as LastCommand};
 ghost use Rattle.lift_base.specs.declared.history.Record.TheVariants.{Row as RowRecord, Last as LastRecord};
-ghost use Rattle.lift_journal.specs.Order.{IsEntry, MayFollow, AreRecordsInOrder, IsInOrderAfter};
+ghost use Rattle.lift_journal.specs.Order.{IsEntry, MayFollow, IsInOrderAfter};
 ghost use Rattle.lift_journal.specs.Order.{last_record_after, MayEnd};
 
 use lift_base::{Record, Row, Terminal};
@@ -70,7 +70,7 @@ fn may_follow(last: &Option<Record>, next: &Record) -> bool
 /// Whether these records may stand in this order, whatever stands before them.
 #[inline(never)]
 fn is_in_order(records: &[Record]) -> bool
-    ensures { IsTrue result ↔ AreRecordsInOrder records.now }
+    ensures { IsTrue result ↔ IsInOrderAfter None records.now }
 {
     for k in 1..records.len() {
         if !may_come_next(&records[k - 1], &records[k]) {
