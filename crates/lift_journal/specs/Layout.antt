@@ -92,17 +92,13 @@ abbrev pub used : List Batch → ℕ
 used [] = 0
 used (batch ∷ batches) = suc (size_of batch + used batches)
 
--- the mark in sector 0 picks the second half, and any other byte the first
-abbrev pub picks_second : Image → Bool
-picks_second image = is_marked (sector_at image 0)
-
--- this half is picked
+-- this half is picked: the mark in sector 0 picks the second one, and any other byte the first
 abbrev pub Picks : Bool → Image → Type 0
-Picks is_in_second_half image = picks_second image ≡ is_in_second_half
+Picks is_in_second_half image = is_marked (sector_at image 0) ≡ is_in_second_half
 
 -- the first sector of the half that is picked
 abbrev pub start_of : ℕ → Image → ℕ
-start_of half image = if picks_second image then half + 2 else 2
+start_of half image = if is_marked (sector_at image 0) then half + 2 else 2
 
 -- the name of the format, the numbers of floors, cars and kiosks, and the sectors of a half
 abbrev pub stamp_bytes : Shape → List ℕ
