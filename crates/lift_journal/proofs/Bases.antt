@@ -10,7 +10,7 @@ use Rattle.lift_base.specs.declared.history.Row.{Row as CallRow}
 use Rattle.lift_register.specs.Register.{RegisterState, rows_of, last_of, cars, terminals}
 use Rattle.lift_register.specs.Base.{base_records, record_of_last, last_records}
 use Rattle.lift_register.specs.WellFormed.{IsWellFormed}
-use Rattle.lift_journal.specs.Order.{MayFollow, IsInOrderAfter, AreRecordsInOrder, last_record_after, MayEnd, IsComplete}
+use Rattle.lift_journal.specs.Order.{MayFollow, IsInOrderAfter, last_record_after, MayEnd}
 use Rattle.lift_journal.specs.lemmas.Orders.{order_join, last_join}
 
 -- an open call of this car, or of a later one, may follow
@@ -117,7 +117,7 @@ done_follows terminal (Some (Last other command)) count is = tt
 done_follows terminal (Some (Done other)) count is = absurd is
 
 order_of : (f : ℕ → List CallRow) (g : ℕ → Option LastCommand) (done : ℕ) → ((k : ℕ) → All (λ (row : CallRow). row.car ≡ k) (f k))
-    → AreRecordsInOrder ((map Row (flat_map f (range_with_len 0 16)) ++ flat_map (λ k. record_of_last k (g k)) (range_with_len 0 63)) ++ Done done ∷ [])
+    → IsInOrderAfter None ((map Row (flat_map f (range_with_len 0 16)) ++ flat_map (λ k. record_of_last k (g k)) (range_with_len 0 63)) ++ Done done ∷ [])
 order_of f g done own =
     let rows = map Row (flat_map f (range_with_len 0 16)) in
     let lasts = flat_map (λ k. record_of_last k (g k)) (range_with_len 0 63) in
@@ -127,11 +127,11 @@ order_of f g done own =
     let end = subst (BeforeTerminal 63) (sym (last_join None rows lasts)) second.1 in
     order_join None (rows ++ lasts) (Done done ∷ []) both (done_follows 63 (last_record_after None (rows ++ lasts)) done end, tt)
 
-pub base_in_order : (register : RegisterState) → IsWellFormed register → AreRecordsInOrder (base_records register)
+pub base_in_order : (register : RegisterState) → IsWellFormed register → IsInOrderAfter None (base_records register)
 unfolding cars terminals
 base_in_order register formed = order_of (rows_of register) (last_of register) register.done formed.own_cars
 
-pub base_complete : (register : RegisterState) → IsComplete (base_records register)
+pub base_complete : (register : RegisterState) → MayEnd (last_record_after None (base_records register))
 base_complete register =
     let front = map Row (flat_map (rows_of register) cars) ++ flat_map (last_records register) terminals in
     subst MayEnd (sym (last_join None front (Done register.done ∷ []))) tt

@@ -14,7 +14,7 @@ use Rattle.lift_record.specs.declared.version.Version.TheVariants.{One, Two}
 use Rattle.lift_record.specs.Version.{version_number}
 use Rattle.lift_disk.specs.Disk.{DiskState, Image, RunsOn, LooseWithin, TouchesOnly, IsSteadyAt, IsWhole}
 use Rattle.lift_disk.specs.lemmas.Moments.{runs_then, touches_then}
-use Rattle.lift_journal.specs.Order.{AreRecordsInOrder, IsComplete}
+use Rattle.lift_journal.specs.Order.{IsInOrderAfter, MayEnd, last_record_after}
 use Rattle.lift_journal.specs.Layout.{Batch, new_batch, body_size, size_of, used, NeverFall, IsSound, IsBody, is_marked, IsOpen, sector_at}
 use Rattle.lift_journal.specs.Steps.{overwritten, marked, IsInRange}
 use Rattle.lift_journal.specs.Walk.{AreFirstBatches, MayBeginChain, Reaches}
@@ -79,13 +79,13 @@ never_fall : (version : Version) (count : ℕ) (records : List Record) → versi
 never_fall version zero records low = tt
 never_fall version (suc count) records low = (low, never_fall Two count (drop 63 records) (omega arith))
 
-order_take : (count : ℕ) (records : List Record) → AreRecordsInOrder records → AreRecordsInOrder (take count records)
-order_take count records order = order_front None (take count records) (drop count records) (subst AreRecordsInOrder (sym (take-append-drop count records)) order)
+order_take : (count : ℕ) (records : List Record) → IsInOrderAfter None records → IsInOrderAfter None (take count records)
+order_take count records order = order_front None (take count records) (drop count records) (subst (IsInOrderAfter None) (sym (take-append-drop count records)) order)
 
-pub sound_front : (count : ℕ) (records : List Record) → AreRecordsInOrder records → MayBeginChain (in_batches count records)
+pub sound_front : (count : ℕ) (records : List Record) → IsInOrderAfter None records → MayBeginChain (in_batches count records)
 sound_front count records order = record {
   versions = never_fall One count records (omega arith);
-  ordered = subst AreRecordsInOrder (sym (records_in count records)) (order_take (63 * count) records order);
+  ordered = subst (IsInOrderAfter None) (sym (records_in count records)) (order_take (63 * count) records order);
 }
 
 pub checkpoint_sound : (register : RegisterState) → IsWellFormed register → IsSound (checkpoint_of (base_records register))
@@ -93,8 +93,8 @@ checkpoint_sound register formed =
     let records = base_records register in
     record {
       versions = never_fall One (batch_count (length records)) records (omega arith);
-      ordered = subst AreRecordsInOrder (sym (checkpoint_records records)) (base_in_order register formed);
-      complete = subst IsComplete (sym (checkpoint_records records)) (base_complete register);
+      ordered = subst (IsInOrderAfter None) (sym (checkpoint_records records)) (base_in_order register formed);
+      complete = subst (λ (rs : List Record). MayEnd (last_record_after None rs)) (sym (checkpoint_records records)) (base_complete register);
     }
 
 pub lawful_part : (from : ℕ) (records : List Record) → All IsRecord records → All IsLawful (take 63 (drop from records))
@@ -240,7 +240,7 @@ module _ (old now new : DiskState) (start gate count : ℕ) (records : List Reco
       touches_then (IsInRange start (start + 64)) old now new before (touched start (start + 64) (omega (arith, so_far.at)) room before.loose)
 
   pub drafted_more : (body : Image) → gate + 1 + length body < start + 64 → length body ≡ size_of (batch_at count records)
-      → IsBody (count + 1) (batch_at count records) body → AreRecordsInOrder records
+      → IsBody (count + 1) (batch_at count records) body → IsInOrderAfter None records
       → RunsOn now new → new.calls ≡ now.calls + (1 + length body) → new.writes ≡ now.writes + (1 + length body) → new.failures ≡ now.failures → NoneFails now new
       → body ≡ batch_body (count + 1) (batch_at count records) → new.trace ≡ now.trace ++ (writes_from (gate + 1) body ++ Write gate marked ∷ [])
       → ((low high : ℕ) → low ≤ gate → gate + 1 + length body ≤ high → LooseWithin (IsInRange low high) now → TouchesOnly (IsInRange low high) now new)

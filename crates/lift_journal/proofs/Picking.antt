@@ -5,7 +5,7 @@ use Rattle.lift_base.specs.declared.history.Shape.{Shape}
 use Rattle.lift_disk.specs.Disk.{DiskState, Image, ChangesWithin, IsFilled}
 use Rattle.lift_disk.specs.lemmas.History.{set_other}
 use Rattle.lift_disk.specs.lemmas.Moments.{changes_more, changes_nothing, changes_twice}
-use Rattle.lift_journal.specs.Layout.{Batch, is_marked, picks_second, Picks, start_of, IsSound, Holds, HoldsIn}
+use Rattle.lift_journal.specs.Layout.{Batch, is_marked, sector_at, Picks, start_of, IsSound, Holds, HoldsIn}
 use Rattle.lift_journal.specs.Failed.{FailsAtPick, IsFailedCheckpoint}
 use Rattle.lift_journal.specs.Steps.{IsInRange}
 use Rattle.lift_journal.specs.Switch.{HasWritten, MissesPick, IsFailedWriting}
@@ -73,7 +73,7 @@ module _ (shape : Shape) (is_in_second_half : Bool) (first second : List Batch) 
       → HoldsIn shape is_in_second_half first left ⊎ HoldsIn shape (not is_in_second_half) second left
   checkpoint_in left either =
       ⊎_elim (λ within. inl (drafting_in left within))
-      (λ written. ⊎_elim (λ same. inl (in_same left written same)) (λ other. inr (in_other left written other)) (either_half (picks_second left) is_in_second_half)) either
+      (λ written. ⊎_elim (λ same. inl (in_same left written same)) (λ other. inr (in_other left written other)) (either_half (is_marked (sector_at left 0)) is_in_second_half)) either
 
   module _ (new : DiskState) (made : ℕ) (pick : List ℕ) (picked : is_marked pick ≡ not is_in_second_half) (safe : Image) (written : HasWritten start (start + shape.half) second old.image safe)
       (kept : slice_get safe 0 ≡ slice_get old.image 0) (missed : MissesPick made pick safe old new) where
@@ -97,7 +97,7 @@ module _ (shape : Shape) (is_in_second_half : Bool) (first second : List Batch) 
         (changes_twice (λ i. i ≡ 0) safe new.image left new_changes
         (changes_more new.is_loose (λ i. i ≡ 0) new.image left missed.others (record { size = filled.size; others = filled.others })))
 
-    filled_picks : (byte : ℕ) (left : Image) → IsFilled byte new left → picks_second left ≡ (byte == 165)
+    filled_picks : (byte : ℕ) (left : Image) → IsFilled byte new left → is_marked (sector_at left 0) ≡ (byte == 165)
     filled_picks byte left filled =
         ap (λ o. is_marked (unwrap_or o [])) (filled.loose 0 (omega (arith, inside, new_changes.size)) missed.loose) ∙ mark_of byte
 

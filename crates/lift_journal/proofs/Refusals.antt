@@ -9,7 +9,7 @@ use Rattle.lift_journal.specs.declared.fault.JournalFault.{JournalFault}
 use Rattle.lift_journal.specs.declared.fault.JournalFault.TheVariants.{Disk, NotFormatted, Damaged, Full, Broken}
 use Rattle.lift_journal.specs.Layout.{Batch, records_of, size_of, IsBody, IsChain, IsSound, used, sector_at, start_of, Holds}
 use Rattle.lift_base.specs.declared.history.Record.{Record}
-use Rattle.lift_journal.specs.Order.{AreRecordsInOrder, IsComplete}
+use Rattle.lift_journal.specs.Order.{IsInOrderAfter, MayEnd, last_record_after}
 use Rattle.lift_journal.specs.Opening.{RefusedFor, FixesImage}
 use Rattle.lift_journal.specs.Answers.{RefusesAt}
 use Rattle.lift_journal.specs.RefusedOpening.{RefusedAfter}
@@ -52,7 +52,7 @@ records_append (batch ∷ batches) more =
 front_of : (batches more : List Batch) → IsSound (batches ++ more) → MayBeginChain batches
 front_of batches more sound = record {
   versions = fall_front One batches more sound.versions;
-  ordered = order_front None (records_of batches) (records_of more) (subst AreRecordsInOrder (records_append batches more) sound.ordered);
+  ordered = order_front None (records_of batches) (records_of more) (subst (IsInOrderAfter None) (records_append batches more) sound.ordered);
 }
 
 module _ (image : Image) (start end gate : ℕ) (batches : List Batch) (whole : end ≤ length image) (chain : IsChain batches 1 (take (end - start) (drop start image))) (sound : IsSound batches) (damaged : IsDamagedAt image start end gate) where
@@ -63,7 +63,7 @@ module _ (image : Image) (start end gate : ℕ) (batches : List Batch) (whole : 
       → IsChain rest (1 + length damaged.batches) (sector_at image gate ∷ take (end - start - used damaged.batches - 1) (drop (gate + 1) image)) → ⊥
   refuted [] joined closed =
       ⊎_elim (λ open_here. cc (closed, open_here.0))
-      (λ ended. ended.1 (subst (λ (bs : List Batch). IsComplete (records_of bs)) (joined ∙ append-nil damaged.batches) sound.complete)) damaged.broken
+      (λ ended. ended.1 (subst (λ (bs : List Batch). MayEnd (last_record_after None (records_of bs))) (joined ∙ append-nil damaged.batches) sound.complete)) damaged.broken
   refuted (batch ∷ rest) joined next =
       let n = size_of batch in
       let m = end - start - used damaged.batches - 1 in

@@ -6,7 +6,7 @@ use Rattle.lift_base.specs.declared.history.Shape.{Shape}
 use Rattle.lift_disk.specs.Disk.{DiskState, Image, ChangesWithin, LeavesNow, LeavesNoOther, LeavesOnly, IsSynced, TouchesOnly}
 use Rattle.lift_disk.specs.lemmas.Moments.{leaves_weaker, leaves_none, changes_nothing}
 use Rattle.lift_journal.specs.Order.{IsEntry, IsOfBase}
-use Rattle.lift_journal.specs.Layout.{Batch, new_batch, records_of, size_of, IsBody, is_marked, picks_second, Picks, start_of, Holds, HoldsIn, used}
+use Rattle.lift_journal.specs.Layout.{Batch, new_batch, records_of, size_of, IsBody, is_marked, sector_at, Picks, start_of, Holds, HoldsIn, used}
 use Rattle.lift_journal.specs.Steps.{IsInRange, IsReady, HoldsSafely, ReadsOnly}
 use Rattle.lift_journal.specs.declared.place.Place.{Place}
 use Rattle.lift_journal.specs.Journal.{ReadsAs, StandsFor, HasNextPlace, StandsAt, IsJournal, JournalView, JournalHolds}
@@ -28,7 +28,7 @@ second_is half start false some is = ap (nat_lt 2) is
 
 pub stands_in : (shape : Shape) (start gate number : ℕ) (disk : DiskState) → StandsAt shape start gate number disk → Picks (nat_lt 2 start) disk.image
 stands_in shape start gate number disk at =
-    sym (second_is shape.half start (picks_second disk.image) (omega (arith, at.holds.stamped.within.half.0)) at.starts)
+    sym (second_is shape.half start (is_marked (sector_at disk.image 0)) (omega (arith, at.holds.stamped.within.half.0)) at.starts)
 
 -- what a caller sees of a journal that stands there
 pub stands_seen : {D : Type 0} (state : D → DiskState) (device : D) (shape : Shape) (start gate number : ℕ) (is_broken : Bool) (failures_at_opening : ℕ) (stands : StandsAt shape start gate number (state device))

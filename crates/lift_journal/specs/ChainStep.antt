@@ -4,7 +4,7 @@ use Rattle.lift_record.specs.Version.{version_number}
 use Rattle.lift_journal.specs.declared.batch.Stored.{Stored}
 use Rattle.lift_journal.specs.declared.fault.JournalFault.{JournalFault}
 use Rattle.lift_journal.specs.declared.fault.JournalFault.TheVariants.{Disk, NotFormatted, Damaged}
-use Rattle.lift_journal.specs.declared.fault.JournalFault.TheVariants.{Full, Broken}
+use Rattle.lift_journal.specs.declared.fault.JournalFault.TheVariants.{Full}
 use Rattle.lift_journal.specs.declared.walk.Front.{Front}
 use Rattle.lift_journal.specs.Layout.{body_size}
 use Rattle.lift_journal.specs.Order.{IsInOrderAfter, last_record_after}
@@ -27,23 +27,17 @@ passed front stored = record {
 -- a fault that a walk along a chain may end with
 abbrev pub IsOfChain : JournalFault → Type 0
 IsOfChain Disk = Unit {0}
-IsOfChain NotFormatted = ⊥
 IsOfChain (Damaged sector) = Unit {0}
-IsOfChain Full = ⊥
-IsOfChain Broken = ⊥
+IsOfChain _ = ⊥
 
 -- a fault that the reading of a stamp may end with
 abbrev pub IsOfStamp : JournalFault → Type 0
 IsOfStamp Disk = Unit {0}
 IsOfStamp NotFormatted = Unit {0}
-IsOfStamp (Damaged sector) = ⊥
-IsOfStamp Full = ⊥
-IsOfStamp Broken = ⊥
+IsOfStamp _ = ⊥
 
 -- a fault that the reading of one batch more may end with
 abbrev pub IsOfCursor : JournalFault → Type 0
-IsOfCursor Disk = Unit {0}
 IsOfCursor NotFormatted = ⊥
-IsOfCursor (Damaged sector) = Unit {0}
 IsOfCursor Full = ⊥
-IsOfCursor Broken = Unit {0}
+IsOfCursor _ = Unit {0}

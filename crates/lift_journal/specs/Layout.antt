@@ -1,7 +1,7 @@
 -- Which batches an image holds. This looks at one image at rest.
 use Rattle.std.specs.Prelude.{◌≡◌, ◌<◌, ◌≤◌, ◌+◌, ◌-◌, ◌*◌, ℕ, suc, Bool, true, false}
 use Rattle.std.specs.Prelude.{if◌then◌else◌, ◌==◌, nat_lt, List, [], ◌∷◌, ◌++◌, length, take, drop}
-use Rattle.std.specs.Prelude.{replicate, slice_get, unwrap_or, All}
+use Rattle.std.specs.Prelude.{replicate, slice_get, unwrap_or, All, codes, None}
 use Rattle.std.specs.Int.{w32, to_be_bytes}
 use Rattle.std.specs.List.{concat, flat_map}
 use Rattle.lift_base.specs.declared.history.Record.{Record}
@@ -14,7 +14,7 @@ use Rattle.lift_record.specs.declared.version.Version.TheVariants.{One, Two}
 use Rattle.lift_record.specs.Version.{version_number}
 use Rattle.lift_record.specs.Record.{IsSayable, spelling_of}
 use Rattle.lift_record.specs.Header.{header_bytes}
-use Rattle.lift_journal.specs.Order.{AreRecordsInOrder, IsComplete}
+use Rattle.lift_journal.specs.Order.{IsInOrderAfter, MayEnd, last_record_after}
 
 -- the records that were written at once, and the version of their spelling
 pub record Batch : Type 0 where
@@ -75,9 +75,8 @@ pub record IsBody (number : ℕ) (batch : Batch) (sectors : Image) : Type 0 wher
 -- From their first sector on these hold the batches, the first of them with this number: each batch
 -- after an open gate, and a closed gate at the end.
 abbrev pub IsChain : List Batch → ℕ → Image → Type 0
-IsChain [] number [] = ⊥
+IsChain _ number [] = ⊥
 IsChain [] number (gate ∷ rest) = IsClosed gate
-IsChain (batch ∷ batches) number [] = ⊥
 IsChain (batch ∷ batches) number (gate ∷ rest) =
     IsOpen gate × IsBody number batch (take (size_of batch) rest)
     × IsChain batches (number + 1) (drop (size_of batch) rest)
@@ -93,23 +92,18 @@ abbrev pub used : List Batch → ℕ
 used [] = 0
 used (batch ∷ batches) = suc (size_of batch + used batches)
 
--- the mark in sector 0 picks the second half, and any other byte the first
-abbrev pub picks_second : Image → Bool
-picks_second image = is_marked (sector_at image 0)
-
--- this half is picked
+-- this half is picked: the mark in sector 0 picks the second one, and any other byte the first
 abbrev pub Picks : Bool → Image → Type 0
-Picks is_in_second_half image = picks_second image ≡ is_in_second_half
+Picks is_in_second_half image = is_marked (sector_at image 0) ≡ is_in_second_half
 
 -- the first sector of the half that is picked
 abbrev pub start_of : ℕ → Image → ℕ
-start_of half image = if picks_second image then half + 2 else 2
+start_of half image = if is_marked (sector_at image 0) then half + 2 else 2
 
 -- the name of the format, the numbers of floors, cars and kiosks, and the sectors of a half
 abbrev pub stamp_bytes : Shape → List ℕ
 stamp_bytes shape =
-    76 ∷ 73 ∷ 70 ∷ 84 ∷ 74 ∷ 82 ∷ 78 ∷ 76 ∷ shape.floors ∷ shape.cars ∷ shape.kiosks ∷ 0
-    ∷ to_be_bytes w32 shape.half
+    codes "LIFTJRNL" ++ shape.floors ∷ shape.cars ∷ shape.kiosks ∷ 0 ∷ to_be_bytes w32 shape.half
 
 -- a formatted image of this shape
 pub record IsStamped (shape : Shape) (image : Image) : Type 0 where
@@ -121,8 +115,8 @@ pub record IsStamped (shape : Shape) (image : Image) : Type 0 where
 -- none, and then entries
 pub record IsSound (batches : List Batch) : Type 0 where
   pub versions : NeverFall One batches
-  pub ordered : AreRecordsInOrder (records_of batches)
-  pub complete : IsComplete (records_of batches)
+  pub ordered : IsInOrderAfter None (records_of batches)
+  pub complete : MayEnd (last_record_after None (records_of batches))
 
 -- the image holds these batches
 pub record Holds (shape : Shape) (batches : List Batch) (image : Image) : Type 0 where

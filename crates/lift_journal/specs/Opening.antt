@@ -6,7 +6,6 @@ use Rattle.lift_disk.specs.Disk.{DiskState, MayLeave, IsSynced, KeepsImage, Leav
 use Rattle.lift_disk.specs.Disk.{RunsOn}
 use Rattle.lift_journal.specs.declared.fault.JournalFault.{JournalFault}
 use Rattle.lift_journal.specs.declared.fault.JournalFault.TheVariants.{Disk, NotFormatted, Damaged}
-use Rattle.lift_journal.specs.declared.fault.JournalFault.TheVariants.{Full, Broken}
 use Rattle.lift_journal.specs.Layout.{Batch, records_of, Holds, IsStamped, start_of, used}
 use Rattle.lift_journal.specs.Walk.{IsDamagedAt}
 use Rattle.lift_journal.specs.Steps.{SavesAsRead}
@@ -50,8 +49,7 @@ RefusedFor (Damaged sector) old new = (new.failures ≡ old.failures)
     × IsStamped shape new.image
     × IsDamagedAt new.image (start_of shape.half new.image)
     (start_of shape.half new.image + shape.half) sector)
-RefusedFor Full old new = ⊥
-RefusedFor Broken old new = ⊥
+RefusedFor _ old new = ⊥
 
 -- Nothing is in doubt any more: from now on every crash leaves what is read, and that is what one
 -- before might have left.

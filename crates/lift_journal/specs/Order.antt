@@ -8,60 +8,35 @@ use Rattle.lift_base.specs.declared.history.Record.TheVariants.{Entry, Row, Last
 -- an accepted command
 abbrev pub IsEntry : Record → Type 0
 IsEntry (Entry entry) = Unit {0}
-IsEntry (Row row) = ⊥
-IsEntry (Last terminal last) = ⊥
-IsEntry (Done count) = ⊥
+IsEntry _ = ⊥
 
 -- a part of a checkpoint
 abbrev pub IsOfBase : Record → Type 0
 IsOfBase (Entry entry) = ⊥
-IsOfBase (Row row) = Unit {0}
-IsOfBase (Last terminal last) = Unit {0}
-IsOfBase (Done count) = Unit {0}
-
--- after an open call of a checkpoint
-abbrev pub MayFollowRow : ℕ → Record → Type 0
-MayFollowRow car (Entry entry) = ⊥
-MayFollowRow car (Row row) = car ≤ row.car
-MayFollowRow car (Last terminal last) = Unit {0}
-MayFollowRow car (Done count) = Unit {0}
-
--- after the last command of a terminal
-abbrev pub MayFollowLast : ℕ → Record → Type 0
-MayFollowLast terminal (Entry entry) = ⊥
-MayFollowLast terminal (Row row) = ⊥
-MayFollowLast terminal (Last other last) = terminal < other
-MayFollowLast terminal (Done count) = Unit {0}
+IsOfBase _ = Unit {0}
 
 -- the record may stand right after that one; any may stand first
 abbrev pub MayFollow : Option Record → Record → Type 0
 MayFollow None next = Unit {0}
-MayFollow (Some (Entry entry)) next = IsEntry next
-MayFollow (Some (Row row)) next = MayFollowRow row.car next
-MayFollow (Some (Last terminal last)) next = MayFollowLast terminal next
-MayFollow (Some (Done count)) next = IsEntry next
+MayFollow (Some (Row row)) (Row next) = row.car ≤ next.car
+MayFollow (Some (Row row)) next = IsOfBase next
+MayFollow (Some (Last terminal last)) (Last other next) = terminal < other
+MayFollow (Some (Last terminal last)) (Done count) = Unit {0}
+MayFollow (Some (Last terminal last)) _ = ⊥
+MayFollow (Some _) next = IsEntry next
 
 -- the records may stand in this order after that one
 abbrev pub IsInOrderAfter : Option Record → List Record → Type 0
 IsInOrderAfter last [] = Unit {0}
 IsInOrderAfter last (next ∷ rest) = MayFollow last next × IsInOrderAfter (Some next) rest
 
-abbrev pub AreRecordsInOrder : List Record → Type 0
-AreRecordsInOrder records = IsInOrderAfter None records
-
 -- the last of these records, or that one where there are none
 abbrev pub last_record_after : Option Record → List Record → Option Record
 last_record_after last [] = last
 last_record_after last (next ∷ rest) = last_record_after (Some next) rest
 
--- a chain may end after it: no checkpoint is begun
+-- a chain may end after it: a checkpoint that has begun has ended with its count of done calls
 abbrev pub MayEnd : Option Record → Type 0
-MayEnd None = Unit {0}
-MayEnd (Some (Entry entry)) = Unit {0}
 MayEnd (Some (Row row)) = ⊥
 MayEnd (Some (Last terminal last)) = ⊥
-MayEnd (Some (Done count)) = Unit {0}
-
--- a checkpoint that has begun has ended with its count of done calls
-abbrev pub IsComplete : List Record → Type 0
-IsComplete records = MayEnd (last_record_after None records)
+MayEnd _ = Unit {0}

@@ -7,7 +7,6 @@ use Rattle.lift_disk.specs.Trace.{Access}
 use Rattle.lift_disk.specs.Trace.Access.{Read, Sync}
 use Rattle.lift_journal.specs.declared.fault.JournalFault.{JournalFault}
 use Rattle.lift_journal.specs.declared.fault.JournalFault.TheVariants.{Disk, NotFormatted, Damaged}
-use Rattle.lift_journal.specs.declared.fault.JournalFault.TheVariants.{Full, Broken}
 use Rattle.lift_journal.specs.Layout.{Batch}
 use Rattle.lift_journal.specs.Walk.{Reaches, IsDamagedAt}
 use Rattle.lift_journal.specs.Calls.{reads_from, MakesPrefix}
@@ -48,11 +47,9 @@ abbrev pub EndsIn : JournalFault → List Access → ℕ → ℕ → Type 0 → 
     → Type 0
 EndsIn Disk before start end is_known image old new =
     FailsInHalf before start end is_known image old new
-EndsIn NotFormatted before start end is_known image old new = ⊥
 EndsIn (Damaged sector) before start end is_known image old new =
     FindsIn sector before start end is_known image old new
-EndsIn Full before start end is_known image old new = ⊥
-EndsIn Broken before start end is_known image old new = ⊥
+EndsIn _ before start end is_known image old new = ⊥
 
 -- the same of one of the halves
 abbrev pub EndsInHalf : JournalFault → List Access → Type 0 → Image → DiskState → DiskState → Type 0
@@ -64,9 +61,7 @@ abbrev pub StampAfter : JournalFault → DiskState → DiskState → Type 0
 StampAfter Disk old new = new.trace ≡ old.trace
 StampAfter NotFormatted old new = (old.size < 2) × (new.trace ≡ old.trace)
     ⊎ (2 ≤ old.size) × (new.trace ≡ old.trace ++ Read 1 ∷ [])
-StampAfter (Damaged sector) old new = ⊥
-StampAfter Full old new = ⊥
-StampAfter Broken old new = ⊥
+StampAfter _ old new = ⊥
 
 -- Which calls an opening has made that was refused: the sync, the stamp and the pick, and then a
 -- half up to the sector that refuses it, each of them as far as it came.
@@ -78,5 +73,4 @@ RefusedAfter NotFormatted old new =
     ⊎ (2 ≤ old.size) × (new.trace ≡ old.trace ++ Sync ∷ Read 1 ∷ [])
 RefusedAfter (Damaged sector) old new =
     EndsInHalf (Damaged sector) (Sync ∷ Read 1 ∷ Read 0 ∷ []) old.is_honest new.image old new
-RefusedAfter Full old new = ⊥
-RefusedAfter Broken old new = ⊥
+RefusedAfter _ old new = ⊥

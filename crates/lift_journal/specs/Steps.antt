@@ -4,8 +4,7 @@ use Rattle.std.specs.Prelude.{Result, OnOk, OnErr, IfErr}
 use Rattle.lift_base.specs.declared.history.Shape.{Shape}
 use Rattle.lift_disk.specs.Disk.{DiskState, Image, IsSynced, KeepsImage, RunsOn, TouchesOnly}
 use Rattle.lift_journal.specs.declared.fault.JournalFault.{JournalFault}
-use Rattle.lift_journal.specs.declared.fault.JournalFault.TheVariants.{Disk, NotFormatted, Damaged}
-use Rattle.lift_journal.specs.declared.fault.JournalFault.TheVariants.{Full, Broken}
+use Rattle.lift_journal.specs.declared.fault.JournalFault.TheVariants.{Disk}
 use Rattle.lift_journal.specs.Layout.{Batch, filled, Holds, IsBody, size_of, used, start_of}
 use Rattle.lift_journal.specs.Layout.{IsSound}
 use Rattle.lift_journal.specs.Told.{NoneFails, LastFails}
@@ -76,10 +75,7 @@ pub record Looks {T E : Type 0} (result : Result T E) (old new : DiskState) : Ty
 -- the cause of a fault: a call that failed, and without one nothing has changed
 abbrev pub HasItsCause : JournalFault → DiskState → DiskState → Type 0
 HasItsCause Disk old new = HasFailed old new
-HasItsCause NotFormatted old new = ReadsWell old new
-HasItsCause (Damaged sector) old new = ReadsWell old new
-HasItsCause Full old new = ReadsWell old new
-HasItsCause Broken old new = ReadsWell old new
+HasItsCause _ old new = ReadsWell old new
 
 -- calls that write nothing, and what they have found
 pub record Examines {T : Type 0} (result : Result T JournalFault)

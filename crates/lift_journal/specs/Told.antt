@@ -3,8 +3,7 @@
 use Rattle.std.specs.Prelude.{◌≡◌, ◌⊎◌, ◌<◌, ◌≤◌, ℕ, true, Result, OnOk, OnErr, IfErr}
 use Rattle.lift_disk.specs.Disk.{DiskState}
 use Rattle.lift_journal.specs.declared.fault.JournalFault.{JournalFault}
-use Rattle.lift_journal.specs.declared.fault.JournalFault.TheVariants.{Disk, NotFormatted, Damaged}
-use Rattle.lift_journal.specs.declared.fault.JournalFault.TheVariants.{Full, Broken}
+use Rattle.lift_journal.specs.declared.fault.JournalFault.TheVariants.{Disk}
 
 -- no call of the run failed: none was told to, and none ran out of memory
 pub record NoneFails (old new : DiskState) : Type 0 where
@@ -29,10 +28,7 @@ pub record EndsAtFirstFailure {T E : Type 0} (result : Result T E) (old new : Di
 -- the same by the fault that is answered: it is of the device just where a call failed
 abbrev pub FailsBy : JournalFault → DiskState → DiskState → Type 0
 FailsBy Disk old new = LastFails old new
-FailsBy NotFormatted old new = NoneFails old new
-FailsBy (Damaged sector) old new = NoneFails old new
-FailsBy Full old new = NoneFails old new
-FailsBy Broken old new = NoneFails old new
+FailsBy _ old new = NoneFails old new
 
 -- a call of the journal, whose run stops at the first call of the device that fails
 pub record AnswersAsTold {T : Type 0} (result : Result T JournalFault)

@@ -7,7 +7,6 @@ use Rattle.lift_disk.specs.Trace.{Access}
 use Rattle.lift_disk.specs.Trace.Access.{Read, Sync}
 use Rattle.lift_journal.specs.declared.fault.JournalFault.{JournalFault}
 use Rattle.lift_journal.specs.declared.fault.JournalFault.TheVariants.{Disk, NotFormatted, Damaged}
-use Rattle.lift_journal.specs.declared.fault.JournalFault.TheVariants.{Full, Broken}
 use Rattle.lift_journal.specs.Layout.{Batch, size_of, used, start_of, IsStamped}
 use Rattle.lift_journal.specs.Walk.{MayBeginChain, IsBatchAt, Reaches}
 use Rattle.lift_journal.specs.Calls.{reads_from, MakesPrefix}
@@ -50,12 +49,10 @@ abbrev pub TakesBefore : {V : Type 0} → (V → List Record → V → Type 0) �
     → ℕ → ℕ → Image → DiskState → DiskState → V → V → Type 0
 TakesBefore takes Disk before start end image was is old new =
     TakesAllRead takes before start end image was is old new
-TakesBefore takes NotFormatted before start end image was is old new = ⊥
 TakesBefore takes (Damaged sector) before start end image was is old new =
     (batches : List Batch) × Reaches image start end sector batches
     × TakesAll takes old batches new
-TakesBefore takes Full before start end image was is old new = ⊥
-TakesBefore takes Broken before start end image was is old new = ⊥
+TakesBefore takes _ before start end image was is old new = ⊥
 
 -- the same of the half that is picked
 abbrev pub TakesInHalf : {V : Type 0} → (V → List Record → V → Type 0) → JournalFault → DiskState
@@ -74,5 +71,4 @@ ShownBefore takes Disk was is old new =
 ShownBefore takes NotFormatted was is old new = new ≡ old
 ShownBefore takes (Damaged sector) was is old new =
     TakesInHalf takes (Damaged sector) was is old new
-ShownBefore takes Full was is old new = ⊥
-ShownBefore takes Broken was is old new = ⊥
+ShownBefore takes _ was is old new = ⊥

@@ -1,9 +1,10 @@
 -- The front of a chain, and where one is damaged.
 use Rattle.std.specs.Prelude.{◌≡◌, ◌⊎◌, ◌<◌, ◌+◌, ◌-◌, ◌++◌, ℕ, List, [], ◌∷◌, length, take, drop}
+use Rattle.std.specs.Prelude.{None}
 use Rattle.lift_record.specs.declared.version.Version.{Version}
 use Rattle.lift_record.specs.declared.version.Version.TheVariants.{One}
 use Rattle.lift_disk.specs.Disk.{Image}
-use Rattle.lift_journal.specs.Order.{AreRecordsInOrder, IsComplete}
+use Rattle.lift_journal.specs.Order.{IsInOrderAfter, MayEnd, last_record_after}
 use Rattle.lift_journal.specs.Layout.{Batch, records_of, sector_at, IsOpen, IsClosed, size_of}
 use Rattle.lift_journal.specs.Layout.{IsBody, IsChain, IsSound, NeverFall, used}
 
@@ -24,7 +25,7 @@ pub record IsBatchAt (image : Image) (gate end number : ℕ) (batch : Batch) : T
 -- these batches may begin a chain
 pub record MayBeginChain (batches : List Batch) : Type 0 where
   pub versions : NeverFall One batches
-  pub ordered : AreRecordsInOrder (records_of batches)
+  pub ordered : IsInOrderAfter None (records_of batches)
 
 -- the version of the last of these batches, or that one where there are none
 abbrev pub version_after : Version → List Batch → Version
@@ -46,7 +47,8 @@ pub record IsDamagedAt (image : Image) (start end gate : ℕ) : Type 0 where
   pub broken : (IsOpen (sector_at image gate)
       × ((batch : Batch) → IsBatchAt image gate end (1 + length batches) batch
       → ¬ MayBeginChain (batches ++ batch ∷ [])))
-      ⊎ (IsClosed (sector_at image gate) × ¬ IsComplete (records_of batches))
+      ⊎ (IsClosed (sector_at image gate)
+      × ¬ MayEnd (last_record_after None (records_of batches)))
 
 -- the chain ends at this closed gate
 pub record EndsAt (image : Image) (start end gate number : ℕ) : Type 0 where

@@ -1,9 +1,11 @@
 //! The order of the records in a chain.
-ghost use Rattle.std.specs.Prelude.{◌≡◌, ◌↔◌, IsTrue, Some};
-ghost use Rattle.lift_journal.specs.Order.{IsEntry, MayFollow, MayFollowRow, MayFollowLast};
-ghost use Rattle.lift_journal.specs.Order.{AreRecordsInOrder, IsInOrderAfter, last_record_after, MayEnd};
+ghost use Rattle.std.specs.Prelude.{◌≡◌, ◌↔◌, IsTrue, Some, None};
+ghost use Rattle.lift_base.specs.declared.history.Last.{Last as LastCommand};
+ghost use Rattle.lift_base.specs.declared.history.Record.TheVariants.{Row as RowRecord, Last as LastRecord};
+ghost use Rattle.lift_journal.specs.Order.{IsEntry, MayFollow, IsInOrderAfter};
+ghost use Rattle.lift_journal.specs.Order.{last_record_after, MayEnd};
 
-use lift_base::{Letter, Record, Terminal};
+use lift_base::{Record, Row, Terminal};
 
 fn is_entry(content: &Record) -> bool
     ensures { IsTrue result ↔ IsEntry content.now }
@@ -14,18 +16,18 @@ fn is_entry(content: &Record) -> bool
     }
 }
 
-fn may_follow_row(car: Letter, next: &Record) -> bool
-    ensures { IsTrue result ↔ MayFollowRow car next.now }
+fn may_follow_row(last: Row, next: &Record) -> bool
+    ensures { IsTrue result ↔ MayFollow (Some (RowRecord last)) next.now }
 {
     match *next {
-        Record::Row(row) => car.get() <= row.car.get(),
+        Record::Row(row) => last.car.get() <= row.car.get(),
         Record::Last { .. } | Record::Done { .. } => true,
         Record::Entry(_) => false,
     }
 }
 
 fn may_follow_last(terminal: Terminal, next: &Record) -> bool
-    ensures { IsTrue result ↔ MayFollowLast terminal next.now }
+    ensures { (last : LastCommand) → IsTrue result ↔ MayFollow (Some (LastRecord terminal last)) next.now }
 {
     match *next {
         Record::Last {
@@ -43,7 +45,7 @@ fn may_stand_after(last: &Record, next: &Record) -> bool
     ensures { IsTrue result ↔ MayFollow (Some last.now) next.now }
 {
     match *last {
-        Record::Row(row) => may_follow_row(row.car, next),
+        Record::Row(row) => may_follow_row(row, next),
         Record::Last { terminal, .. } => may_follow_last(terminal, next),
         Record::Entry(_) | Record::Done { .. } => is_entry(next),
     }
@@ -68,7 +70,7 @@ fn may_follow(last: &Option<Record>, next: &Record) -> bool
 /// Whether these records may stand in this order, whatever stands before them.
 #[inline(never)]
 fn is_in_order(records: &[Record]) -> bool
-    ensures { IsTrue result ↔ AreRecordsInOrder records.now }
+    ensures { IsTrue result ↔ IsInOrderAfter None records.now }
 {
     for k in 1..records.len() {
         if !may_come_next(&records[k - 1], &records[k]) {

@@ -89,17 +89,17 @@ pub image_in : (plan : Plan) (shape : Shape) (is_in_second_half : Bool) (taken :
     → Holds shape batches image → records_of batches ≡ base ++ entries → All IsOfBase base → All IsEntry entries → IsRegisterOf plan base entries register → Picks is_in_second_half image → taken ≡ used batches
     → IsImageIn plan shape.half is_in_second_half taken register image
 image_in plan shape is_in_second_half taken register batches base entries image of_building holds joined is_base are_entries is picks counts = record {
-  base = base;
-  entries = entries;
-  reads = record { batches = batches; holds = subst (λ (s : Shape). Holds s batches image) of_building holds; joined = joined; is_base = is_base; are_entries = are_entries };
-  is = is;
+  found = record {
+    half = shape.half;
+    base = base;
+    entries = entries;
+    reads = record { batches = batches; holds = subst (λ (s : Shape). Holds s batches image) of_building holds; joined = joined; is_base = is_base; are_entries = are_entries };
+    is = is;
+  };
+  sectors = refl;
   picks = picks;
   counts = counts;
 }
-
--- it reads as the register
-pub image_of : (plan : Plan) (half : ℕ) (is_in_second_half : Bool) (taken : ℕ) (register : RegisterState) (image : Image) → IsImageIn plan half is_in_second_half taken register image → IsImageOf plan register image
-image_of plan half is_in_second_half taken register image is = record { half = half; base = is.base; entries = is.entries; reads = is.reads; is = is.is }
 
 -- the records of what is kept
 keeps_reads : (plan : Plan) (shape : Shape) (is_in_second_half : Bool) (taken : ℕ) (register : RegisterState) (disk : DiskState) (keeps : Keeps plan shape is_in_second_half taken register disk) → disk.is_honest

@@ -75,8 +75,8 @@ module _ (plan : Plan) (old new : DiskState) (shape : Shape) (taken : ℕ) (open
     image = opens.image;
     saved = opens.saved;
     found = λ honest half second count register is.
-        (let same = opens.found honest (shape_of plan half) is.reads.batches is.reads.holds in (
-          ap (λ (s : Shape). s.half) same.0,
+        (let same = opens.found honest (shape_of plan is.found.half) is.found.reads.batches is.found.reads.holds in (
+          sym is.sectors ∙ ap (λ (s : Shape). s.half) same.0,
           sym is.picks ∙ picked honest,
           is.counts ∙ sym same.1,
         ));

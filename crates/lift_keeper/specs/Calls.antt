@@ -1,6 +1,6 @@
 -- How many calls of the device a commit makes, which an opening makes, and what a failed one leaves.
 -- Nothing of this is needed to know which register is safe.
-use Rattle.std.specs.Prelude.{◌≡◌, ◌++◌, ℕ, Bool, List, Result, Err, IfErr, OnOk}
+use Rattle.std.specs.Prelude.{◌≡◌, ◌≢◌, ◌++◌, ℕ, Bool, List, Result, Err, IfErr, OnOk}
 use Rattle.lift_base.specs.declared.history.Shape.{Shape}
 use Rattle.lift_building.specs.Plan.{Plan}
 use Rattle.lift_disk.specs.Disk.{DiskState, KeepsImage, RunsOn}
@@ -10,10 +10,9 @@ use Rattle.lift_journal.specs.RefusedOpening.{RefusedAfter}
 use Rattle.lift_journal.specs.Calls.{opening_of}
 use Rattle.lift_journal.specs.Layout.{Batch, Holds, Picks, used}
 use Rattle.lift_journal.specs.Steps.{Makes, SavesAsRead}
-use Rattle.lift_journal.specs.Told.{NoneFails, FailsBy as JournalFailsBy}
+use Rattle.lift_journal.specs.Told.{NoneFails, LastFails, FailsBy as JournalFailsBy}
 use Rattle.lift_keeper.specs.declared.fault.KeeperFault.{KeeperFault}
-use Rattle.lift_keeper.specs.declared.fault.KeeperFault.TheVariants.{Journal, OtherBuilding}
-use Rattle.lift_keeper.specs.declared.fault.KeeperFault.TheVariants.{BadEntry}
+use Rattle.lift_keeper.specs.declared.fault.KeeperFault.TheVariants.{Journal}
 use Rattle.lift_keeper.specs.Images.{IsImageIn}
 use Rattle.lift_keeper.specs.Writer.{WriterView, IsFailedCommit, commit_call_count}
 use Rattle.lift_keeper.specs.Writer.{commit_write_count}
@@ -35,14 +34,12 @@ pub record ReadsAll (old new : DiskState) : Type 0 where
 -- refused it; where the journal itself is good, all of them.
 abbrev pub ReadsUntilRefused : KeeperFault → DiskState → DiskState → Type 0
 ReadsUntilRefused (Journal fault) old new = RefusedAfter fault old new
-ReadsUntilRefused OtherBuilding old new = ReadsAll old new
-ReadsUntilRefused (BadEntry place) old new = ReadsAll old new
+ReadsUntilRefused _ old new = ReadsAll old new
 
 -- which call has failed: the last, just where the fault is of the device
 abbrev pub FailsBy : KeeperFault → DiskState → DiskState → Type 0
 FailsBy (Journal fault) old new = JournalFailsBy fault old new
-FailsBy OtherBuilding old new = NoneFails old new
-FailsBy (BadEntry place) old new = NoneFails old new
+FailsBy _ old new = NoneFails old new
 
 -- A commit of this many entries: it makes no call for none, else as many as an append, and as many
 -- more as a checkpoint where there is no room.
@@ -54,8 +51,8 @@ pub record CommitCalls {D T : Type 0} (state : D → DiskState) (old : WriterVie
   pub used : OnOk result (new.used ≡ commit_used old.register old.used old.half count)
   pub second : OnOk result (new.is_in_second_half
       ≡ commit_second old.is_in_second_half old.used old.half count)
-  pub told_ok : OnOk result (NoneFails (state old.device) (state new.device))
-  pub told : IfErr result (λ fault. FailsBy fault (state old.device) (state new.device))
+  pub none_fails : result ≢ Err (Journal Disk) → NoneFails (state old.device) (state new.device)
+  pub last_fails : result ≡ Err (Journal Disk) → LastFails (state old.device) (state new.device)
   -- where a device failed it that changes no byte in a failed call, the number of calls says what
   -- each cut leaves
   pub fails : result ≡ Err (Journal Disk) → (state old.device).is_honest

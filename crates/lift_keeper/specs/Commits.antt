@@ -11,27 +11,24 @@ use Rattle.lift_keeper.specs.Images.{IsImageOf, IsInDoubt}
 use Rattle.lift_keeper.specs.Writer.{WriterView}
 
 -- What a commit leaves to a crash: all that whoever was answered rests on.
-pub record CommitLeaves {D T : Type 0} (state : D → DiskState) (old : WriterView D) (batch : List Entry)
+pub record CommitLeaves {D T : Type 0} (old : WriterView D) (batch : List Entry) (was is : DiskState)
     (new : WriterView D) (result : Result T KeeperFault) : Type 0 where
   -- a crash at any moment leaves the register that was safe before it, or that with this batch
-  pub any_moment : old.is_broken ≡ false
-      → LeavesOnly (state old.device) (state new.device) (IsInDoubt old.plan old.register batch)
+  pub any_moment : old.is_broken ≡ false → LeavesOnly was is (IsInDoubt old.plan old.register batch)
   -- of a broken writer, what was safe before the fault, or that with the batch in doubt
   pub while_broken : old.is_broken ≡ true
-      → LeavesOnly (state old.device) (state new.device) (IsInDoubt old.plan old.register old.doubt)
+      → LeavesOnly was is (IsInDoubt old.plan old.register old.doubt)
   -- at Ok the safe register is the one with the batch: every crash from now on leaves it
-  pub acknowledged : OnOk result
-      (LeavesNow (state new.device) (IsImageOf old.plan (register_of old.register batch)))
+  pub acknowledged : OnOk result (LeavesNow is (IsImageOf old.plan (register_of old.register batch)))
   pub register : OnOk result (new.register ≡ register_of old.register batch)
   -- where a call failed, every crash from now on leaves one of the two
-  pub in_doubt : result ≡ Err (Journal Disk)
-      → LeavesNow (state new.device) (IsInDoubt old.plan old.register batch)
+  pub in_doubt : result ≡ Err (Journal Disk) → LeavesNow is (IsInDoubt old.plan old.register batch)
 
 -- The batch is safe, or in doubt, or the writer was broken and stays as it was: what a commit
 -- leaves to a crash, why it fails, and what stays.
 pub record Commits {D T : Type 0} (state : D → DiskState) (old : WriterView D) (batch : List Entry)
     (new : WriterView D) (result : Result T KeeperFault) : Type 0 where
-  pub safe : CommitLeaves state old batch new result
+  pub safe : CommitLeaves old batch (state old.device) (state new.device) new result
   pub causes : IfErr result (λ fault. (fault ≡ Journal Disk) ⊎ (fault ≡ Journal Broken))
   pub broken : (result ≡ Err (Journal Broken)) ↔ (old.is_broken ≡ true)
   -- a call has failed within it

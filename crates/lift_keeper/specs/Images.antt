@@ -23,13 +23,11 @@ abbrev pub IsInDoubt : Plan → RegisterState → List Entry → Image → Type 
 IsInDoubt plan register batch image = IsImageOf plan register image
     ⊎ IsImageOf plan (register_of register batch) image
 
--- the same, with this many sectors in a half: this half is picked, and this many of its sectors are
--- used
+-- the image reads as this register, with this many sectors in a half: this half is picked, and this
+-- many of its sectors are used
 pub record IsImageIn (plan : Plan) (half : ℕ) (is_in_second_half : Bool) (taken : ℕ)
     (register : RegisterState) (image : Image) : Type 0 where
-  pub base : List Record
-  pub entries : List Record
-  pub reads : ReadsAs (shape_of plan half) base entries image
-  pub is : IsRegisterOf plan base entries register
+  pub found : IsImageOf plan register image
+  pub sectors : found.half ≡ half
   pub picks : Picks is_in_second_half image
-  pub counts : taken ≡ used reads.batches
+  pub counts : taken ≡ used found.reads.batches

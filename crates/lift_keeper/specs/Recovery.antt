@@ -3,7 +3,7 @@ use Rattle.std.specs.Prelude.{ℕ, ◌≡◌, ◌+◌, Bool, true, false, List, 
 use Rattle.std.specs.Prelude.{take, slice_get}
 use Rattle.lift_base.specs.declared.history.Entry.{Entry}
 use Rattle.lift_base.specs.declared.history.Record.{Record}
-use Rattle.lift_base.specs.declared.history.Record.TheVariants.{Entry as EntryRecord, Row, Last, Done}
+use Rattle.lift_base.specs.declared.history.Record.TheVariants.{Entry as EntryRecord, Row, Last}
 use Rattle.lift_building.specs.Plan.{Plan}
 use Rattle.lift_register.specs.Prelude.{RegisterState, empty, register_of, Fits, FitFrom, BelongsTo}
 use Rattle.lift_register.specs.Prelude.{IsBalanced, IsWellFormed}
@@ -12,16 +12,12 @@ use Rattle.lift_register.specs.Base.{BaseFits, BaseFitFrom, with_record, with_re
 -- the record can be taken in now, as an entry or as a part of a checkpoint
 abbrev pub RecordFits : Plan → RegisterState → Record → Type 0
 RecordFits plan register (EntryRecord entry) = Fits plan register entry
-RecordFits plan register (Row row) = BaseFits plan register (Row row)
-RecordFits plan register (Last terminal last) = BaseFits plan register (Last terminal last)
-RecordFits plan register (Done count) = BaseFits plan register (Done count)
+RecordFits plan register base = BaseFits plan register base
 
 -- the register with the record taken in
 abbrev pub with_next : RegisterState → Record → RegisterState
 with_next register (EntryRecord entry) = register_of register (entry ∷ [])
-with_next register (Row row) = with_record register (Row row)
-with_next register (Last terminal last) = with_record register (Last terminal last)
-with_next register (Done count) = with_record register (Done count)
+with_next register base = with_record register base
 
 -- the register with these records taken in, one after another
 abbrev pub with_all : RegisterState → List Record → RegisterState
@@ -45,9 +41,7 @@ pub record IsFirstMisfit (plan : Plan) (records : List Record) (place : ℕ) : T
 abbrev pub entries_of : List Record → List Entry
 entries_of [] = []
 entries_of (EntryRecord entry ∷ later) = entry ∷ entries_of later
-entries_of (Row row ∷ later) = entries_of later
-entries_of (Last terminal last ∷ later) = entries_of later
-entries_of (Done count ∷ later) = entries_of later
+entries_of (_ ∷ later) = entries_of later
 
 -- the checkpoint fits, and the entries after it; this is the register of the two
 pub record IsRegisterOf (plan : Plan) (base entries : List Record)
@@ -58,10 +52,9 @@ pub record IsRegisterOf (plan : Plan) (base entries : List Record)
 
 -- after the record a checkpoint has begun and not ended
 abbrev pub leaves_open : Record → Bool
-leaves_open (EntryRecord entry) = false
 leaves_open (Row row) = true
 leaves_open (Last terminal last) = true
-leaves_open (Done count) = false
+leaves_open _ = false
 
 -- what a recovery has made so far
 pub record RecoveryState : Type 0 where
@@ -80,9 +73,7 @@ beginning plan = record { plan = plan; register = empty; is_open = false; taken 
 abbrev pub Passes : RecoveryState → Record → Type 0
 Passes state (EntryRecord entry) =
     (state.is_open ≡ false) × Fits state.plan state.register entry
-Passes state (Row row) = BaseFits state.plan state.register (Row row)
-Passes state (Last terminal last) = BaseFits state.plan state.register (Last terminal last)
-Passes state (Done count) = BaseFits state.plan state.register (Done count)
+Passes state base = BaseFits state.plan state.register base
 
 abbrev pub passed : RecoveryState → Record → RecoveryState
 passed state content = record {

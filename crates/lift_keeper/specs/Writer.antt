@@ -75,67 +75,65 @@ pub record IsWriter {D : Type 0} (plan : Plan) (journal : JournalView D) (regist
 abbrev pub has_room : (used half count : ℕ) → Bool
 has_room used half count = nat_le (used + body_size count + 2) half
 
+-- the sectors of the safe register's checkpoint
+abbrev pub base_size : RegisterState → ℕ
+base_size safe = sectors_for (length (base_records safe))
+
 -- how many device calls the checkpoint takes that a batch without room needs, and how many of them
 -- are writes
 abbrev pub room_call_count : RegisterState → (used half count : ℕ) → ℕ
-room_call_count register used half count =
-    if has_room used half count then 0 else sectors_for (length (base_records register)) + 4
+room_call_count safe used half count = if has_room used half count then 0 else base_size safe + 4
 
 abbrev pub room_write_count : RegisterState → (used half count : ℕ) → ℕ
-room_write_count register used half count =
-    if has_room used half count then 0 else sectors_for (length (base_records register)) + 2
+room_write_count safe used half count = if has_room used half count then 0 else base_size safe + 2
 
 -- the sectors that are used once there is room, and the half that is picked then
 abbrev pub room_used : RegisterState → (used half count : ℕ) → ℕ
-room_used register used half count =
-    if has_room used half count then used else sectors_for (length (base_records register))
+room_used safe used half count = if has_room used half count then used else base_size safe
 
 abbrev pub room_second : Bool → (used half count : ℕ) → Bool
-room_second is_in_second_half used half count =
-    if has_room used half count then is_in_second_half else not is_in_second_half
+room_second second used half count = if has_room used half count then second else not second
 
 -- how many device calls a commit of this many entries makes, how many of them are writes, and the
 -- sectors used after it
 abbrev pub commit_call_count : RegisterState → (used half count : ℕ) → ℕ
-commit_call_count register used half count =
-    if count == 0 then 0 else room_call_count register used half count + (body_size count + 4)
+commit_call_count safe used half count =
+    if count == 0 then 0 else room_call_count safe used half count + (body_size count + 4)
 
 abbrev pub commit_write_count : RegisterState → (used half count : ℕ) → ℕ
-commit_write_count register used half count =
-    if count == 0 then 0 else room_write_count register used half count + (body_size count + 2)
+commit_write_count safe used half count =
+    if count == 0 then 0 else room_write_count safe used half count + (body_size count + 2)
 
 abbrev pub commit_used : RegisterState → (used half count : ℕ) → ℕ
-commit_used register used half count =
-    if count == 0 then used else room_used register used half count + (body_size count + 1)
+commit_used safe used half count =
+    if count == 0 then used else room_used safe used half count + (body_size count + 1)
 
 abbrev pub commit_second : Bool → (used half count : ℕ) → Bool
-commit_second is_in_second_half used half count =
-    if count == 0 then is_in_second_half else room_second is_in_second_half used half count
+commit_second second used half count =
+    if count == 0 then second else room_second second used half count
 
 -- A checkpoint has failed: the other half has the register alone then. Which half a fill leaves picked
 -- goes by its byte, and it is the same register in both.
 abbrev pub FailsInCheckpoint : Plan → ℕ → Bool → ℕ → RegisterState → DiskState → DiskState → Type 0
-FailsInCheckpoint plan half is_in_second_half taken register old new =
-    FailsAtMark (IsImageIn plan half is_in_second_half taken register)
-    (IsImageIn plan half (not is_in_second_half) (sectors_for (length
-    (base_records register))) register)
-    is_in_second_half (sectors_for (length (base_records register)) + 2) old new
+FailsInCheckpoint plan half second taken safe old new =
+    FailsAtMark (IsImageIn plan half second taken safe)
+    (IsImageIn plan half (not second) (base_size safe) safe) second (base_size safe + 2) old new
 
 -- The appending of a batch has failed, this many calls after the beginning: a fill leaves the batch
 -- just where its byte is the mark.
 abbrev pub FailsInAppend : Plan → ℕ → Bool → ℕ → RegisterState → List Entry → ℕ → DiskState
     → DiskState → Type 0
-FailsInAppend plan half is_in_second_half taken register batch before old new =
-    FailsAtMark (IsImageIn plan half is_in_second_half taken register)
-    (IsImageIn plan half is_in_second_half (taken + (body_size (length batch) + 1))
-    (register_of register batch)) false (before + (body_size (length batch) + 2)) old new
+FailsInAppend plan half second taken safe batch before old new =
+    FailsAtMark (IsImageIn plan half second taken safe)
+    (IsImageIn plan half second (taken + (body_size (length batch) + 1)) (register_of safe batch))
+    false (before + (body_size (length batch) + 2)) old new
 
 -- A commit has failed: within its checkpoint, if it needs one, or after it.
-pub record IsFailedCommit (plan : Plan) (half : ℕ) (is_in_second_half : Bool) (taken : ℕ)
-    (register : RegisterState) (batch : List Entry) (old new : DiskState) : Type 0 where
-  pub folding : new.calls ≤ old.calls + room_call_count register taken half (length batch)
-      → FailsInCheckpoint plan half is_in_second_half taken register old new
-  pub adding : old.calls + room_call_count register taken half (length batch) < new.calls
-      → FailsInAppend plan half (room_second is_in_second_half taken half (length batch))
-      (room_used register taken half (length batch)) register batch
-      (room_call_count register taken half (length batch)) old new
+pub record IsFailedCommit (plan : Plan) (half : ℕ) (second : Bool) (taken : ℕ)
+    (safe : RegisterState) (batch : List Entry) (old new : DiskState) : Type 0 where
+  pub folding : new.calls ≤ old.calls + room_call_count safe taken half (length batch)
+      → FailsInCheckpoint plan half second taken safe old new
+  pub adding : old.calls + room_call_count safe taken half (length batch) < new.calls
+      → FailsInAppend plan half (room_second second taken half (length batch))
+      (room_used safe taken half (length batch)) safe batch
+      (room_call_count safe taken half (length batch)) old new

@@ -11,7 +11,7 @@ use Rattle.lift_record.specs.declared.version.Version.{Version}
 use Rattle.lift_record.specs.declared.version.Version.TheVariants.{One, Two}
 use Rattle.lift_record.specs.Version.{version_number}
 use Rattle.lift_journal.specs.Order.{IsEntry, IsOfBase, MayFollow, IsInOrderAfter}
-use Rattle.lift_journal.specs.Order.{AreRecordsInOrder, last_record_after, MayEnd}
+use Rattle.lift_journal.specs.Order.{last_record_after, MayEnd}
 use Rattle.lift_journal.specs.Layout.{Batch, records_of, NeverFall, IsSound}
 use Rattle.lift_journal.specs.Walk.{MayBeginChain, version_after}
 
@@ -109,7 +109,7 @@ pub front_push : (batches : List Batch) (batch : Batch) → MayBeginChain batche
     → MayBeginChain (batches ++ batch ∷ [])
 front_push batches batch sound rises order = record {
   versions = fall_push One batches batch sound.versions rises;
-  ordered = subst AreRecordsInOrder (sym (records_push batches batch))
+  ordered = subst (IsInOrderAfter None) (sym (records_push batches batch))
       (order_join None (records_of batches) batch.records sound.ordered order);
 }
 
@@ -121,7 +121,7 @@ pub front_order : (batches : List Batch) (batch : Batch) → MayBeginChain (batc
     → IsInOrderAfter (last_record_after None (records_of batches)) batch.records
 front_order batches batch sound =
     order_back None (records_of batches) batch.records
-    (subst AreRecordsInOrder (records_push batches batch) sound.ordered)
+    (subst (IsInOrderAfter None) (records_push batches batch) sound.ordered)
 
 pub last_push : (batches : List Batch) (batch : Batch)
     → last_record_after None (records_of (batches ++ batch ∷ []))
@@ -169,7 +169,7 @@ sound_push batches entries sound kinds =
     let last = last_record_after None (records_of batches) in
     record {
       versions = fall_push One batches batch sound.versions (fall_to_second One batches);
-      ordered = subst AreRecordsInOrder (sym (records_push batches batch))
+      ordered = subst (IsInOrderAfter None) (sym (records_push batches batch))
           (order_join None (records_of batches) entries sound.ordered
           (entries_follow last entries sound.complete each));
       complete = subst MayEnd (sym (last_push batches batch))

@@ -84,8 +84,8 @@ module _ {D T U : Type 0} (state : D → DiskState) (old : WriterView D) (count 
     };
     used = c.used;
     second = c.second;
-    told_ok = c.told_ok;
-    told = c.told;
+    none_fails = λ _. c.none_fails (λ is. cc);
+    last_fails = λ is. absurd (cc);
     fails = λ is. absurd (cc);
   }
 
@@ -102,8 +102,10 @@ module _ {D T U : Type 0} (state : D → DiskState) (old : WriterView D) (count 
     };
     used = c.used;
     second = c.second;
-    told_ok = c.told_ok;
-    told = c.told;
+    none_fails = λ not. c.none_fails (λ is. (let same : fault ≡ Journal Disk = cc in
+        not (ap (λ (f : KeeperFault). Err f) same)));
+    last_fails = λ is. (let same : fault ≡ Journal Disk = cc in
+        c.last_fails (ap (λ (f : KeeperFault). Err f) same));
     fails = λ is. (let same : fault ≡ Journal Disk = cc in
         c.fails (ap (λ (f : KeeperFault). Err f) same));
   }

@@ -3,7 +3,6 @@ use Rattle.std.specs.Prelude.{codes}
 use Rattle.lift_disk.specs.Faults.{fuse_state_of}
 use Rattle.lift_journal.specs.declared.fault.JournalFault.TheVariants.{Disk}
 use Rattle.lift_keeper.specs.declared.fault.KeeperFault.TheVariants.{Journal}
-use Rattle.lift_keeper.specs.Calls.{FailsBy}
 use Rattle.lift_keeper.specs.lemmas.Committed.{safe_register}
 use Rattle.lift_replay.specs.Told.{HasCommitted, device_of}
 use Rattle.lift_replay.specs.Report.{fault_text, turn_text}
@@ -25,7 +24,7 @@ returns-in-Ok-clause-tells c =
       calls = made.made.calls;
       used = made.used;
       second = made.second;
-      none_fails = made.told_ok;
+      none_fails = made.none_fails (λ is. cc);
     } in
     on_ok c.push_turn.result (λ pushed. (turn_text counts.taken counts.accepted, inl (counts, c.in-Ok.ensures.turns, committed, refl), pushed)) c.push_turn.ensures
 
@@ -46,7 +45,7 @@ returns-in-Err-clause-tells c =
       register = e.is.unmoved;
       calls = c.in-Err.ensures.calls.made.most_calls;
       fails = c.turn.ensures.calls.fails failed tt tt;
-      last_fails = subst (λ f. FailsBy f (device_of before) (device_of after)) disk c.in-Err.ensures.calls.told;
+      last_fails = c.turn.ensures.calls.last_fails failed;
     })
     (λ broken. t.is.broken.0 (c.in-Err.is ∙ ap Err broken)) c.turn.ensures.rests in
     on_ok c.push_fault.result (λ pushed. (fault_text (codes "turn") c.number.result, tells, pushed)) c.push_fault.ensures
