@@ -203,8 +203,12 @@ module _ {D : Type 0} (state : D → DiskState) (crashes : CrashesKeep D) (law :
           t.decided.shows ∙ ap (λ (r : RegisterState). register_of r batch.entries)
           (ap (λ (s : State). s.register) t.receives.next.on_state ∙ sym (is.safe whole))
 
-      decides : f.writer.is_broken ≡ false → DecidesOn (record { state = f.end.state; writer = f.writer }) cs (replies_in batch.commands) (state_with_entries batch)
+      abbrev decides : f.writer.is_broken ≡ false → DecidesOn (record { state = f.end.state; writer = f.writer })
       decides whole = record {
+        commands = cs;
+        replies = replies_in batch.commands;
+        decided = state_with_entries batch;
+        apart = t.apart;
         was_whole = whole;
         run = subst (λ (p : Plan). Run p any_eligible f.end.state cs (replies_in batch.commands) (state_with_entries batch)) (t.receives.next.of_building ∙ is.of_building)
             (subst (λ (s : State). Run batch.building any_eligible s cs (replies_in batch.commands) (state_with_entries batch)) t.receives.next.on_state t.decided.run);
@@ -212,7 +216,7 @@ module _ {D : Type 0} (state : D → DiskState) (crashes : CrashesKeep D) (law :
       }
 
       accepts : f.writer.is_broken ≡ false → MayAccept (record { state = f.end.state; writer = f.writer }) batch.entries
-      accepts whole = record { commands = cs; replies = replies_in batch.commands; decided = state_with_entries batch; apart = t.apart; decides = decides whole; is = refl }
+      accepts whole = (decides whole, refl)
 
       -- its moments
       moments_whole : (whole : f.writer.is_broken ≡ false) → CommitsTo {T = FlushCounts} state f.writer (entries_between f.end g.end) g.end.state.register g.writer answer
@@ -261,9 +265,6 @@ module _ {D : Type 0} (state : D → DiskState) (crashes : CrashesKeep D) (law :
 
       abbrev makes_safe : TurnMakesSafe (group_after f) (group_after g)
       makes_safe = record {
-        commands = cs;
-        replies = replies_in batch.commands;
-        decided = state_with_entries batch;
         desk = same_desk;
         decides = decides (Ok counts) t was_whole;
         answers = answers (Ok counts) t true refl;
@@ -333,7 +334,7 @@ module _ {D : Type 0} (state : D → DiskState) (crashes : CrashesKeep D) (law :
       leaves_in_doubt whole e =
           let is_disk : Err fault ≡ Err (Journal Disk) = ap (λ (x : KeeperFault). Err x) e in
           record {
-            may = record { commands = cs; replies = replies_in batch.commands; decided = state_with_entries batch; apart = t.apart; decides = decides (Err fault) t whole; is = sym (t.fails is_disk).0 };
+            may = (decides (Err fault) t whole, sym (t.fails is_disk).0);
             desk = same_desk;
             answers = answers (Err fault) t false refl;
             some = some_long batch.entries (t.fails is_disk).1;

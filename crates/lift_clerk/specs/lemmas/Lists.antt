@@ -1,11 +1,21 @@
 -- Lists of commands and answers.
-use Rattle.std.proofs.Common.{ℕ, ◌≡◌, Bool, cond, List, [], ◌∷◌, refl, ap, ◌∙◌}
+use Rattle.std.proofs.Common.{ℕ, ◌≡◌, ◌≢◌, Bool, cond, List, [], ◌∷◌, map, refl, ap, ◌∙◌}
 use Rattle.std.specs.Prelude.{filter}
+use Rattle.std.specs.List.{AllByRecursion}
 use Rattle.std.proofs.lemmas.Bool.{ne_eqb}
 use Rattle.lift_base.specs.declared.command.Reply.{Reply}
 use Rattle.lift_policy.specs.declared.command.Command.{Command}
+use Rattle.lift_world.specs.declared.event.Answer.{Answer}
 use Rattle.lift_world.specs.World.{asks, is_answer_to}
-use Rattle.lift_clerk.specs.TakenAndAnswered.{AreOthers, answers_to}
+use Rattle.lift_world.specs.Next.{answer_of}
+use Rattle.lift_world.specs.Turns.{with_replies}
+
+abbrev pub answers_to : List Command → List Reply → List Answer
+answers_to cs rs = map answer_of (with_replies cs rs)
+
+-- none of these commands is of this terminal
+abbrev pub AreOthers : ℕ → List Command → Type 0
+AreOthers terminal commands = AllByRecursion (λ (d : Command). d.terminal ≢ terminal) commands
 
 -- of other terminals' commands, and of the answers to them, there is none to a terminal
 pub no_asks : (t : ℕ) (cs : List Command) → AreOthers t cs → filter (asks t) cs ≡ []

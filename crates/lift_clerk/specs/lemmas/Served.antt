@@ -1,5 +1,5 @@
 -- What a turn changes in the words of one terminal.
-use Rattle.lift_clerk.specs.TakenAndAnswered.{AreOthers, AreApart, answers_to, ask_of, Grows, TakesAndAnswers}
+use Rattle.lift_clerk.specs.TakenAndAnswered.{AreApart, ask_of, Grows, TakesAndAnswers}
 use Rattle.std.proofs.Common.{ℕ, zero, suc, ◌≡◌, ◌≢◌, ◌+◌, ◌≤◌, Bool, true, false, cond, List, []}
 use Rattle.std.proofs.Common.{◌∷◌, ◌++◌, length, Option, Some, None, refl, sym, ap, subst, ◌∙◌}
 use Rattle.std.proofs.Common.{arith, map}
@@ -20,7 +20,7 @@ use Rattle.lift_policy.specs.declared.command.Command.{Command}
 use Rattle.lift_world.specs.declared.event.Answer.{Answer}
 use Rattle.lift_world.specs.World.{asks, is_answer_to}
 use Rattle.lift_clerk.specs.Visits.{Visit, FindsAt, Finds, LooksAndAnswers, commands_of, command_at, served}
-use Rattle.lift_clerk.specs.lemmas.Lists.{no_asks, no_answers}
+use Rattle.lift_clerk.specs.lemmas.Lists.{AreOthers, answers_to, no_asks, no_answers}
 
 grows_as : (before after : ClerkView) (cs ds : List Command) (xs ys : List Answer) → ds ≡ cs
     → ys ≡ xs → Grows before after cs xs → Grows before after ds ys

@@ -1,5 +1,6 @@
 -- What the clerk's words are after a turn.
-use Rattle.lift_clerk.specs.TakenAndAnswered.{Grows, answer_words, answers_to, ask_of}
+use Rattle.lift_clerk.specs.TakenAndAnswered.{Grows, answer_words, ask_of}
+use Rattle.lift_clerk.specs.lemmas.Lists.{answers_to}
 use Rattle.std.proofs.Common.{ℕ, suc, ◌≡◌, ◌+◌, List, [], ◌∷◌, ◌++◌, length, map, refl, sym, ap}
 use Rattle.std.proofs.Common.{◌∙◌, arith}
 use Rattle.std.specs.Prelude.{filter, count_by, All}
