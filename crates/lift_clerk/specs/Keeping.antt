@@ -47,12 +47,6 @@ KeepsAll D plan base given left = (entries : List Entry) × (now : List Taken) �
 abbrev pub LeavesSafe : {D : Type 0} → WriterView D → DiskState → Type 0
 LeavesSafe writer disk = LeavesNow disk (IsInDoubt writer.plan writer.register writer.doubt)
 
--- Each keeps what is safe, or that with the batch in doubt.
-abbrev pub KeepsNow : {D : Type 0} → RegisterState → GroupState D → (safe : List Entry) → List Taken → DiskState
-    → Type 0
-KeepsNow {D} base group safe given disk = LeavesNow disk
-    (KeepsEither D group.keeper.writer.plan base safe group.keeper.writer.doubt given)
-
 -- Whatever has happened, each image that a crash may leave now or at any moment of the next call
 -- keeps what was given: with what is safe, or with that and the batch on its way.
 abbrev pub CrashesKeep : Type 0 → Type 0
@@ -87,4 +81,5 @@ pub record AdvancesFrom {D : Type 0} (base : RegisterState) (before : GroupState
     (old new : DiskState) : Type 0 where
   pub history : History base after (safe ++ more) (given ++ told)
   pub stands : LeavesOnly old new (KeepsEither D before.keeper.writer.plan base safe batch given)
-  pub now : KeepsNow base after (safe ++ more) (given ++ told) new
+  pub now : LeavesNow new (KeepsEither D after.keeper.writer.plan base (safe ++ more)
+      after.keeper.writer.doubt (given ++ told))

@@ -78,17 +78,14 @@ pub record AnswersUnknown {D P : Type 0} (old new : ClerkState D P) : Type 0 whe
 pub data TurnAdds {D : Type 0} (before after : GroupState D) : (fails : Bool)
     → (batch more : List Entry) → List Taken → Type 0 where
   -- It makes its batch safe, and then gives its replies.
-  Safe : (t : TurnMakesSafe before after)
-      → TurnAdds before after false t.decides.decided.batch t.decides.decided.batch
-      (with_replies t.decides.commands t.decides.replies)
+  Safe : (t : TurnMakesSafe before after) → TurnAdds before after false t.decides.decided.batch
+      t.decides.decided.batch (with_replies t.decides.commands t.decides.replies)
   -- The device fails it: its batch is in doubt, and nothing more is safe.
-  InDoubt : (t : LeavesInDoubt before after)
-      → TurnAdds before after true after.keeper.writer.doubt []
-      (with_replies t.may.0.commands (unknowns t.may.0.commands))
+  InDoubt : (t : LeavesInDoubt before after) → TurnAdds before after true
+      after.keeper.writer.doubt [] (with_replies t.may.0.commands (unknowns t.may.0.commands))
   -- It comes after a fault: there is what is in doubt.
-  Unknown : (t : AnswersUnknown before after)
-      → TurnAdds before after true before.keeper.writer.doubt []
-      (with_replies t.commands (unknowns t.commands))
+  Unknown : (t : AnswersUnknown before after) → TurnAdds before after true
+      before.keeper.writer.doubt [] (with_replies t.commands (unknowns t.commands))
 
 -- Nothing is taken, answered or made safe, and the desk is the same. What a keeper shows stays while
 -- nothing has failed; once something has, it is no matter.

@@ -33,7 +33,7 @@ use Rattle.lift_clerk.specs.Steps.{group_of, DecidesOn, TurnMakesSafe, LeavesInD
 use Rattle.lift_clerk.specs.Group.{Terminals, TakesAsks}
 use Rattle.lift_clerk.specs.Past.{IsPastOf, LeadsToPast, PastsGoOn}
 use Rattle.lift_clerk.specs.History.{History, Turned, Rested}
-use Rattle.lift_clerk.specs.Keeping.{CrashesKeep, MomentsKeep, LeavesSafe, KeepsNow}
+use Rattle.lift_clerk.specs.Keeping.{CrashesKeep, KeepsEither, MomentsKeep, LeavesSafe}
 use Rattle.lift_clerk.specs.lemmas.Adding.{failed, turned_while_broken}
 use Rattle.lift_clerk.specs.lemmas.Keeps.{kept_now}
 use Rattle.lift_parts.specs.declared.counts.FlushCounts.{FlushCounts}
@@ -103,7 +103,7 @@ module _ {D : Type 0} (state : D → DiskState) (crashes : CrashesKeep D) (law :
 
   -- from its end on
   keeps_after : (answer : Result FlushCounts KeeperFault) → CommitsTo {T = FlushCounts} state f.writer (entries_between f.end g.end) g.end.state.register g.writer answer
-      → (entries : List Entry) (told : List Taken) → Now entries told → LeavesSafe f.writer old → KeepsNow base (group_after g) entries told new
+      → (entries : List Entry) (told : List Taken) → Now entries told → LeavesSafe f.writer old → LeavesNow new (KeepsEither D g.writer.plan base entries g.writer.doubt told)
   keeps_after answer c entries told k leaves = kept_now crashes base (group_after g) entries told k new (leaves_after state f g answer c leaves)
 
   -- a turn that received nothing
@@ -319,7 +319,7 @@ module _ {D : Type 0} (state : D → DiskState) (crashes : CrashesKeep D) (law :
       lost_history k = subst (λ (xs : List Entry). Now xs (given ++ (held_in [] ++ map unknown_to (held_in (batch ∷ []))))) (sym (append-nil safe))
           (subst (λ (ts : List Taken). Now safe ts) (lost_told (Err fault) t) k)
 
-      lost_now : Now safe (with_given false) → LeavesSafe f.writer old → KeepsNow base (group_after g) (safe ++ []) (given ++ (held_in [] ++ map unknown_to (held_in (batch ∷ [])))) new
+      lost_now : Now safe (with_given false) → LeavesSafe f.writer old → LeavesNow new (KeepsEither D g.writer.plan base (safe ++ []) g.writer.doubt (given ++ (held_in [] ++ map unknown_to (held_in (batch ∷ [])))))
       lost_now k = keeps_after (Err fault) c (safe ++ []) (given ++ (held_in [] ++ map unknown_to (held_in (batch ∷ [])))) (lost_history k)
 
       abbrev lost_goes_on : Now safe (with_given false) → GoesOnTo f g base safe given
