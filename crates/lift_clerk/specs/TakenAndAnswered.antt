@@ -33,7 +33,6 @@ pub record Grows (before after : ClerkView) (cs : List Command)
   pub taken : after.taken ≡ before.taken ++ ask_words (suc (length before.taken)) (map ask_of cs)
   pub answered : after.answered
       ≡ before.answered ++ answer_words (suc (length before.answered)) answers
-  pub same : length cs ≡ length answers
 
 -- These commands were taken, at most one of each terminal, and answered so, and nothing else was.
 pub record TakesAndAnswers (old new : List ClerkPlace) (commands : List Command)

@@ -164,5 +164,5 @@ module _ where
             let same : filter (is_answer_to t) (answers_to (commands_in batch) (replies_of is_safe batch)) ≡ told_here is_safe t batch =
             ap (λ (xs : List Taken). filter (is_answer_to t) (map answer_of xs)) (held_is is_safe batch) ∙ ap (filter (is_answer_to t)) (told_is is_safe batch) in
             subst (λ (xs : List Answer). Grows (view_at places t) (view_at next t) (here t batch) xs) (sym same)
-            (record { taken = g.taken; answered = g.answered; same = as_many is_safe t batch });
+            (record { taken = g.taken; answered = g.answered });
       }

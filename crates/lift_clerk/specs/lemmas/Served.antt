@@ -63,7 +63,6 @@ module _ (place : ClerkPlace) (word t first k : ℕ) where
       record {
         taken = same ∙ sym (append-nil place.view.taken);
         answered = sym (append-nil place.view.answered);
-        same = refl;
       }
 
   -- or an ask, which gets this reply
@@ -84,7 +83,6 @@ module _ (place : ClerkPlace) (word t first k : ℕ) where
       record {
         taken = more ∙ ap (λ (x : ℕ). place.view.taken ++ x ∷ []) is;
         answered = ap (λ (n : ℕ). place.view.answered ++ reply_word n ask.number reply ∷ []) count;
-        same = refl;
       }
 
 abbrev asked_of : ℕ → List Command → List Command
@@ -171,7 +169,6 @@ view_after places [] first finds replies k t e count =
     record {
       taken = sym (append-nil (view_at places k).taken);
       answered = sym (append-nil (view_at places k).answered);
-      same = refl;
     }
 view_after [] (visit ∷ visits) first finds replies k t e count = absurd finds
 view_after (place ∷ places) (visit ∷ visits) first finds replies k t e count =

@@ -64,7 +64,7 @@ module _ {D P : Type 0} (laws : Laws) (w : World) (before after : ClerkState D P
 
       abbrev words : (t : ℕ) → ShowsWords end t (view_at after.seat t)
       words t =
-          words_after w end t found rs k.ends (view_at before.seat t) (view_at after.seat t)
+          words_after w end t found rs k.ends answers.one_each (view_at before.seat t) (view_at after.seat t)
           (m.words t) (more t).waiting (more t).asked (answers.grows t)
 
       waits : WaitsNowhere w → WaitsNowhere end
