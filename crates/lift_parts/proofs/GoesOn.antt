@@ -1,6 +1,6 @@
 -- The flusher's turns are steps of its group.
 use Rattle.std.proofs.Common.{ℕ, ◌≡◌, ◌≢◌, ◌⊎◌, ⊎_elim, inl, inr, ◌<◌, Bool, true, false, List, [], ◌∷◌, ◌++◌, length, map, refl, sym, ap, subst, ◌∙◌, arith, append_assoc}
-use Rattle.std.specs.Prelude.{Option, Result, Ok, Err, OnOk, is_ok}
+use Rattle.std.specs.Prelude.{Option, Result, Ok, Err, OnOk, is_ok, if◌then◌else◌}
 use Rattle.std.proofs.Math.Seq.{drop-length}
 use Rattle.std.proofs.lemmas.List.{append-nil, length-map}
 use mathlib.Core.List.{map-append}
@@ -37,13 +37,14 @@ use Rattle.lift_clerk.specs.Keeping.{CrashesKeep, KeepsEither, MomentsKeep, Leav
 use Rattle.lift_clerk.specs.lemmas.Adding.{failed, turned_while_broken}
 use Rattle.lift_clerk.specs.lemmas.Keeps.{kept_now}
 use Rattle.lift_parts.specs.declared.counts.FlushCounts.{FlushCounts}
-use Rattle.lift_parts.specs.Batch.{BatchState, state_with_entries, AreBelow, commands_in, replies_in, entries_of_batches}
+use Rattle.lift_parts.specs.Batch.{BatchState, AreBelow, commands_in, replies_in, entries_of_batches}
 use Rattle.lift_clerk.specs.lemmas.Asked.{not_both}
-use Rattle.lift_parts.specs.Flusher.{FlusherState, IsFlusher, IsEmptyTurn, IsBatchTurn, AnswersBatch}
+use Rattle.lift_parts.specs.Flusher.{FlusherState, IsFlusher, IsEmptyTurn, IsBatchTurn, AnswersBatch, entries_received}
 use Rattle.lift_parts.specs.Turns.{NoFlush, OneFlush}
-use Rattle.lift_parts.specs.History.{group_after, held_in, Adds, GoesOnTo, FlushStands, FlushesStand, TurnsGoOn, SplitsGoOn, JoinedGoOn}
+use Rattle.lift_parts.specs.History.{group_after, held_in, GoesOnTo, FlushStands, FlushesStand, TurnsGoOn, SplitsGoOn, JoinedGoOn}
 use Rattle.lift_parts.specs.Past.{flush_events, FlushLeadsOn, FlushesLeadOn, SplitsKeepPasts, JoinedKeepPasts}
-use Rattle.lift_parts.specs.lemmas.Received.{entries_between, commits_to}
+use Rattle.lift_parts.specs.Line.{ReceiveState, tried}
+use Rattle.lift_parts.specs.lemmas.Received.{entries_between, commits_to, none_received, one_received}
 use Rattle.lift_parts.proofs.Answering.{replies_of, held_is, answers_them}
 
 is_whole : (b : Bool) → (b ≡ true → ⊥) → b ≡ false
@@ -57,6 +58,43 @@ some_long (x ∷ xs) some = omega arith
 no_entries : (xs : List Entry) → length xs ≡ 0 → xs ≡ []
 no_entries [] e = refl
 no_entries (x ∷ xs) e = absurd (omega arith)
+
+-- what a batch's commands led to, with what was accepted of them
+abbrev state_with_entries : BatchState → State
+state_with_entries batch = record batch.after { batch = batch.entries }
+
+-- what turns add, before their history
+record Adds {D : Type 0} (f g : FlusherState D) (more : List Entry) (told : List Taken) : Type 0 where
+  kept : List BatchState
+  lost : List BatchState
+  received : g.end.received ≡ f.end.received ++ (kept ++ lost)
+  more_is : more ≡ entries_of_batches kept
+  told_is : told ≡ held_in kept ++ map unknown_to (held_in lost)
+  was_broken : f.writer.is_broken ≡ true → (kept ≡ []) × (g.writer.is_broken ≡ true)
+  is_whole : g.writer.is_broken ≡ false → lost ≡ []
+
+abbrev going : {D : Type 0} (f g : FlusherState D) (base : RegisterState) (safe : List Entry) (given : List Taken) (more : List Entry) (told : List Taken) → Adds f g more told
+    → History base (group_after g) (safe ++ more) (given ++ told) → GoesOnTo f g base safe given
+going f g base safe given more told adds history = record {
+  kept = adds.kept;
+  lost = adds.lost;
+  received = adds.received;
+  was_broken = adds.was_broken;
+  is_whole = adds.is_whole;
+  more = more;
+  told = told;
+  more_is = adds.more_is;
+  told_is = adds.told_is;
+  history = history;
+}
+
+adds_of : {D : Type 0} {f g : FlusherState D} {base : RegisterState} {safe : List Entry} {given : List Taken} (x : GoesOnTo f g base safe given) → Adds f g x.more x.told
+adds_of x = record { kept = x.kept; lost = x.lost; received = x.received; more_is = x.more_is; told_is = x.told_is; was_broken = x.was_broken; is_whole = x.is_whole }
+
+-- the batch on its way
+on_its_way : (broken : Bool) (batch doubt received : List Entry) → (broken ≡ false → batch ≡ received) → (broken ≡ true → batch ≡ doubt) → batch ≡ (if broken then doubt else received)
+on_its_way true batch doubt received whole was = was refl
+on_its_way false batch doubt received whole was = whole refl
 
 -- ---- what a commit leaves
 abbrev failing : KeeperFault → Result FlushCounts KeeperFault
@@ -124,6 +162,9 @@ module _ {D : Type 0} (state : D → DiskState) (crashes : CrashesKeep D) (law :
     moments false whole =
         subst (λ (xs : List Entry). LeavesOnly old new (IsInDoubt plan register xs)) (none_between ∙ sym (no_doubt whole)) (c.is.safe.any_moment whole)
 
+    received_none : entries_received f.end g.end ≡ []
+    received_none = none_received f.end g.end (tried f.end.tries true) (ap (λ (x : FlusherState D). x.end) e.same)
+
     same_received : g.end.received ≡ f.end.received ++ []
     same_received = ap (λ (x : FlusherState D). x.end.received) e.same ∙ sym (append-nil f.end.received)
 
@@ -145,13 +186,11 @@ module _ {D : Type 0} (state : D → DiskState) (crashes : CrashesKeep D) (law :
     }
 
     -- no event
-    pub empty_leads : (w : World) (terminals : Terminals) → IsPastOf w (group_after f) terminals safe given → FlushLeadsOn f g answer w terminals safe given
-    empty_leads w terminals p = record {
+    pub empty_leads : (w : World) → base ≡ w.base → (terminals : Terminals) → IsPastOf w (group_after f) terminals safe given → FlushLeadsOn f g answer w terminals safe given
+    empty_leads w own terminals p = record {
       received = [];
       receives = same_received;
-      more = [];
-      told = [];
-      adds = empty_adds;
+      goes_on = going f g w.base safe given [] [] empty_adds (subst (λ (b : RegisterState). History b (group_after g) (safe ++ []) (given ++ [])) own empty_history);
       letters = [];
       leads = λ folds. record {
         end = w;
@@ -164,17 +203,9 @@ module _ {D : Type 0} (state : D → DiskState) (crashes : CrashesKeep D) (law :
 
     pub empty_stands : FlushStands f g base safe given old new
     empty_stands = record {
-      goes_on = record {
-        more = [];
-        told = [];
-        adds = empty_adds;
-        history = empty_history;
-      };
-      received = [];
-      receives = same_received;
+      goes_on = going f g base safe given [] [] empty_adds empty_history;
       batch = f.writer.doubt;
-      while_whole = no_doubt;
-      while_broken = λ broken. refl;
+      is = on_its_way f.writer.is_broken f.writer.doubt f.writer.doubt (entries_received f.end g.end) (λ whole. no_doubt whole ∙ sym received_none) (λ broken. refl);
       stands = law (group_after f) f.writer.doubt g.writer.device (inl refl) (moments f.writer.is_broken refl) base safe given h;
       now = keeps_after answer c (safe ++ []) (given ++ []) empty_history;
     }
@@ -225,14 +256,17 @@ module _ {D : Type 0} (state : D → DiskState) (crashes : CrashesKeep D) (law :
           moment_of state f.writer (entries_between f.end g.end) g.end.state.register g.writer answer c whole batch.entries (ap (λ (s : State). s.register) t.receives.state ∙ shows whole)
 
       -- what it adds
-      one_received : g.end.received ≡ f.end.received ++ (batch ∷ [])
-      one_received = t.receives.receives
+      receives_one : g.end.received ≡ f.end.received ++ (batch ∷ [])
+      receives_one = t.receives.receives
+
+      received_is : batch.entries ≡ entries_received f.end g.end
+      received_is = sym (one_received f.end g.end batch t.receives.receives)
 
       kept_adds : f.writer.is_broken ≡ false → Adds f g (entries_of_batches (batch ∷ [])) (held_in (batch ∷ []) ++ map unknown_to (held_in []))
       kept_adds whole = record {
         kept = batch ∷ [];
         lost = [];
-        received = one_received;
+        received = receives_one;
         more_is = refl;
         told_is = refl;
         was_broken = λ broken. not_both f.writer.is_broken whole broken;
@@ -243,7 +277,7 @@ module _ {D : Type 0} (state : D → DiskState) (crashes : CrashesKeep D) (law :
       lost_adds breaks = record {
         kept = [];
         lost = batch ∷ [];
-        received = one_received;
+        received = receives_one;
         more_is = refl;
         told_is = refl;
         was_broken = λ broken. (refl, breaks);
@@ -281,31 +315,22 @@ module _ {D : Type 0} (state : D → DiskState) (crashes : CrashesKeep D) (law :
 
       pub safe_stands : FlushStands f g base safe given old new
       safe_stands = record {
-        goes_on = record {
-          more = entries_of_batches (batch ∷ []);
-          told = held_in (batch ∷ []) ++ map unknown_to (held_in []);
-          adds = kept_adds (Ok counts) t was_whole;
-          history = safe_history;
-        };
-        received = batch ∷ [];
-        receives = one_received (Ok counts) t;
+        goes_on = going f g base safe given (entries_of_batches (batch ∷ [])) (held_in (batch ∷ []) ++ map unknown_to (held_in [])) (kept_adds (Ok counts) t was_whole) safe_history;
         batch = batch.entries;
-        while_whole = λ whole. sym (append-nil batch.entries);
-        while_broken = λ broken. not_both f.writer.is_broken was_whole broken;
+        is = on_its_way f.writer.is_broken batch.entries f.writer.doubt (entries_received f.end g.end) (λ whole. received_is (Ok counts) t) (λ broken. not_both f.writer.is_broken was_whole broken);
         stands = law (group_after f) batch.entries g.writer.device (inr (accepts (Ok counts) t was_whole)) (moments_whole (Ok counts) t was_whole c) base safe given h;
         now = keeps_after (Ok counts) c (safe ++ entries_of_batches (batch ∷ [])) (given ++ (held_in (batch ∷ []) ++ map unknown_to (held_in []))) safe_history;
       }
 
-      pub safe_leads : PastsGoOn D → (w : World) (terminals : Terminals) → IsPastOf w (group_after f) terminals safe given → TakesAsks (group_after g) terminals
+      pub safe_leads : PastsGoOn D → (w : World) → base ≡ w.base → (terminals : Terminals) → IsPastOf w (group_after f) terminals safe given → TakesAsks (group_after g) terminals
           → FlushLeadsOn f g (Ok counts) w terminals safe given
-      safe_leads past w terminals p takes =
+      safe_leads past w own terminals p takes =
           let k = past.batches (group_after f) (group_after g) makes_safe w terminals safe given p takes in
           record {
             received = batch ∷ [];
-            receives = one_received (Ok counts) t;
-            more = entries_of_batches (batch ∷ []);
-            told = held_in (batch ∷ []) ++ map unknown_to (held_in []);
-            adds = kept_adds (Ok counts) t was_whole;
+            receives = receives_one (Ok counts) t;
+            goes_on = going f g w.base safe given (entries_of_batches (batch ∷ [])) (held_in (batch ∷ []) ++ map unknown_to (held_in [])) (kept_adds (Ok counts) t was_whole)
+                (subst (λ (b : RegisterState). History b (group_after g) (safe ++ entries_of_batches (batch ∷ [])) (given ++ (held_in (batch ∷ []) ++ map unknown_to (held_in [])))) own safe_history);
             letters = k.0;
             leads = λ folds.
                 let es : List Event = flush_events (batch ∷ []) true f.writer.is_broken k.0 folds in
@@ -323,12 +348,7 @@ module _ {D : Type 0} (state : D → DiskState) (crashes : CrashesKeep D) (law :
       lost_now k = keeps_after (Err fault) c (safe ++ []) (given ++ (held_in [] ++ map unknown_to (held_in (batch ∷ [])))) (lost_history k)
 
       abbrev lost_goes_on : Now safe (with_given false) → GoesOnTo f g base safe given
-      lost_goes_on k = record {
-        more = [];
-        told = held_in [] ++ map unknown_to (held_in (batch ∷ []));
-        adds = lost_adds (Err fault) t c.is.breaks;
-        history = lost_history k;
-      }
+      lost_goes_on k = going f g base safe given [] (held_in [] ++ map unknown_to (held_in (batch ∷ []))) (lost_adds (Err fault) t c.is.breaks) (lost_history k)
 
       abbrev leaves_in_doubt : f.writer.is_broken ≡ false → fault ≡ Journal Disk → LeavesInDoubt (group_after f) (group_after g)
       leaves_in_doubt whole e =
@@ -355,11 +375,8 @@ module _ {D : Type 0} (state : D → DiskState) (crashes : CrashesKeep D) (law :
       disk_stands : f.writer.is_broken ≡ false → fault ≡ Journal Disk → FlushStands f g base safe given old new
       disk_stands whole e = record {
         goes_on = lost_goes_on (failed h (leaves_in_doubt whole e));
-        received = batch ∷ [];
-        receives = one_received (Err fault) t;
         batch = batch.entries;
-        while_whole = λ still. sym (append-nil batch.entries);
-        while_broken = λ broken. not_both f.writer.is_broken whole broken;
+        is = on_its_way f.writer.is_broken batch.entries f.writer.doubt (entries_received f.end g.end) (λ still. received_is (Err fault) t) (λ broken. not_both f.writer.is_broken whole broken);
         stands = law (group_after f) batch.entries g.writer.device (inr (accepts (Err fault) t whole)) (moments_whole (Err fault) t whole c) base safe given h;
         now = lost_now (failed h (leaves_in_doubt whole e));
       }
@@ -367,42 +384,38 @@ module _ {D : Type 0} (state : D → DiskState) (crashes : CrashesKeep D) (law :
       broken_stands : f.writer.is_broken ≡ true → FlushStands f g base safe given old new
       broken_stands broken = record {
         goes_on = lost_goes_on (turned_while_broken h (answers_unknown broken));
-        received = batch ∷ [];
-        receives = one_received (Err fault) t;
         batch = f.writer.doubt;
-        while_whole = λ whole. not_both f.writer.is_broken whole broken;
-        while_broken = λ still. refl;
+        is = on_its_way f.writer.is_broken f.writer.doubt f.writer.doubt (entries_received f.end g.end) (λ whole. not_both f.writer.is_broken whole broken) (λ still. refl);
         stands = law (group_after f) f.writer.doubt g.writer.device (inl refl) (c.is.safe.while_broken broken) base safe given h;
         now = lost_now (turned_while_broken h (answers_unknown broken));
       }
 
-      lost_leads : (w : World) (terminals : Terminals) (was : Bool) (letters : List (Option ℕ)) → f.writer.is_broken ≡ was
+      lost_leads : (w : World) → base ≡ w.base → Now safe (with_given false) → (terminals : Terminals) (was : Bool) (letters : List (Option ℕ)) → f.writer.is_broken ≡ was
           → ((folds : ℕ) → LeadsToPast w (flush_events (batch ∷ []) false was letters folds) (group_after g) terminals (safe ++ []) (with_given false)) → FlushLeadsOn f g (Err fault) w terminals safe given
-      lost_leads w terminals was letters is leads = record {
+      lost_leads w own k terminals was letters is leads = record {
         received = batch ∷ [];
-        receives = one_received (Err fault) t;
-        more = [];
-        told = held_in [] ++ map unknown_to (held_in (batch ∷ []));
-        adds = lost_adds (Err fault) t c.is.breaks;
+        receives = receives_one (Err fault) t;
+        goes_on = going f g w.base safe given [] (held_in [] ++ map unknown_to (held_in (batch ∷ []))) (lost_adds (Err fault) t c.is.breaks)
+            (subst (λ (b : RegisterState). History b (group_after g) (safe ++ []) (given ++ (held_in [] ++ map unknown_to (held_in (batch ∷ []))))) own (lost_history k));
         letters = letters;
         leads = λ folds.
             subst (λ (b : Bool). LeadsToPast w (flush_events (batch ∷ []) false b letters folds) (group_after g) terminals (safe ++ []) (given ++ (held_in [] ++ map unknown_to (held_in (batch ∷ []))))) (sym is)
             (subst (λ (ts : List Taken). LeadsToPast w (flush_events (batch ∷ []) false was letters folds) (group_after g) terminals (safe ++ []) ts) (lost_told (Err fault) t) (leads folds));
       }
 
-      leads_by_cause : PastsGoOn D → (w : World) (terminals : Terminals) → IsPastOf w (group_after f) terminals safe given → TakesAsks (group_after g) terminals
+      leads_by_cause : PastsGoOn D → (w : World) → base ≡ w.base → (terminals : Terminals) → IsPastOf w (group_after f) terminals safe given → TakesAsks (group_after g) terminals
           → f.writer.is_broken ≡ false → (fault ≡ Journal Disk) ⊎ (fault ≡ Journal Broken) → FlushLeadsOn f g (Err fault) w terminals safe given
-      leads_by_cause past w terminals p takes whole (inl e) =
+      leads_by_cause past w own terminals p takes whole (inl e) =
           let k = past.doubts (group_after f) (group_after g) (leaves_in_doubt whole e) w terminals safe given p takes in
-          lost_leads w terminals false k.0 whole k.1
-      leads_by_cause past w terminals p takes whole (inr e) = not_both f.writer.is_broken whole (c.is.broken.0 (ap (λ (x : KeeperFault). Err x) e))
+          lost_leads w own (failed h (leaves_in_doubt whole e)) terminals false k.0 whole k.1
+      leads_by_cause past w own terminals p takes whole (inr e) = not_both f.writer.is_broken whole (c.is.broken.0 (ap (λ (x : KeeperFault). Err x) e))
 
-      pub fault_leads : PastsGoOn D → (w : World) (terminals : Terminals) → IsPastOf w (group_after f) terminals safe given → TakesAsks (group_after g) terminals
+      pub fault_leads : PastsGoOn D → (w : World) → base ≡ w.base → (terminals : Terminals) → IsPastOf w (group_after f) terminals safe given → TakesAsks (group_after g) terminals
           → (b : Bool) → f.writer.is_broken ≡ b → FlushLeadsOn f g (Err fault) w terminals safe given
-      fault_leads past w terminals p takes true broken =
+      fault_leads past w own terminals p takes true broken =
           let k = past.unknowns (group_after f) (group_after g) (answers_unknown broken) w terminals safe given p takes in
-          lost_leads w terminals true k.0 broken k.1
-      fault_leads past w terminals p takes false whole = leads_by_cause past w terminals p takes whole c.is.causes
+          lost_leads w own (turned_while_broken h (answers_unknown broken)) terminals true k.0 broken k.1
+      fault_leads past w own terminals p takes false whole = leads_by_cause past w own terminals p takes whole c.is.causes
 
       by_cause : f.writer.is_broken ≡ false → (fault ≡ Journal Disk) ⊎ (fault ≡ Journal Broken) → FlushStands f g base safe given old new
       by_cause whole (inl e) = disk_stands whole e
@@ -417,11 +430,11 @@ module _ {D : Type 0} (state : D → DiskState) (crashes : CrashesKeep D) (law :
     batch_stands (Ok counts) t c = safe_stands counts t c
     batch_stands (Err fault) t c = fault_stands fault t c f.writer.is_broken refl
 
-    pub batch_leads : PastsGoOn D → (w : World) (terminals : Terminals) → IsPastOf w (group_after f) terminals safe given → TakesAsks (group_after g) terminals
+    pub batch_leads : PastsGoOn D → (w : World) → base ≡ w.base → (terminals : Terminals) → IsPastOf w (group_after f) terminals safe given → TakesAsks (group_after g) terminals
         → (answer : Result FlushCounts KeeperFault) → IsBatchTurn f g batch answer → CommitsTo {T = FlushCounts} state f.writer (entries_between f.end g.end) g.end.state.register g.writer answer
         → FlushLeadsOn f g answer w terminals safe given
-    batch_leads past w terminals p takes (Ok counts) t c = safe_leads counts t c past w terminals p takes
-    batch_leads past w terminals p takes (Err fault) t c = fault_leads fault t c past w terminals p takes f.writer.is_broken refl
+    batch_leads past w own terminals p takes (Ok counts) t c = safe_leads counts t c past w own terminals p takes
+    batch_leads past w own terminals p takes (Err fault) t c = fault_leads fault t c past w own terminals p takes f.writer.is_broken refl
 
 pub flushes_stand : {D : Type 0} (state : D → DiskState) → CrashesKeep D → MomentsKeep D state → FlushesStand D state
 flushes_stand state crashes law f g answer k base safe given h =
@@ -430,8 +443,8 @@ flushes_stand state crashes law f g answer k base safe given h =
 
 pub flushes_lead_on : {D : Type 0} (state : D → DiskState) → CrashesKeep D → MomentsKeep D state → PastsGoOn D → FlushesLeadOn D state
 flushes_lead_on state crashes law past f g answer k w terminals safe given p takes =
-    ⊎_elim (λ e. empty_leads state crashes law f g w.base safe given p.history answer e (commits_to state f g answer k) w terminals p)
-    (λ t. batch_leads state crashes law f g w.base safe given p.history k.before k.same.0 t.0 past w terminals p takes answer t.1 (commits_to state f g answer k)) k.turns
+    ⊎_elim (λ e. empty_leads state crashes law f g w.base safe given p.history answer e (commits_to state f g answer k) w refl terminals p)
+    (λ t. batch_leads state crashes law f g w.base safe given p.history k.before k.same.0 t.0 past w refl terminals p takes answer t.1 (commits_to state f g answer k)) k.turns
 
 -- ---- any number of turns
 entries_both : (xs ys : List BatchState) → entries_of_batches (xs ++ ys) ≡ entries_of_batches xs ++ entries_of_batches ys
@@ -478,29 +491,22 @@ module _ {D : Type 0} (f m g : FlusherState D) (base : RegisterState) (safe : Li
       }
 
   goes_both : (x : GoesOnTo f m base safe given) → GoesOnTo m g base (safe ++ x.more) (given ++ x.told) → GoesOnTo f g base safe given
-  goes_both x y = record {
-    more = x.more ++ y.more;
-    told = x.told ++ y.told;
-    adds = adds_both x.more y.more x.told y.told x.adds y.adds m.writer.is_broken refl;
-    history = subst (λ (es : List Entry). History base (group_after g) es (given ++ (x.told ++ y.told))) (append_assoc safe x.more y.more)
-        (subst (λ (hs : List Taken). History base (group_after g) ((safe ++ x.more) ++ y.more) hs) (append_assoc given x.told y.told) y.history);
-  }
+  goes_both x y = going f g base safe given (x.more ++ y.more) (x.told ++ y.told) (adds_both x.more y.more x.told y.told (adds_of x) (adds_of y) m.writer.is_broken refl)
+      (subst (λ (es : List Entry). History base (group_after g) es (given ++ (x.told ++ y.told))) (append_assoc safe x.more y.more)
+      (subst (λ (hs : List Taken). History base (group_after g) ((safe ++ x.more) ++ y.more) hs) (append_assoc given x.told y.told) y.history))
 
 goes_nowhere : {D : Type 0} (f : FlusherState D) (base : RegisterState) (safe : List Entry) (given : List Taken) → History base (group_after f) safe given → GoesOnTo f f base safe given
-goes_nowhere f base safe given h = record {
-  more = [];
-  told = [];
-  adds = record {
-    kept = [];
-    lost = [];
-    received = sym (append-nil f.end.received);
-    more_is = refl;
-    told_is = refl;
-    was_broken = λ broken. (refl, broken);
-    is_whole = λ whole. refl;
-  };
-  history = subst (λ (es : List Entry). History base (group_after f) es (given ++ [])) (sym (append-nil safe)) (subst (λ (hs : List Taken). History base (group_after f) safe hs) (sym (append-nil given)) h);
-}
+goes_nowhere f base safe given h = going f f base safe given [] []
+    (record {
+      kept = [];
+      lost = [];
+      received = sym (append-nil f.end.received);
+      more_is = refl;
+      told_is = refl;
+      was_broken = λ broken. (refl, broken);
+      is_whole = λ whole. refl;
+    })
+    (subst (λ (es : List Entry). History base (group_after f) es (given ++ [])) (sym (append-nil safe)) (subst (λ (hs : List Taken). History base (group_after f) safe hs) (sym (append-nil given)) h))
 
 module _ {D : Type 0} (state : D → DiskState) (crashes : CrashesKeep D) (law : MomentsKeep D state) where
   pub turns_go_on : TurnsGoOn D state

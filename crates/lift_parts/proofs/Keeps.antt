@@ -13,7 +13,7 @@ use Rattle.lift_parts.specs.declared.counts.FlushCounts.{FlushCounts}
 use Rattle.lift_parts.specs.Flusher.{FlusherState}
 use Rattle.lift_parts.specs.Turns.{FlusherTurns, IsFlush, NoFlush, OneFlush}
 use Rattle.lift_parts.specs.History.{FlushesStand, FlushStands, group_after}
-use Rattle.lift_parts.specs.Keeping.{HaveKept, KeepingTurns, LosesNothing, NoneYet, OneKept, TurnsKeep}
+use Rattle.lift_parts.specs.Keeping.{HaveKept, KeepingTurns, NoneYet, OneKept, TurnsKeep}
 use Rattle.lift_parts.specs.lemmas.Received.{commits_to}
 use Rattle.lift_parts.proofs.GoesOn.{leaves_after}
 
@@ -35,27 +35,25 @@ module _ {D : Type 0} (state : D → DiskState) where
       (leaves_weaker (state h.writer.device) last (KeepsAll D h.writer.plan base (now ++ s.goes_on.told)) (KeepsAll D g.writer.plan base now)
       (λ honest left kept. keeps_fewer g.writer.plan h.writer.plan base now s.goes_on.told left flush.commits.same.0 kept) keeps)
 
-  loses_on : (base : RegisterState) (f g : FlusherState D) (safe mid : List Entry) (given now : List Taken) (turns : KeepingTurns state base f safe given g mid now) (last : DiskState) → LeavesOnly (state g.writer.device) last (KeepsAll D g.writer.plan base now) → LosesNothing last turns
-  loses_on base f g safe mid given now NoneYet last keeps = tt
-  loses_on base f h safe end given later (OneKept {g = g} {mid = mid} {now = now} {answer = answer} turns flush s) last keeps =
-      let before = since base g h mid now answer flush s last keeps in (loses_on base f g safe mid given now turns last before, before)
-
-  loses_nothing : (base : RegisterState) (f g : FlusherState D) (safe mid : List Entry) (given now : List Taken) (turns : KeepingTurns state base f safe given g mid now) → LosesNothing (state g.writer.device) turns
-  loses_nothing base f g safe mid given now NoneYet = tt
-  loses_nothing base f h safe end given later (OneKept {g = g} {mid = mid} {now = now} turns flush s) =
-      let before = within base g h mid now s in (loses_on base f g safe mid given now turns (state h.writer.device) before, before)
+  -- so the same turns lose nothing until a later device either
+  lasting : (base : RegisterState) (until : DiskState) (f : FlusherState D) (safe : List Entry) (given : List Taken) (g : FlusherState D) (mid : List Entry) (now : List Taken) (last : DiskState) → KeepingTurns state base until f safe given g mid now
+      → LeavesOnly (state g.writer.device) last (KeepsAll D g.writer.plan base now) → KeepingTurns state base last f safe given g mid now
+  lasting base until f safe given g mid now last NoneYet keeps = NoneYet
+  lasting base until f safe given h end later last (OneKept {g = g} {mid = mid} {now = now} {answer = answer} turns flush s kept) keeps =
+      let before = since base g h mid now answer flush s last keeps in
+      OneKept (lasting base until f safe given g mid now last turns before) flush s before
 
   pub turns_keep : CrashesKeep D → FlushesStand D state → TurnsKeep D state
   turns_keep law stand f g first last base safe given h NoFlush =
-      record { now_safe = safe; now_given = given; turns = NoneYet; loses_nothing = tt; history = h; kept = kept_now law base (group_after f) safe given h (state f.writer.device) }
+      record { now_safe = safe; now_given = given; turns = NoneYet; history = h; kept = kept_now law base (group_after f) safe given h (state f.writer.device) }
   turns_keep law stand f g first last base safe given h (OneFlush {g = m} {first = before} {answer = answer} more flush is) =
       let k : HaveKept state base f m safe given = turns_keep law stand f m first before base safe given h more in
       let s = stand m g answer flush base k.now_safe k.now_given k.history in
+      let before_it = within base m g k.now_safe k.now_given s in
       record {
         now_safe = k.now_safe ++ s.goes_on.more;
         now_given = k.now_given ++ s.goes_on.told;
-        turns = OneKept k.turns flush s;
-        loses_nothing = loses_nothing base f g safe (k.now_safe ++ s.goes_on.more) given (k.now_given ++ s.goes_on.told) (OneKept k.turns flush s);
+        turns = OneKept (lasting base (state m.writer.device) f safe given m k.now_safe k.now_given (state g.writer.device) k.turns before_it) flush s before_it;
         history = s.goes_on.history;
         kept = λ leaves. s.now (leaves_on f m first before leaves more);
       }

@@ -43,7 +43,7 @@ use Rattle.lift_clerk.specs.lemmas.Words.{last_has, one_ask, asks_both, asks_cou
 use Rattle.lift_clerk.specs.lemmas.Visiting.{taken-new, taken-old}
 use Rattle.lift_clerk.specs.declared.counts.Counts.{Counts}
 use Rattle.lift_parts.specs.Batch.{BatchState, AreBelow, replies_in}
-use Rattle.lift_parts.specs.Scan.{TakesAt, TakesEach}
+use Rattle.lift_parts.specs.Scan.{TakesAt}
 use Rattle.lift_clerk.specs.lemmas.Looking.{length-looked}
 use Rattle.lift_parts.specs.Allocator.{AllocatorState, IsScanTurn}
 use Rattle.lift_parts.specs.Flusher.{FlusherState}
@@ -311,7 +311,7 @@ module _ (laws : RelayLaws) (w : World) (reached : IsReached w) (only : OnlyQueu
       let k = stands laws w reached only t p (later t) (shows_at t p e) word ask at asked in
       ((at.reads.0, k.1), (k.0, tt))
 
-  pub looks_from : (first : ℕ) (places : List ClerkPlace) (visits : List Visit) → ((k t : ℕ) → t ≡ first + k → view_at places k ≡ ahead t) → TakesEach places visits
+  pub looks_from : (first : ℕ) (places : List ClerkPlace) (visits : List Visit) → ((k t : ℕ) → t ≡ first + k → view_at places k ≡ ahead t) → AreLooksAt TakesAt places visits
       → ((k t : ℕ) → t ≡ first + k → TakesAsked w.asked t (view_at (looked_at places visits) k)) → Reads places visits × AllStand (commands_of first visits)
   looks_from first places [] same takes asked = (tt, tt)
   looks_from first [] (u ∷ visits) same takes asked = absurd takes
@@ -377,7 +377,7 @@ below_at : (count first : ℕ) (found : Option Ask) (rest : List Command) → fi
 below_at count first None rest le h = h
 below_at count first (Some ask) rest le h = (le, h)
 
-pub below : (count first : ℕ) (places : List ClerkPlace) (visits : List Visit) → first + length places ≤ count → TakesEach places visits → AreBelow count (commands_of first visits)
+pub below : (count first : ℕ) (places : List ClerkPlace) (visits : List Visit) → first + length places ≤ count → AreLooksAt TakesAt places visits → AreBelow count (commands_of first visits)
 below count first places [] le takes = tt
 below count first [] (u ∷ visits) le takes = absurd takes
 below count first (p ∷ places) (u ∷ visits) le takes = below_at count first u.found (commands_of (suc first) visits) (omega arith) (below count (suc first) places visits (omega arith) takes.1)
@@ -388,7 +388,7 @@ nothing_at : (place : ClerkPlace) (word : ℕ) (found : Option Ask) (first : ℕ
 nothing_at place word None first rest at none = (at.reads, none)
 nothing_at place word (Some ask) first rest at none = absurd (cc)
 
-nothing_read : (places : List ClerkPlace) (visits : List Visit) (first : ℕ) → TakesEach places visits → commands_of first visits ≡ [] → Reads places visits
+nothing_read : (places : List ClerkPlace) (visits : List Visit) (first : ℕ) → AreLooksAt TakesAt places visits → commands_of first visits ≡ [] → Reads places visits
 nothing_read places [] first takes none = tt
 nothing_read [] (u ∷ visits) first takes none = absurd takes
 nothing_read (p ∷ places) (u ∷ visits) first takes none =

@@ -8,11 +8,11 @@ use Rattle.lift_policy.specs.Step.{State}
 use Rattle.lift_policy.specs.Run.{Run}
 use Rattle.lift_clerk.specs.declared.counts.Counts.{Counts}
 use Rattle.lift_clerk.specs.Turn.{without_batch}
-use Rattle.lift_clerk.specs.Visits.{Visit, commands_of, looked_at}
+use Rattle.lift_clerk.specs.Visits.{Visit, AreLooksAt, commands_of, looked_at}
 use Rattle.lift_parts.specs.Batch.{BatchState, next_turns, turns_of, commands_in}
 use Rattle.lift_parts.specs.Batch.{replies_in, noted_in}
 use Rattle.lift_parts.specs.Line.{SendState, Tries, tried, Begins, IsNextBatch, WasFull}
-use Rattle.lift_parts.specs.Scan.{TakesEach, turns_in, words_of}
+use Rattle.lift_parts.specs.Scan.{TakesAt, turns_in, words_of}
 
 pub record AllocatorState (P : Type 0) : Type 0 where
   pub desk : List TableId
@@ -81,7 +81,7 @@ pub record IsScanTurn {P : Type 0} (choice : Choice) (old new : AllocatorState P
   pub batch : BatchState
   pub decided : State
   pub each_once : length visits ≡ length old.desk
-  pub takes : TakesEach old.seat visits
+  pub takes : AreLooksAt TakesAt old.seat visits
   pub looked : new.seat ≡ looked_at old.seat visits
   pub commands : commands_in batch.commands ≡ commands_of 0 visits
   pub notes : noted_in batch.commands ≡ words_of visits
@@ -102,6 +102,5 @@ pub record IsScanTurn {P : Type 0} (choice : Choice) (old new : AllocatorState P
   pub accepted : counts.accepted ≡ length decided.batch
   pub later : Begins old.end.gone new.end.gone
 
-abbrev pub IsAllocation : {P : Type 0} → Choice → AllocatorState P → AllocatorState P → Counts
-    → Type 0
+abbrev pub IsAllocation : {P : Type 0} → Choice → (old new : AllocatorState P) → Counts → Type 0
 IsAllocation choice old new counts = IsFullTurn old new counts ⊎ IsScanTurn choice old new counts

@@ -1,5 +1,5 @@
 -- A sealed batch as contracts see it.
-use Rattle.std.specs.Prelude.{ℕ, ◌≡◌, ◌<◌, List, [], ◌∷◌, length, map, slice_index_or, slice_set}
+use Rattle.std.specs.Prelude.{ℕ, ◌≡◌, ◌<◌, List, [], ◌∷◌, length, map, fold, slice_index_or, slice_set}
 use Rattle.std.specs.List.{AllByRecursion, flat_map}
 use Rattle.atomic_table.specs.Seated.{TableId}
 use Rattle.lift_base.specs.declared.command.Reply.{Reply}
@@ -58,8 +58,7 @@ turns_with turns taken = slice_set turns taken.command.terminal (turn_of taken.n
 
 -- the turns once all of these were taken
 abbrev pub turns_after : List ℕ → List NotedCommand → List ℕ
-turns_after turns [] = turns
-turns_after turns (taken ∷ commands) = turns_after (turns_with turns taken) commands
+turns_after turns commands = fold turns_with turns commands
 
 -- The command's note is of its terminal's table, it says the ask that the command is, and that ask
 -- is later than all that was taken there before.
@@ -77,15 +76,11 @@ AreNoted desk turns [] = Unit {0}
 AreNoted desk turns (taken ∷ commands) = IsNoted desk turns taken
     × AreNoted desk (turns_with turns taken) commands
 
--- what its commands led to, with what was accepted of them
-abbrev pub state_with_entries : BatchState → State
-state_with_entries batch = record batch.after { batch = batch.entries }
-
 -- Its commands with their replies are a run of the rules from before it to after it, which
 -- accepted just its entries.
 pub record IsDecided (batch : BatchState) : Type 0 where
   pub run : Run batch.building any_eligible batch.before (commands_in batch.commands)
-      (replies_in batch.commands) (state_with_entries batch)
+      (replies_in batch.commands) (record batch.after { batch = batch.entries })
   pub shows : batch.after.register ≡ register_of batch.before.register batch.entries
   pub sealed : (batch.before.batch ≡ []) × (batch.after.batch ≡ [])
 

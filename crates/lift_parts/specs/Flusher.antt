@@ -1,6 +1,6 @@
 -- The part that makes batches safe and answers.
 use Rattle.std.specs.Prelude.{ℕ, ◌≡◌, ◌≢◌, Bool, true, false, List, [], ◌∷◌, length, drop, map}
-use Rattle.std.specs.Prelude.{slice_index_or, Some, Result, Ok, Err, is_ok, All}
+use Rattle.std.specs.Prelude.{fold, slice_index_or, Some, Result, Ok, Err, is_ok, All}
 use Rattle.std.specs.List.{AllByRecursion}
 use Rattle.atomic_table.specs.Seated.{TableId}
 use Rattle.lift_base.specs.declared.history.Entry.{Entry}
@@ -52,9 +52,8 @@ noted_visit taken = record { word = taken.note.word; found = Some (ask_of taken.
 
 -- the seats after these looks, one at the terminal of each command
 abbrev pub looked_for : List ClerkPlace → List NotedCommand → List ClerkPlace
-looked_for places [] = places
-looked_for places (taken ∷ batch) = looked_for (clerk_with places taken.command.terminal
-    (with_taking (view_at places taken.command.terminal) taken.note.word)) batch
+looked_for places batch = fold (λ seats t. clerk_with seats t.command.terminal
+    (with_taking (view_at seats t.command.terminal) t.note.word)) places batch
 
 -- such a look at its terminal gives each command
 abbrev pub LooksGive : List ClerkPlace → List NotedCommand → Type 0
@@ -63,8 +62,7 @@ LooksGive places batch = AllByRecursion (λ (t : NotedCommand).
 
 -- the replies of a batch, each to its command's terminal
 abbrev pub answers_in : List NotedCommand → List DueAnswer
-answers_in taken =
-    map (λ (t : NotedCommand). record { terminal = t.command.terminal; reply = t.reply }) taken
+answers_in taken = map (λ t. record { terminal = t.command.terminal; reply = t.reply }) taken
 
 -- Each command's terminal was looked at once; the look read the word that the note says, and gave the
 -- command. Then its answer was stored there: all replies where the batch is safe, else Unknown for

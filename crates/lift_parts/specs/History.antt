@@ -1,6 +1,6 @@
 -- The flusher as a clerk: what it receives goes on from state to state, so what happens to it is a
 -- history of its group, whatever the allocator does.
-use Rattle.std.specs.Prelude.{◌≡◌, true, false, List, [], ◌++◌, map, Option, Result}
+use Rattle.std.specs.Prelude.{◌≡◌, true, false, List, [], ◌++◌, map, Option, Result, if◌then◌else◌}
 use Rattle.std.specs.List.{flat_map}
 use Rattle.lift_base.specs.declared.history.Entry.{Entry}
 use Rattle.lift_disk.specs.Disk.{DiskState, LeavesNow, LeavesOnly}
@@ -16,7 +16,7 @@ use Rattle.lift_clerk.specs.History.{History}
 use Rattle.lift_clerk.specs.Keeping.{KeepsEither, LeavesSafe}
 use Rattle.lift_parts.specs.declared.counts.FlushCounts.{FlushCounts}
 use Rattle.lift_parts.specs.Batch.{BatchState, commands_in, replies_in, entries_of_batches}
-use Rattle.lift_parts.specs.Flusher.{FlusherState}
+use Rattle.lift_parts.specs.Flusher.{FlusherState, entries_received}
 use Rattle.lift_parts.specs.Turns.{FlusherTurns, IsFlush}
 
 -- The group as the flusher has it: a clerk of its seats and its writer, which shows what was
@@ -31,27 +31,22 @@ group_after f = record {
 
 -- the commands of these batches, with their replies
 abbrev pub held_in : List BatchState → List Taken
-held_in batches =
-    flat_map (λ (b : BatchState). with_replies (commands_in b.commands) (replies_in b.commands)) batches
+held_in all = flat_map (λ b. with_replies (commands_in b.commands) (replies_in b.commands)) all
 
--- What a flusher's turns add. Of the batches that they received the first are safe, and their
--- commands have their replies; those after a fault are not, and theirs were answered Unknown.
-pub record Adds {D : Type 0} (old new : FlusherState D) (more : List Entry)
-    (told : List Taken) : Type 0 where
-  pub kept : List BatchState
-  pub lost : List BatchState
-  pub received : new.end.received ≡ old.end.received ++ (kept ++ lost)
-  pub more_is : more ≡ entries_of_batches kept
-  pub told_is : told ≡ held_in kept ++ map unknown_to (held_in lost)
-  pub was_broken : old.writer.is_broken ≡ true → (kept ≡ []) × (new.writer.is_broken ≡ true)
-  pub is_whole : new.writer.is_broken ≡ false → lost ≡ []
-
--- The group's history goes on by that.
+-- A group's history goes on by what a flusher's turns add. Of the batches that they received the first
+-- are safe, and their commands have their replies; those after a fault are not, and theirs were answered
+-- Unknown.
 pub record GoesOnTo {D : Type 0} (f g : FlusherState D) (base : RegisterState)
     (safe : List Entry) (given : List Taken) : Type 0 where
+  pub kept : List BatchState
+  pub lost : List BatchState
+  pub received : g.end.received ≡ f.end.received ++ (kept ++ lost)
+  pub was_broken : f.writer.is_broken ≡ true → (kept ≡ []) × (g.writer.is_broken ≡ true)
+  pub is_whole : g.writer.is_broken ≡ false → lost ≡ []
   pub more : List Entry
   pub told : List Taken
-  pub adds : Adds f g more told
+  pub more_is : more ≡ entries_of_batches kept
+  pub told_is : told ≡ held_in kept ++ map unknown_to (held_in lost)
   pub history : History base (group_after g) (safe ++ more) (given ++ told)
 
 -- One turn: the history goes on, and at each moment of the turn it stands, with the batch that was
@@ -60,11 +55,8 @@ pub record GoesOnTo {D : Type 0} (f g : FlusherState D) (base : RegisterState)
 pub record FlushStands {D : Type 0} (f g : FlusherState D) (base : RegisterState)
     (safe : List Entry) (given : List Taken) (old new : DiskState) : Type 0 where
   pub goes_on : GoesOnTo f g base safe given
-  pub received : List BatchState
-  pub receives : g.end.received ≡ f.end.received ++ received
   pub batch : List Entry
-  pub while_whole : f.writer.is_broken ≡ false → batch ≡ entries_of_batches received
-  pub while_broken : f.writer.is_broken ≡ true → batch ≡ f.writer.doubt
+  pub is : batch ≡ (if f.writer.is_broken then f.writer.doubt else entries_received f.end g.end)
   pub stands : LeavesOnly old new (KeepsEither D f.writer.plan base safe batch given)
   pub now : LeavesSafe f.writer old → LeavesNow new (KeepsEither D g.writer.plan base
       (safe ++ goes_on.more) g.writer.doubt (given ++ goes_on.told))

@@ -12,28 +12,22 @@ use Rattle.lift_parts.specs.Flusher.{FlusherState}
 use Rattle.lift_parts.specs.Turns.{FlusherTurns, IsFlush}
 use Rattle.lift_parts.specs.History.{FlushStands, group_after}
 
--- Turns of a flusher, one after another, from these safe entries and answers to those.
-pub data KeepingTurns {D : Type 0} (state : D → DiskState) (base : RegisterState)
-    : FlusherState D → List Entry → List Taken → FlusherState D → List Entry → List Taken
-    → Type 0 where
-  NoneYet : {f : FlusherState D} {safe : List Entry} {given : List Taken}
-      → KeepingTurns state base f safe given f safe given
-  -- At each moment of one more turn all is kept that was safe and given before it. What the turn
-  -- makes safe and answers is added at the end.
-  OneKept : {f g h : FlusherState D} {safe mid : List Entry} {given now : List Taken}
+-- Turns of a flusher, one after another, from these safe entries and answers to those, which lose
+-- nothing until the device is the last one.
+pub data KeepingTurns {D : Type 0} (state : D → DiskState) (base : RegisterState) (last : DiskState)
+    (f : FlusherState D) (safe : List Entry) (given : List Taken)
+    : FlusherState D → List Entry → List Taken → Type 0 where
+  NoneYet : KeepingTurns state base last f safe given f safe given
+  -- At each moment of one more turn all is kept that was safe and given before it. From its
+  -- beginning until the device is the last one, each image that a crash may leave keeps all that
+  -- had been given by then: what the turns answer is never lost later on. What the turn makes safe
+  -- and answers is added at its end.
+  OneKept : {g h : FlusherState D} {mid : List Entry} {now : List Taken}
       {answer : Result FlushCounts KeeperFault}
-      → KeepingTurns state base f safe given g mid now → IsFlush state g h answer
+      → KeepingTurns state base last f safe given g mid now → IsFlush state g h answer
       → (s : FlushStands g h base mid now (state g.writer.device) (state h.writer.device))
-      → KeepingTurns state base f safe given h (mid ++ s.goes_on.more) (now ++ s.goes_on.told)
-
--- From the beginning of each of these turns until the device is this one, each image that a crash may
--- leave keeps all that had been given by then: what the turns answer is never lost later on.
-abbrev pub LosesNothing : {D : Type 0} {state : D → DiskState} {base : RegisterState} {f g : FlusherState D}
-    {safe mid : List Entry} {given now : List Taken} → DiskState
-    → KeepingTurns state base f safe given g mid now → Type 0
-LosesNothing last NoneYet = Unit {0}
-LosesNothing {D} {state} {base} last (OneKept {g = g} {now = now} turns flush s) = LosesNothing last turns
-    × LeavesOnly (state g.writer.device) last (KeepsAll D g.writer.plan base now)
+      → LeavesOnly (state g.writer.device) last (KeepsAll D g.writer.plan base now)
+      → KeepingTurns state base last f safe given h (mid ++ s.goes_on.more) (now ++ s.goes_on.told)
 
 -- The turns have come to this flusher. Just these entries are safe now and just these commands were
 -- answered: that is the history of its group. A crash now leaves what keeps them, where one before
@@ -42,9 +36,7 @@ pub record HaveKept {D : Type 0} (state : D → DiskState) (base : RegisterState
     (f g : FlusherState D) (safe : List Entry) (given : List Taken) : Type 0 where
   pub now_safe : List Entry
   pub now_given : List Taken
-  pub turns : KeepingTurns state base f safe given g now_safe now_given
-  -- from each turn on to the last
-  pub loses_nothing : LosesNothing (state g.writer.device) turns
+  pub turns : KeepingTurns state base (state g.writer.device) f safe given g now_safe now_given
   pub history : History base (group_after g) now_safe now_given
   pub kept : LeavesSafe f.writer (state f.writer.device) → LeavesNow (state g.writer.device)
       (KeepsEither D g.writer.plan base now_safe g.writer.doubt now_given)

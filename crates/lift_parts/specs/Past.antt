@@ -20,7 +20,7 @@ use Rattle.lift_parts.specs.declared.counts.FlushCounts.{FlushCounts}
 use Rattle.lift_parts.specs.Batch.{BatchState, commands_in}
 use Rattle.lift_parts.specs.Flusher.{FlusherState}
 use Rattle.lift_parts.specs.Turns.{IsFlush}
-use Rattle.lift_parts.specs.History.{group_after, Adds}
+use Rattle.lift_parts.specs.History.{group_after, GoesOnTo}
 
 -- The events of a flusher's turn: those of a turn of the machine with the batch that it received,
 -- of one that the device fails, or of one after a fault; and none where it received nothing.
@@ -33,18 +33,16 @@ flush_events (b ∷ batches) false false letters folds =
 flush_events (b ∷ batches) false true letters folds =
     events_while_broken (commands_in b.commands) letters
 
--- One turn leads on from this world by just these events, with what it adds.
+-- One turn leads on from this world by just these events, with what it adds to the history.
 pub record FlushLeadsOn {D : Type 0} (f g : FlusherState D) (answer : Result FlushCounts KeeperFault)
     (w : World) (terminals : Terminals) (safe : List Entry) (given : List Taken) : Type 0 where
   pub received : List BatchState
   pub receives : g.end.received ≡ f.end.received ++ received
-  pub more : List Entry
-  pub told : List Taken
-  pub adds : Adds f g more told
+  pub goes_on : GoesOnTo f g w.base safe given
   pub letters : List (Option ℕ)
   pub leads : (folds : ℕ) → LeadsToPast w
       (flush_events received (is_ok answer) f.writer.is_broken letters folds) (group_after g)
-      terminals (safe ++ more) (given ++ told)
+      terminals (safe ++ goes_on.more) (given ++ goes_on.told)
 
 -- A flusher's turn is a step of its group's past, in each world that it may be in. By the desk's
 -- rule what its seats took is a prefix of what terminals asked.

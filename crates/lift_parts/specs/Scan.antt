@@ -1,6 +1,6 @@
 -- One scan ahead of the answers: what each look found, and what was decided.
-use Rattle.std.specs.Prelude.{ℕ, Option, None, ◌≡◌, ◌<◌, ◌≤◌, ◌+◌, ◌^◌, nat_lt, if◌then◌else◌, List}
-use Rattle.std.specs.Prelude.{[], ◌∷◌, ◌++◌, length, IsSome, IfSome, Some}
+use Rattle.std.specs.Prelude.{ℕ, ◌≡◌, ◌<◌, ◌≤◌, ◌+◌, ◌^◌, nat_lt, if◌then◌else◌, List, [], ◌∷◌}
+use Rattle.std.specs.Prelude.{length, map, filter, is_some, IsSome, IfSome, Some}
 use Rattle.lift_building.specs.Plan.{Plan}
 use Rattle.lift_desk.specs.declared.words.Ask.{Ask}
 use Rattle.lift_desk.specs.Words.{turn_of, last_of}
@@ -10,7 +10,7 @@ use Rattle.lift_desk.specs.Seats.{ClerkPlace, TakesAheadOf, IsToldAhead}
 use Rattle.lift_policy.specs.Eligible.{Choice}
 use Rattle.lift_policy.specs.Step.{State}
 use Rattle.lift_policy.specs.Run.{Run}
-use Rattle.lift_clerk.specs.Visits.{Visit, AreLooksAt, Scans, commands_of}
+use Rattle.lift_clerk.specs.Visits.{Visit, Scans, commands_of}
 use Rattle.lift_parts.specs.declared.taken.NotedCommand.{NotedCommand}
 use Rattle.lift_parts.specs.Batch.{commands_in, replies_in, noted_in}
 
@@ -38,18 +38,9 @@ abbrev pub turns_in : List ClerkPlace → ℕ
 turns_in [] = 0
 turns_in (place ∷ places) = turn_at place + turns_in places
 
--- these looks are at the first places, one at each, in their order
-abbrev pub TakesEach : List ClerkPlace → List Visit → Type 0
-TakesEach places visits = AreLooksAt TakesAt places visits
-
--- the words that these looks took
-abbrev pub word_at : ℕ → Option Ask → List ℕ
-word_at word None = []
-word_at word (Some ask) = word ∷ []
-
+-- the words that these looks took, each where an ask was found
 abbrev pub words_of : List Visit → List ℕ
-words_of [] = []
-words_of (visit ∷ visits) = word_at visit.word visit.found ++ words_of visits
+words_of visits = map (λ (v : Visit). v.word) (filter (λ (v : Visit). is_some v.found) visits)
 
 -- what these looks took was noted, and decided, each command on the state that the earlier ones left
 pub record NotesAndDecides (choice : Choice) (plan : Plan) (before after : State)

@@ -48,9 +48,8 @@ pub record IsFlush {D : Type 0} (state : D
 
 -- the first fault of all turns, once one more has answered this
 abbrev pub first_of : Option KeeperFault → Result FlushCounts KeeperFault → Option KeeperFault
-first_of None (Ok counts) = None
 first_of None (Err fault) = Some fault
-first_of (Some fault) answer = Some fault
+first_of first _ = first
 
 -- Any number of a flusher's turns, one after another. The first fault is the one that was there
 -- before, or that of the first turn that had one.

@@ -15,12 +15,12 @@ use Rattle.lift_policy.specs.Run.{Run}
 use Rattle.lift_clerk.specs.declared.counts.Counts.{Counts}
 use Rattle.lift_clerk.specs.Turn.{without_batch}
 use Rattle.lift_policy.specs.declared.command.Command.{Command}
-use Rattle.lift_clerk.specs.Visits.{commands_of, looked_at}
+use Rattle.lift_clerk.specs.Visits.{AreLooksAt, commands_of, looked_at}
 use Rattle.std.proofs.lemmas.List.{length-map}
 use Rattle.lift_parts.specs.declared.taken.NotedCommand.{NotedCommand}
 use Rattle.lift_parts.specs.Batch.{BatchState, next_turns, turns_of, turns_after, commands_in, replies_in, noted_in}
 use Rattle.lift_parts.specs.Line.{SendState, Tries, tried, Begins, IsNextBatch, SendsOne, WasFull, FindsNoRoom}
-use Rattle.lift_parts.specs.Scan.{ScansAhead, TakesEach, turns_in}
+use Rattle.lift_parts.specs.Scan.{ScansAhead, TakesAt, turns_in}
 use Rattle.lift_relay.specs.Scanner.{ScannerState, MakesBatch, HasScanned}
 use Rattle.lift_relay.proofs.Queues.{full_by}
 use Rattle.lift_parts.specs.Allocator.{AllocatorState, DecidesAlong, GoesOnAfter, IsAllocator, IsScanTurn, IsAllocation, tries_after}
@@ -161,7 +161,7 @@ scan_turn {P} choice old a new counts taken decided batch between scans commands
       batch = batch;
       decided = decided;
       each_once = scans.count ∙ ap (λ (s : AllocatorState P). length s.desk) same;
-      takes = subst (λ (s : AllocatorState P). TakesEach s.seat visits) same scans.looks;
+      takes = subst (λ (s : AllocatorState P). AreLooksAt TakesAt s.seat visits) same scans.looks;
       looked = scans.looked ∙ ap (λ (s : AllocatorState P). looked_at s.seat visits) same;
       commands = ap commands_in commands ∙ scans.found.commands;
       notes = ap noted_in commands ∙ scans.found.notes;

@@ -17,7 +17,7 @@ use Rattle.lift_clerk.specs.Visits.{command_at}
 use Rattle.lift_clerk.specs.lemmas.Visiting.{taken-new, taken-old}
 use Rattle.lift_parts.specs.declared.taken.NotedCommand.{NotedCommand}
 use Rattle.lift_parts.specs.Batch.{commands_in, noted_in, turns_of, turns_with, turns_after, IsNoted, AreNoted}
-use Rattle.lift_parts.specs.Scan.{word_at}
+use Rattle.lift_parts.specs.Scan.{words_of}
 use Rattle.lift_parts.specs.lemmas.Used.{below_is}
 use Rattle.lift_relay.proofs.Flushed.{after_last}
 
@@ -46,7 +46,7 @@ pub noted_more : (desk : List TableId) (turns : List ℕ) (taken : List NotedCom
     → commands_in (option_to_list more) ≡ command_at t found
     → AreNoted desk turns taken → turns_after turns taken ≡ turns_of seat
     → AreNoted desk turns (taken ++ option_to_list more) × (turns_after turns (taken ++ option_to_list more) ≡ turns_of next)
-    × (noted_in (option_to_list more) ≡ word_at word found)
+    × (noted_in (option_to_list more) ≡ words_of (record { word = word; found = found } ∷ []))
 noted_more desk turns taken None seat next t word None inside is takes in_range last of same all used = (
   subst (AreNoted desk turns) (sym (append-nil taken)) all,
   ap (turns_after turns) (append-nil taken) ∙ used ∙ sym (turns_still seat t (with_taking (view_at seat t) word) (taken-old (view_at seat t) word takes)) ∙ ap turns_of (sym is),

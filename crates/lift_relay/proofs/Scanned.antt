@@ -1,6 +1,7 @@
 -- A scan ahead of the answers that has come one terminal further, and what a whole one leaves.
 use Rattle.std.proofs.Common.{◌≡◌, ℕ, suc, ◌+◌, ◌<◌, ◌≤◌, ◌^◌, false, List, [], ◌∷◌, ◌++◌, length, Option, Some, None, refl, sym, ap, ◌∙◌, subst, arith, append_assoc, append-nil}
-use Rattle.std.specs.Prelude.{IfSome, IsSome}
+use Rattle.std.specs.Prelude.{IfSome, IsSome, is_some, filter, map}
+use Rattle.std.proofs.lemmas.List.Elements.{filter-append}
 use Rattle.std.specs.Option.{option_to_list}
 use Rattle.std.proofs.lemmas.List.{map-append}
 use Rattle.atomic_table.specs.Seated.{TableId}
@@ -27,14 +28,16 @@ use Rattle.lift_clerk.specs.lemmas.Visiting.{commands-more}
 use Rattle.lift_clerk.specs.lemmas.Looking.{Looked, inside-desk, one-more}
 use Rattle.lift_parts.specs.declared.taken.NotedCommand.{NotedCommand}
 use Rattle.lift_parts.specs.Batch.{commands_in, replies_in, noted_in, turns_of, AreBelow}
-use Rattle.lift_parts.specs.Scan.{TakesAt, word_at, words_of}
+use Rattle.lift_parts.specs.Scan.{TakesAt, words_of}
 use Rattle.lift_relay.specs.Scanner.{TakesAhead}
 use Rattle.lift_relay.proofs.Noted.{noted_more}
 
 -- the words of one look more
-words-more : (visits : List Visit) (v : Visit) → words_of (visits ++ v ∷ []) ≡ words_of visits ++ word_at v.word v.found
-words-more [] v = append-nil (word_at v.word v.found)
-words-more (u ∷ visits) v = ap (λ l. word_at u.word u.found ++ l) (words-more visits v) ∙ sym (append_assoc (word_at u.word u.found) (words_of visits) (word_at v.word v.found))
+words-more : (visits : List Visit) (v : Visit) → words_of (visits ++ v ∷ []) ≡ words_of visits ++ words_of (v ∷ [])
+words-more visits v =
+    let found = λ (u : Visit). is_some u.found in
+    ap (map (λ (u : Visit). u.word)) (filter-append found visits (v ∷ []))
+    ∙ map-append (λ (u : Visit). u.word) (filter found visits) (filter found (v ∷ []))
 
 -- what the call says of one look
 pub looked-at : (seat next : List ClerkPlace) (n word : ℕ) (found : Option Ask) → n < length seat → next ≡ clerk_with seat n (with_taking (view_at seat n) word) → TakesAheadOf (view_at seat n) word found

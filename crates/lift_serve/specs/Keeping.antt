@@ -30,18 +30,19 @@ StartsFind {F} D held plan base accepted given old new = (after : F)
 -- So it is of each of these turns, from the end of the one before it to its own: with what was safe
 -- until then and the batch on its way, and with all that was answered until then.
 abbrev pub TurnsHandOn : {D F : Type 0} {state : D → DiskState} {base : RegisterState}
-    {f g : FlusherState D} {safe mid : List Entry} {given now : List Taken}
-    → (held : F → DiskState) → Plan → KeepingTurns state base f safe given g mid now → Type 0
+    {last : DiskState} {f : FlusherState D} {safe : List Entry} {given : List Taken}
+    {g : FlusherState D} {mid : List Entry} {now : List Taken}
+    → (held : F → DiskState) → Plan → KeepingTurns state base last f safe given g mid now → Type 0
 TurnsHandOn held plan NoneYet = Unit {0}
-TurnsHandOn {D} {F} {state} {base} {f} {g = h} held plan
-    (OneKept {g = g} {mid = mid} {now = now} turns flush s) = TurnsHandOn held plan turns
+TurnsHandOn {D} {F} {state} {base} {g = h} held plan
+    (OneKept {g = g} {mid = mid} {now = now} turns flush s kept) = TurnsHandOn held plan turns
     × StartsFind D held plan base (mid ++ s.batch) now (state g.writer.device) (state h.writer.device)
 
 -- Whatever turns a flusher has made by any moment, whether or not they end, so it is.
 abbrev pub EachTurnHandsOn : (D F : Type 0) → (D → DiskState) → (F → DiskState) → Type 0
-EachTurnHandsOn D F state held = (base : RegisterState) (f g : FlusherState D) (safe mid : List Entry)
+EachTurnHandsOn D F state held = (base : RegisterState) (last : DiskState) (f g : FlusherState D) (safe mid : List Entry)
     (given now : List Taken) → (state f.writer.device).is_honest
-    → (turns : KeepingTurns state base f safe given g mid now) → TurnsHandOn held f.writer.plan turns
+    → (turns : KeepingTurns state base last f safe given g mid now) → TurnsHandOn held f.writer.plan turns
 
 -- The building was served over a file that was found, and that holds these letters, by turns of a flusher
 -- that began so and came to that. Then the next start finds one that holds all that was answered by then,

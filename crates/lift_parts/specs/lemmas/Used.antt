@@ -10,9 +10,9 @@ use Rattle.lift_desk.specs.Words.{turn_of, last_of}
 use Rattle.lift_desk.specs.Steps.{with_taking}
 use Rattle.lift_desk.specs.Seats.{ClerkPlace, TakesAheadOf}
 use Rattle.lift_desk.specs.lemmas.WordLists.{last_of-push}
-use Rattle.lift_clerk.specs.Visits.{Visit, command_at, commands_of, looked_at}
+use Rattle.lift_clerk.specs.Visits.{Visit, AreLooksAt, command_at, commands_of, looked_at}
 use Rattle.lift_clerk.specs.lemmas.Visiting.{taken-new, taken-old}
-use Rattle.lift_parts.specs.Scan.{TakesAt, TakesEach, capped, turns_in}
+use Rattle.lift_parts.specs.Scan.{TakesAt, capped, turns_in}
 
 pub below_is : (m n : ℕ) → nat_lt m n ≡ true → m < n
 below_is m n e = grind (arith, nat_tests)
@@ -73,7 +73,7 @@ behind first p places word None visits takes rest =
 behind first p places word (Some ask) visits takes rest =
     let one = at_one first p.view word (Some ask) takes.reads takes.turn in omega arith
 
-pub uses : (first : ℕ) (places : List ClerkPlace) (visits : List Visit) → TakesEach places visits
+pub uses : (first : ℕ) (places : List ClerkPlace) (visits : List Visit) → AreLooksAt TakesAt places visits
     → turns_in places + length (commands_of first visits) ≤ turns_in (looked_at places visits)
 uses first places [] takes = omega arith
 uses first [] (v ∷ visits) takes = absurd takes

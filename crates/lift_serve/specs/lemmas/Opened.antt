@@ -40,15 +40,16 @@ record Always {D : Type 0} (state : D → DiskState) (plan : Plan) (base : Regis
   always : LeavesOnly first (state g.writer.device) (KeepsAll D plan base given)
 
 always_on : {D : Type 0} (state : D → DiskState) (plan : Plan) (base : RegisterState)
-    (first : DiskState)
-    (f g : FlusherState D) (safe mid : List Entry) (given now : List Taken) → f.writer.plan ≡ plan
+    (first last : DiskState)
+    (f : FlusherState D) (safe : List Entry) (given : List Taken) (g : FlusherState D)
+    (mid : List Entry) (now : List Taken) → f.writer.plan ≡ plan
     → LeavesOnly first (state f.writer.device) (KeepsAll D plan base given)
-    → KeepingTurns state base f safe given g mid now → Always state plan base first g given now
-always_on state plan base first f g safe mid given now own before NoneYet =
+    → KeepingTurns state base last f safe given g mid now → Always state plan base first g given now
+always_on state plan base first last f safe given g mid now own before NoneYet =
     record { own = own; front = ([], append-nil given); always = before }
-always_on {D} state plan base first f h safe end given later own before
-    (OneKept {g = g} {mid = mid} {now = now} turns flush s) =
-    let k = always_on state plan base first f g safe mid given now own before turns in
+always_on {D} state plan base first last f safe given h end later own before
+    (OneKept {g = g} {mid = mid} {now = now} turns flush s kept) =
+    let k = always_on state plan base first last f safe given g mid now own before turns in
     let told : List Taken = s.goes_on.told in
     record {
       own = flush.commits.same.0 ∙ k.own;
@@ -65,21 +66,21 @@ always_on {D} state plan base first f h safe end given later own before
     }
 
 -- Each of these turns leaves to a start what that takes.
-record Handed {D F : Type 0} (state : D → DiskState) (held : F → DiskState) (plan : Plan) {base : RegisterState} {f g : FlusherState D}
-    {safe mid : List Entry} {given now : List Taken} (turns : KeepingTurns state base f safe given g mid now) : Type 0 where
+record Handed {D F : Type 0} (state : D → DiskState) (held : F → DiskState) (plan : Plan) {base : RegisterState} {last : DiskState} {f g : FlusherState D}
+    {safe mid : List Entry} {given now : List Taken} (turns : KeepingTurns state base last f safe given g mid now) : Type 0 where
   own : g.writer.plan ≡ plan
   honest : (state g.writer.device).is_honest
   cuts : TurnsHandOn held plan turns
 
-handed_on : {D F : Type 0} (state : D → DiskState) (held : F → DiskState) (plan : Plan) (base : RegisterState)
-    (f g : FlusherState D) (safe mid : List Entry) (given now : List Taken) → f.writer.plan ≡ plan
+handed_on : {D F : Type 0} (state : D → DiskState) (held : F → DiskState) (plan : Plan) (base : RegisterState) (last : DiskState)
+    (f : FlusherState D) (safe : List Entry) (given : List Taken) (g : FlusherState D) (mid : List Entry) (now : List Taken) → f.writer.plan ≡ plan
     → (state f.writer.device).is_honest
-    → (turns : KeepingTurns state base f safe given g mid now) → Handed state held plan turns
-handed_on state held plan base f g safe mid given now own honest NoneYet =
+    → (turns : KeepingTurns state base last f safe given g mid now) → Handed state held plan turns
+handed_on state held plan base last f safe given g mid now own honest NoneYet =
     record { own = own; honest = honest; cuts = tt }
-handed_on {D} state held plan base f h safe end given later own honest
-    (OneKept {g = g} {mid = mid} {now = now} turns flush s) =
-    let k = handed_on state held plan base f g safe mid given now own honest turns in
+handed_on {D} state held plan base last f safe given h end later own honest
+    (OneKept {g = g} {mid = mid} {now = now} turns flush s kept) =
+    let k = handed_on state held plan base last f safe given g mid now own honest turns in
     record {
       own = flush.commits.same.0 ∙ k.own;
       honest = s.stands.honest.1 k.honest;
@@ -96,8 +97,8 @@ handed_on {D} state held plan base f h safe end given later own honest
     }
 
 pub turns_hand_on : {D F : Type 0} (state : D → DiskState) (held : F → DiskState) → EachTurnHandsOn D F state held
-turns_hand_on state held base f g safe mid given now honest turns =
-    (handed_on state held f.writer.plan base f g safe mid given now refl honest turns).cuts
+turns_hand_on state held base last f g safe mid given now honest turns =
+    (handed_on state held f.writer.plan base last f safe given g mid now refl honest turns).cuts
 
 -- Keeper::open has opened this device, which holds what was found, and that keeps a prefix of what was
 -- accepted, and all that was given.
@@ -185,8 +186,8 @@ module _ {D F : Type 0} (state : D → DiskState) (held : F → DiskState) (plan
     begun = group.parts.writer ∙ ap (λ (v : KeeperView D). v.writer) group.begins
 
     turned : Always state plan base (state opened) g given kept.now_given
-    turned = always_on state plan base (state opened) f g safe
-        kept.now_safe given kept.now_given
+    turned = always_on state plan base (state opened) (state g.writer.device) f safe
+        given g kept.now_safe kept.now_given
         (ap (λ (v : WriterView D). v.plan) begun ∙ own)
         (subst (λ (v : WriterView D). LeavesOnly (state opened) (state v.device)
         (KeepsAll D plan base given)) (sym begun) recovery_keeps) kept.turns
@@ -194,7 +195,7 @@ module _ {D F : Type 0} (state : D → DiskState) (held : F → DiskState) (plan
     cuts : TurnsHandOn held plan kept.turns
     cuts = subst (λ (p : Plan). TurnsHandOn held p kept.turns)
         (ap (λ (v : WriterView D). v.plan) begun ∙ own)
-        (turns_hand_on state held base f g safe kept.now_safe given
+        (turns_hand_on state held base (state g.writer.device) f g safe kept.now_safe given
         kept.now_given
         (subst (λ (v : WriterView D). (state v.device).is_honest) (sym begun)
         (reopens.moments.honest.1 honest)) kept.turns)
