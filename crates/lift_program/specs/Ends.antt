@@ -258,11 +258,11 @@ abbrev pub MaySay : (gives : Option Listener → Type 0) → ℕ → (before aft
 MaySay gives port before after = (after ≡ before)
     ⊎ ((listener : Listener) × gives (Some listener) × WritesFront before after (serving_text port))
 
--- What a request may come to, by its outcome; a socket at a port gives this. A script, or why it wasn't
--- carried out, and what was to open an image is left. A journal was made, or why not. Open calls were
--- shown, or why not, which is no port, and how much of them was written. A group was served on this port
--- until so many connections had ended; or why not, which is the port only where a socket there was
--- refused, and then something was written only where one was had.
+-- What a request may come to; a socket at a port gives this. A script was carried out, or why not, and
+-- what was to open an image is left. A journal was made, or why not. Open calls were shown; or why not,
+-- which is no port, and how much of them was written. A group was served on this port until so many
+-- connections had ended; or why not, which is the port only where a socket there was refused, and
+-- something was written only where one was had.
 abbrev pub IsEndFor : (files : CommandFiles) → (gives : ℕ → Option Listener → Type 0) → Request
     → (before after : Option (List ℕ)) → EndOver files → Type 0
 IsEndFor files gives Replay before after (Replayed outcome unused) =
@@ -313,8 +313,8 @@ KeepsIfServed files gives words (Served outcome) =
     (request : Request) × AskForRequest words request × KeepsFor files gives request outcome
 KeepsIfServed files gives words end = Unit {0}
 
--- What a command over an image has written that failed: nothing; but where its output is the fault that
--- has failed, and out of memory it may have.
+-- What a command over an image has written that failed: nothing, or its output has failed. Where that is
+-- the fault it has; out of memory it may have, once the image was opened.
 abbrev pub IsReportOfFailure : {D F O : Type 0} → (has_failed : Type 0) → Failure D F O
     → (before after : Option (List ℕ)) → Type 0
 IsReportOfFailure has_failed (Opened (File Output) left) before after = has_failed
