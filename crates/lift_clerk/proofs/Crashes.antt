@@ -1,6 +1,7 @@
 -- What crashes leave, and the letters that it shows.
 use Rattle.std.proofs.Common.{ℕ, suc, zero, ◌≡◌, ◌-◌, ◌+◌, ◌<◌, ◌≤◌, inl, inr, Bool, true, false, List, [], ◌∷◌, ◌++◌, length, take, drop, replicate, Option, Some, refl, sym, ap, subst, ◌∙◌, arith}
 use Rattle.std.specs.Prelude.{IsTrue, All, option_and_then}
+use Rattle.std.specs.List.{flat_map}
 use Rattle.std.proofs.Math.Seq.{take-length, drop-length}
 use Rattle.std.proofs.lemmas.Bool.{false≢true}
 use Rattle.std.proofs.lemmas.List.{append-nil, length-append}
@@ -22,7 +23,7 @@ use Rattle.lift_world.specs.declared.event.Phase.TheVariants.{Writing, Synced, G
 use Rattle.lift_world.specs.declared.event.Power.{Power}
 use Rattle.lift_world.specs.declared.event.Power.TheVariants.{Running, Broken, Off}
 use Rattle.lift_world.specs.declared.event.Taken.{Taken}
-use Rattle.lift_world.specs.World.{World, SealedBatch, is_running, is_off, state_of, safe_list, batch_in_flight, may_keep, outcome, acknowledged}
+use Rattle.lift_world.specs.World.{World, SealedBatch, is_running, is_off, state_of, safe_list, batch_in_flight, may_keep, outcome, acknowledged, told_in}
 use Rattle.lift_world.specs.Next.{next, goes, in_phase, writes_before_sync, sectors_for_body}
 use Rattle.lift_world.specs.Asking.{asked_on}
 use Rattle.lift_world.specs.Headline.{StillNames, RecoversAcknowledged, RecoversLetters}
@@ -31,9 +32,8 @@ use Rattle.lift_world.specs.Headline.{IsHeld}
 use Rattle.lift_world.specs.Headline.{IsOfBuilding}
 use Rattle.lift_clerk.specs.Clerk.{ClerkState}
 use Rattle.lift_clerk.specs.Machine.{LooksAgree, IsMachineOf, IsReached, ShowsWhole, ShowsBroken, WaitsNowhere, kept_after}
-use Rattle.lift_clerk.specs.History.{BeginsOver, ShowsGiven}
+use Rattle.lift_clerk.specs.History.{BeginsOver}
 use Rattle.lift_clerk.specs.Laws.{Laws}
-use Rattle.lift_clerk.specs.TakenAndAnswered.{AreApart}
 use Rattle.lift_clerk.specs.Steps.{DecidesOn, MayAdd}
 use Rattle.lift_clerk.specs.lemmas.Standing.{fresh}
 use Rattle.lift_world.specs.lemmas.Goes.{joined}
@@ -243,27 +243,31 @@ module _ (laws : Laws) (w : World) (reached : IsReached w) (rest : IsAtRest w) (
   within cs rs state a r (inr reads) = by_batch cs rs state a r state.batch refl reads
 
 -- with a batch that the rules accept
-pub crashes_within : {D P : Type 0} → Laws → (w : World) (clerk : ClerkState D P) (commands : List Command) (replies : List Reply) (decided : State) (left : Image)
-    → AreApart commands → DecidesOn clerk.keeper commands replies decided → IsMachineOf w clerk → LooksAgree w commands
-    → (doubt : IsInDoubt clerk.keeper.writer.plan clerk.keeper.writer.register decided.batch left) → IsCutAt w (kept_after (safe_list w) decided.batch doubt) left
-crashes_within laws w clerk cs rs state left apart d m agree doubt =
+pub crashes_within : {D P : Type 0} → Laws → (w : World) (clerk : ClerkState D P) (left : Image) (d : DecidesOn clerk.keeper) → IsMachineOf w clerk → LooksAgree w d.commands
+    → (doubt : IsInDoubt clerk.keeper.writer.plan clerk.keeper.writer.register d.decided.batch left) → IsCutAt w (kept_after (safe_list w) d.decided.batch doubt) left
+crashes_within laws w clerk left d m agree doubt =
     let wh : ShowsWhole w clerk.keeper = m.whole d.was_whole in
-    let a : Asked w cs = ask laws w m.reached (splits laws w clerk clerk m) (rests w wh.at_rest) cs agree apart in
-    within laws w m.reached wh.at_rest clerk.keeper.writer.plan clerk.keeper.writer.register left m.building wh.safe cs rs state a (decided_in w clerk m.building wh.state cs rs state d) doubt
+    let a : Asked w d.commands = ask laws w m.reached (splits laws w clerk clerk m) (rests w wh.at_rest) d.commands agree d.apart in
+    within laws w m.reached wh.at_rest clerk.keeper.writer.plan clerk.keeper.writer.register left m.building wh.safe d.commands d.replies d.decided a (decided_in w clerk m.building wh.state d) doubt
 
 -- Whatever batch is on its way, a power cut keeps what the image tells of it.
 abbrev pub Agrees : {D P : Type 0} → World → (clerk : ClerkState D P) (batch : List Entry) → MayAdd clerk.keeper batch → Type 0
 Agrees w clerk waits (inl same) = Unit {0}
-Agrees w clerk waits (inr a) = LooksAgree w a.commands
+Agrees w clerk waits (inr a) = LooksAgree w a.0.commands
 
 pub cuts_at : {D P : Type 0} → Laws → (w : World) (clerk : ClerkState D P) (batch : List Entry) (left : Image) → IsMachineOf w clerk → (may : MayAdd clerk.keeper batch) → Agrees w clerk batch may
     → (doubt : IsInDoubt clerk.keeper.writer.plan clerk.keeper.writer.register batch left) → IsCutAt w (kept_after (safe_list w) batch doubt) left
 cuts_at laws w clerk waits left m (inl same) agrees = λ doubt. cut_now w (kept_after (safe_list w) waits doubt) left m.reached (crashes_are_cuts laws w clerk waits left m same doubt)
 cuts_at laws w clerk waits left m (inr a) agrees =
-    subst (λ (xs : List Entry). (doubt : IsInDoubt clerk.keeper.writer.plan clerk.keeper.writer.register xs left) → IsCutAt w (kept_after (safe_list w) xs doubt) left) a.is
-    (λ doubt. crashes_within laws w clerk a.commands a.replies a.decided left a.apart a.decides m agrees doubt)
+    subst (λ (xs : List Entry). (doubt : IsInDoubt clerk.keeper.writer.plan clerk.keeper.writer.register xs left) → IsCutAt w (kept_after (safe_list w) xs doubt) left) a.1
+    (λ doubt. crashes_within laws w clerk left a.0 m agrees doubt)
 
--- each letter
+-- the image shows each entry that was acknowledged, and each letter
+pub record ShowsGiven (plan : Plan) (base : RegisterState) (entries : List Entry) (given : List Taken) (left : Image) : Type 0 where
+  pub reads : IsImageOf plan (register_of base entries) left
+  pub holds : All (IsHeld base entries) (flat_map (told_in plan) given)
+  pub letters : All (StillNames base entries) (flat_map (told_in plan) given)
+
 pub cuts_show_letters : Laws → (w : World) (entries : List Entry) (left : Image) → IsBuilding w.building → IsOfBuilding w.building w.base → IsReached w → IsKept w entries left
     → ShowsGiven w.building w.base entries w.given left
 cuts_show_letters laws w entries left sound of reached k = record {

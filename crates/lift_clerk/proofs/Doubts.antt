@@ -177,15 +177,15 @@ module _ (laws : Laws) (w : World) where
       by_run r = by_replies r.0 r.1 r.2
 
 -- A batch that the device fails is a failed turn of the machine.
-pub failed_batches_are_failures : {D P : Type 0} → Laws → (w : World) (before after : ClerkState D P) → (t : LeavesInDoubt before after) → IsMachineOf w before → LooksAgree w t.may.commands
-    → (letters : List (Option ℕ)) × ((folds : ℕ) → LeadsToClerk w (failed_events t.may.commands letters folds GateWritten (length t.may.decided.batch)) (with_replies t.may.commands (unknowns t.may.commands)) (safe_list w) after)
+pub failed_batches_are_failures : {D P : Type 0} → Laws → (w : World) (before after : ClerkState D P) → (t : LeavesInDoubt before after) → IsMachineOf w before → LooksAgree w t.may.0.commands
+    → (letters : List (Option ℕ)) × ((folds : ℕ) → LeadsToClerk w (failed_events t.may.0.commands letters folds GateWritten (length t.may.0.decided.batch)) (with_replies t.may.0.commands (unknowns t.may.0.commands)) (safe_list w) after)
 failed_batches_are_failures laws w before after t m agree =
-    let cs : List Command = t.may.commands in
-    let state : State = t.may.decided in
-    let wh : ShowsWhole w before.keeper = m.whole t.may.decides.was_whole in
+    let cs : List Command = t.may.0.commands in
+    let state : State = t.may.0.decided in
+    let wh : ShowsWhole w before.keeper = m.whole t.may.0.was_whole in
     let a : Asked w cs = ask laws w m.reached (splits laws w before after m) (rests w wh.at_rest) cs agree t.answers.apart in
-    let run : Run w.building any_eligible (state_of w) cs t.may.replies state = decided_in w before m.building wh.state cs t.may.replies state t.may.decides in
-    let e = ends_in_doubt laws w wh.at_rest cs t.may.replies state a run t.some in (
+    let run : Run w.building any_eligible (state_of w) cs t.may.0.replies state = decided_in w before m.building wh.state t.may.0 in
+    let e = ends_in_doubt laws w wh.at_rest cs t.may.0.replies state a run t.some in (
       e.0,
       λ folds.
           let k = e.1 folds in
@@ -195,7 +195,7 @@ failed_batches_are_failures laws w before after t m agree =
           (λ broken. record {
             at_rest = k.2.rest;
             safe = ap (λ (r : RegisterState). register_of r (safe_list k.0)) k.1.ends.base ∙ ap (register_of w.base) k.2.safe_is ∙ wh.safe ∙ sym t.same_register;
-            doubt = k.2.batch_is ∙ t.may.is;
+            doubt = k.2.batch_is ∙ t.may.1;
             may_be_kept = λ some. k.3;
           }),
     )

@@ -18,12 +18,12 @@ use Rattle.lift_clerk.specs.Steps.{GroupState, TurnMakesSafe, LeavesInDoubt, Ans
 use Rattle.lift_clerk.specs.Machine.{LooksAgree, WaitsNowhere, LeadsToClerk, ClerkReopens, IsNewClerk, kept_after}
 use Rattle.lift_clerk.specs.Laws.{Laws}
 use Rattle.lift_clerk.specs.History.{History, Began, Turned, Reopened, Rested, Cut}
-use Rattle.lift_clerk.specs.History.{BeginsOver, IsRunOf, HistoriesAreRuns, ShowsGiven}
+use Rattle.lift_clerk.specs.History.{BeginsOver, IsRunOf, HistoriesAreRuns}
 use Rattle.lift_clerk.specs.Keeping.{CrashesKeep, KeepsEither, MomentsStand, MomentsKeep}
 use Rattle.lift_clerk.specs.lemmas.Turned.{batches_are_turns}
 use Rattle.lift_clerk.specs.lemmas.Reopened.{reopenings_are_reopenings, rests_are_no_events, faults_are_events, begins_at_start}
 use Rattle.lift_clerk.proofs.Doubts.{failed_batches_are_failures, unknowns_are_broken_turns}
-use Rattle.lift_clerk.proofs.Crashes.{IsCutAt, Agrees, cuts_at, cuts_show_letters, begins_after_crash}
+use Rattle.lift_clerk.proofs.Crashes.{IsCutAt, Agrees, ShowsGiven, cuts_at, cuts_show_letters, begins_after_crash}
 
 -- where no ask waits every look agrees
 all_agree : (w : World) → WaitsNowhere w → (cs : List Command) → LooksAgree w cs
@@ -79,14 +79,14 @@ module _ {D : Type 0} (laws : Laws) where
       with_nothing : (entries : List Entry) → IsRunOf base after entries (given ++ []) → IsRunOf base after entries given
       with_nothing entries k = subst (λ (ts : List Taken). IsRunOf base after entries ts) (append-nil given) k
 
-      turn_run : (t : TurnMakesSafe before after) → IsRunOf base after (safe ++ t.decided.batch) (given ++ with_replies t.commands t.replies)
+      turn_run : (t : TurnMakesSafe before after) → IsRunOf base after (safe ++ t.decides.decided.batch) (given ++ with_replies t.decides.commands t.decides.replies)
       turn_run t =
-          let k = batches_are_turns laws r.world before after t r.shows (agree t.commands) in
-          go_on _ _ (λ (xs : List Entry). xs ++ t.decided.batch) (k.1 0) t.same_plan
+          let k = batches_are_turns laws r.world before after t r.shows (agree t.decides.commands) in
+          go_on _ _ (λ (xs : List Entry). xs ++ t.decides.decided.batch) (k.1 0) t.same_plan
 
-      failure_run : (t : LeavesInDoubt before after) → IsRunOf base after safe (given ++ with_replies t.may.commands (unknowns t.may.commands))
+      failure_run : (t : LeavesInDoubt before after) → IsRunOf base after safe (given ++ with_replies t.may.0.commands (unknowns t.may.0.commands))
       failure_run t =
-          let k = failed_batches_are_failures laws r.world before after t r.shows (agree t.may.commands) in
+          let k = failed_batches_are_failures laws r.world before after t r.shows (agree t.may.0.commands) in
           go_on _ _ (λ (xs : List Entry). xs) (k.1 0) t.same_plan
 
       broken_run : (t : AnswersUnknown before after) → IsRunOf base after safe (given ++ with_replies t.commands (unknowns t.commands))
@@ -131,7 +131,7 @@ module _ {D : Type 0} (laws : Laws) where
     -- what a cut may leave
     agrees : (batch : List Entry) (may : MayAdd before.keeper batch) → Agrees r.world before batch may
     agrees batch (inl same) = tt
-    agrees batch (inr a) = agree a.commands
+    agrees batch (inr a) = agree a.0.commands
 
     cut_with : (left : Image) (batch : List Entry) → MayAdd before.keeper batch → (doubt : IsInDoubt plan before.keeper.writer.register batch left) → IsCutAt r.world (kept_after safe batch doubt) left
     cut_with left batch may doubt =
@@ -151,8 +151,11 @@ module _ {D : Type 0} (laws : Laws) where
   pub crashes_keep : CrashesKeep D
   crashes_keep base clerk safe batch given left h may doubt =
       let r = run_of base clerk safe given h in
+      let shows = show laws r.world _ base given r.building r.of_building r.shows.building r.base_is r.given_is _ left (cut_with base clerk safe given r left batch may doubt) in
       record {
-        shows = show laws r.world _ base given r.building r.of_building r.shows.building r.base_is r.given_is _ left (cut_with base clerk safe given r left batch may doubt);
+        reads = shows.reads;
+        holds = shows.holds;
+        letters = shows.letters;
         goes_on = λ next over. Cut h may doubt over;
       }
 

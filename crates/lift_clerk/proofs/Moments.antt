@@ -101,13 +101,13 @@ module _ {D P : Type 0} (state : D → DiskState) (law : CrashesKeep D) (before 
       → AdvancesFrom base (group_of before) safe given (group_of after) batch more told first last
   turn_goes_on fails is batch more told (Safe t) base safe given h =
       advances _ _ _ base safe given
-      (inr (record { commands = t.commands; replies = t.replies; decided = t.decided; apart = t.answers.apart; decides = t.decides; is = refl }))
-      (moment_of state before.keeper.writer (batch_size result after.keeper) after.keeper.state.register after.keeper.writer result commits t.decides.was_whole t.decided.batch
+      (inr (t.decides, refl))
+      (moment_of state before.keeper.writer (batch_size result after.keeper) after.keeper.state.register after.keeper.writer result commits t.decides.was_whole t.decides.decided.batch
       (ap (λ (x : State). x.register) t.state ∙ t.decides.shows))
       h (Turned h (Safe t))
   turn_goes_on fails is batch more told (InDoubt t) base safe given h =
       advances _ _ _ base safe given (inr t.may)
-      (subst (λ (es : List Entry). LeavesOnly first last (IsInDoubt its was es)) (sym (fails_with result commits.is t.may.decides.was_whole is)) (commits.is.safe.any_moment t.may.decides.was_whole))
+      (subst (λ (es : List Entry). LeavesOnly first last (IsInDoubt its was es)) (sym (fails_with result commits.is t.may.0.was_whole is)) (commits.is.safe.any_moment t.may.0.was_whole))
       h (Turned h (InDoubt t))
   turn_goes_on fails is batch more told (Unknown t) base safe given h =
       advances _ _ _ base safe given (inl refl) (commits.is.safe.while_broken t.was_broken) h (Turned h (Unknown t))

@@ -164,20 +164,20 @@ module _ {D : Type 0} (laws : Laws) where
 
   batches : BatchesAreTurns D
   batches before after t w terminals safe given p takes =
-      let stand = stood w before after terminals t.commands t.replies p.shows t.answers takes in
-      let k = batches_are_turns laws w before after t p.shows.machine (stand_agree w t.commands stand) in (
+      let stand = stood w before after terminals t.decides.commands t.decides.replies p.shows t.answers takes in
+      let k = batches_are_turns laws w before after t p.shows.machine (stand_agree w t.decides.commands stand) in (
         k.0,
-        λ folds. follow w _ given _ (λ (xs : List Entry). xs ++ t.decided.batch) safe after terminals p.shows.theirs p.safe_is p.given_is (stand_waits w t.commands t.replies stand)
+        λ folds. follow w _ given _ (λ (xs : List Entry). xs ++ t.decides.decided.batch) safe after terminals p.shows.theirs p.safe_is p.given_is (stand_waits w t.decides.commands t.decides.replies stand)
             (Turned p.history (Safe t)) (k.1 folds),
       )
 
   doubts : DoubtsAreFailures D
   doubts before after t w terminals safe given p takes =
-      let stand = stood w before after terminals t.may.commands (all_unknown t.may.commands) p.shows t.answers takes in
-      let k = failed_batches_are_failures laws w before after t p.shows.machine (stand_agree w t.may.commands stand) in (
+      let stand = stood w before after terminals t.may.0.commands (all_unknown t.may.0.commands) p.shows t.answers takes in
+      let k = failed_batches_are_failures laws w before after t p.shows.machine (stand_agree w t.may.0.commands stand) in (
         k.0,
         λ folds. none_safe w _ _ safe after terminals
-            (follow w _ given _ (λ (xs : List Entry). xs) safe after terminals p.shows.theirs p.safe_is p.given_is (stand_waits w t.may.commands (all_unknown t.may.commands) stand) (failed p.history t) (k.1 folds)),
+            (follow w _ given _ (λ (xs : List Entry). xs) safe after terminals p.shows.theirs p.safe_is p.given_is (stand_waits w t.may.0.commands (all_unknown t.may.0.commands) stand) (failed p.history t) (k.1 folds)),
       )
 
   unknowns : UnknownsAreBroken D
@@ -233,8 +233,8 @@ module _ {D : Type 0} (laws : Laws) where
       ([], refl, k.kept, over w w [] before after terminals fresh safe batch given image p (inl same) doubt b new refl refl refl refl m.reached k)
   cuts w before after terminals fresh safe batch given image p (inr a) asked doubt b new =
       let m = p.shows.machine in
-      let stand : Stand w a.commands = asked_stand w before terminals p.shows (few laws w m.reached) a.commands a.apart asked in
-      let c : IsCutAt w (kept_after (safe_list w) batch doubt) image = cuts_at laws w before batch image m (inr a) (stand_agree w a.commands stand) doubt in
+      let stand : Stand w a.0.commands = asked_stand w before terminals p.shows (few laws w m.reached) a.0.commands a.0.apart asked in
+      let c : IsCutAt w (kept_after (safe_list w) batch doubt) image = cuts_at laws w before batch image m (inr a) (stand_agree w a.0.commands stand) doubt in
       (c.before, tt, c.keeps.kept, over w c.there c.before before after terminals fresh safe batch given image p (inr a) doubt b new c.possible c.same_building c.same_base c.given_is c.reached c.keeps)
 
   pub pasts_go_on : PastsGoOn D

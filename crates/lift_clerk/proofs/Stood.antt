@@ -17,11 +17,11 @@ use Rattle.lift_policy.specs.declared.command.Command.{Command}
 use Rattle.lift_world.specs.declared.event.Taken.{Taken}
 use Rattle.lift_world.specs.World.{World, asks}
 use Rattle.lift_world.specs.Turns.{with_replies}
-use Rattle.lift_clerk.specs.TakenAndAnswered.{ask_of, AreOthers, AreApart, TakesAndAnswers}
+use Rattle.lift_clerk.specs.TakenAndAnswered.{ask_of, AreApart, TakesAndAnswers}
 use Rattle.lift_clerk.specs.Machine.{waiting_in, LooksAgree, ShowsWords}
 use Rattle.lift_clerk.specs.Steps.{GroupState}
 use Rattle.lift_clerk.specs.Group.{Terminals, ShowsTerminal, IsGroup, TakesAsks, WereAsked}
-use Rattle.lift_clerk.specs.lemmas.Lists.{no_asks}
+use Rattle.lift_clerk.specs.lemmas.Lists.{AreOthers, no_asks}
 use Rattle.lift_clerk.specs.lemmas.Standing.{waiting_is}
 use Rattle.lift_clerk.specs.lemmas.Words.{last_has, one_ask, asks_both, asks_count, splits_of}
 use Rattle.lift_clerk.proofs.Groups.{cons-head}

@@ -1,15 +1,14 @@
 -- What can have happened to a group, at most, over all its clerks and their parts, faults,
 -- reopenings and power cuts.
-use Rattle.std.specs.Prelude.{◌≡◌, Bool, List, [], ◌++◌, All}
-use Rattle.std.specs.List.{flat_map}
+use Rattle.std.specs.Prelude.{◌≡◌, Bool, List, [], ◌++◌}
 use Rattle.lift_base.specs.declared.history.Entry.{Entry}
 use Rattle.lift_building.specs.Plan.{Plan, IsBuilding}
 use Rattle.lift_disk.specs.Disk.{Image}
-use Rattle.lift_register.specs.Register.{RegisterState, register_of}
+use Rattle.lift_register.specs.Register.{RegisterState}
 use Rattle.lift_keeper.specs.Images.{IsImageOf, IsInDoubt}
 use Rattle.lift_world.specs.declared.event.Taken.{Taken}
-use Rattle.lift_world.specs.World.{World, safe_list, told_in}
-use Rattle.lift_world.specs.Headline.{IsOfBuilding, IsHeld, StillNames}
+use Rattle.lift_world.specs.World.{World, safe_list}
+use Rattle.lift_world.specs.Headline.{IsOfBuilding}
 use Rattle.lift_clerk.specs.Clerk.{ClerkState}
 use Rattle.lift_clerk.specs.Steps.{GroupState, TurnAdds, ClerkRests, MayAdd}
 use Rattle.lift_clerk.specs.Machine.{IsMachineOf, WaitsNowhere, ClerkReopens, IsNewClerk}
@@ -72,15 +71,3 @@ abbrev pub HistoriesAreRuns : Type 0 → Type 0
 HistoriesAreRuns D = (base : RegisterState) (group : GroupState D) (safe : List Entry)
     (given : List Taken)
     → History base group safe given → IsRunOf base group safe given
-
--- the entries that a `Car` or `Stopped` among these answers acknowledges
-abbrev pub acknowledged_in : Plan → List Taken → List Entry
-acknowledged_in plan given = flat_map (told_in plan) given
-
--- The image reads as the register of these entries over what the journal began with. Each entry
--- that was acknowledged is held, and each letter given still names its car.
-pub record ShowsGiven (plan : Plan) (base : RegisterState) (entries : List Entry)
-    (given : List Taken) (left : Image) : Type 0 where
-  pub reads : IsImageOf plan (register_of base entries) left
-  pub holds : All (IsHeld base entries) (acknowledged_in plan given)
-  pub letters : All (StillNames base entries) (acknowledged_in plan given)

@@ -1,23 +1,29 @@
 -- What is kept, over power cuts, of all that was answered.
-use Rattle.std.specs.Prelude.{◌⊎◌, List, ◌++◌}
+use Rattle.std.specs.Prelude.{◌⊎◌, List, ◌++◌, All}
+use Rattle.std.specs.List.{flat_map}
 use mathlib.Core.List.{IsPrefix}
 use Rattle.lift_base.specs.declared.history.Entry.{Entry}
 use Rattle.lift_building.specs.Plan.{Plan}
 use Rattle.lift_disk.specs.Disk.{DiskState, Image, LeavesNow, LeavesOnly}
-use Rattle.lift_register.specs.Register.{RegisterState}
-use Rattle.lift_keeper.specs.Images.{IsInDoubt}
+use Rattle.lift_register.specs.Register.{RegisterState, register_of}
+use Rattle.lift_keeper.specs.Images.{IsImageOf, IsInDoubt}
 use Rattle.lift_keeper.specs.Writer.{WriterView}
 use Rattle.lift_world.specs.declared.event.Taken.{Taken}
+use Rattle.lift_world.specs.World.{told_in}
+use Rattle.lift_world.specs.Headline.{IsHeld, StillNames}
 use Rattle.lift_clerk.specs.Steps.{GroupState, MayAdd}
 use Rattle.lift_clerk.specs.Machine.{kept_after}
-use Rattle.lift_clerk.specs.History.{History, BeginsOver, ShowsGiven}
+use Rattle.lift_clerk.specs.History.{History, BeginsOver}
 
 -- The image keeps these entries and answers. It reads as the register of the entries over what the
--- journal began with, which holds each one that was acknowledged and still names the car of each
--- letter given; and whoever begins over it goes on with a history of just these.
+-- journal began with, which holds each entry that a `Car` or `Stopped` among the answers
+-- acknowledged, and still names the car of each letter given; and whoever begins over it goes on with
+-- a history of just these.
 pub record ImageKeeps (D : Type 0) (plan : Plan) (base : RegisterState) (entries : List Entry)
     (given : List Taken) (left : Image) : Type 0 where
-  pub shows : ShowsGiven plan base entries given left
+  pub reads : IsImageOf plan (register_of base entries) left
+  pub holds : All (IsHeld base entries) (flat_map (told_in plan) given)
+  pub letters : All (StillNames base entries) (flat_map (told_in plan) given)
   pub goes_on : (clerk : GroupState D) → BeginsOver plan left clerk
       → History base clerk entries given
 
@@ -41,12 +47,6 @@ KeepsAll D plan base given left = (entries : List Entry) × (now : List Taken) �
 abbrev pub LeavesSafe : {D : Type 0} → WriterView D → DiskState → Type 0
 LeavesSafe writer disk = LeavesNow disk (IsInDoubt writer.plan writer.register writer.doubt)
 
--- Each keeps what is safe, or that with the batch in doubt.
-abbrev pub KeepsNow : {D : Type 0} → RegisterState → GroupState D → (safe : List Entry) → List Taken → DiskState
-    → Type 0
-KeepsNow {D} base group safe given disk = LeavesNow disk
-    (KeepsEither D group.keeper.writer.plan base safe group.keeper.writer.doubt given)
-
 -- Whatever has happened, each image that a crash may leave now or at any moment of the next call
 -- keeps what was given: with what is safe, or with that and the batch on its way.
 abbrev pub CrashesKeep : Type 0 → Type 0
@@ -58,16 +58,11 @@ CrashesKeep D =
 
 -- One call, whose device was so before it and is so after it, with at most this batch on its way.
 -- Each image that a crash at any moment of it may leave keeps what was safe before it, or that with
--- the batch, and all that was given before.
-abbrev pub KeepsThroughout : {D : Type 0} → (base : RegisterState) → (before : GroupState D) (safe : List Entry) (given : List Taken)
-    (batch : List Entry) (old new : DiskState) → Type 0
-KeepsThroughout {D} base before safe given batch old new =
-    LeavesOnly old new (KeepsEither D before.keeper.writer.plan base safe batch given)
-
--- So it stands whatever had happened before it.
+-- the batch, and all that was given before, whatever had happened before it.
 abbrev pub MomentsStand : {D : Type 0} → GroupState D → List Entry → DiskState → DiskState → Type 0
-MomentsStand before batch old new = (base : RegisterState) (safe : List Entry)
-    (given : List Taken) → History base before safe given → KeepsThroughout base before safe given batch old new
+MomentsStand {D} before batch old new = (base : RegisterState) (safe : List Entry)
+    (given : List Taken) → History base before safe given
+    → LeavesOnly old new (KeepsEither D before.keeper.writer.plan base safe batch given)
 
 -- It does wherever each image that may be left reads as the register that was safe, or as that with
 -- the batch.
@@ -85,5 +80,6 @@ pub record AdvancesFrom {D : Type 0} (base : RegisterState) (before : GroupState
     (given : List Taken) (after : GroupState D) (batch more : List Entry) (told : List Taken)
     (old new : DiskState) : Type 0 where
   pub history : History base after (safe ++ more) (given ++ told)
-  pub stands : KeepsThroughout base before safe given batch old new
-  pub now : KeepsNow base after (safe ++ more) (given ++ told) new
+  pub stands : LeavesOnly old new (KeepsEither D before.keeper.writer.plan base safe batch given)
+  pub now : LeavesNow new (KeepsEither D after.keeper.writer.plan base (safe ++ more)
+      after.keeper.writer.doubt (given ++ told))

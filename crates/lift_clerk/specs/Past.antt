@@ -106,16 +106,16 @@ ReadsAreNoEvents D =
 abbrev pub BatchesAreTurns : Type 0 → Type 0
 BatchesAreTurns D = (before after : GroupState D) (t : TurnMakesSafe before after)
     → IsDoneBy before after
-    (λ letters folds. events_of_turn t.commands letters folds (length t.decided.batch))
-    t.decided.batch (with_replies t.commands t.replies)
+    (λ letters folds. events_of_turn t.decides.commands letters folds (length t.decides.decided.batch))
+    t.decides.decided.batch (with_replies t.decides.commands t.decides.replies)
 
 -- One that the device fails is a turn that fails once its gate was written: whichever call it was,
 -- a reopening or a crash may find all of it or nothing, as in that phase.
 abbrev pub DoubtsAreFailures : Type 0 → Type 0
 DoubtsAreFailures D = (before after : GroupState D) (t : LeavesInDoubt before after)
     → IsDoneBy before after (λ letters folds.
-    failed_events t.may.commands letters folds GateWritten (length t.may.decided.batch)) []
-    (with_replies t.may.commands (unknowns t.may.commands))
+    failed_events t.may.0.commands letters folds GateWritten (length t.may.0.decided.batch)) []
+    (with_replies t.may.0.commands (unknowns t.may.0.commands))
 
 -- What is answered after a fault is a turn of the broken machine.
 abbrev pub UnknownsAreBroken : Type 0 → Type 0
@@ -151,7 +151,7 @@ FirstFaultsAreFaults D = (w : World) (before after : GroupState D) (terminals : 
 abbrev pub MayBeAsked : {D : Type 0} (group : GroupState D) (terminals : Terminals)
     (batch : List Entry) → MayAdd group.keeper batch → Type 0
 MayBeAsked group terminals batch (inl in_doubt) = Unit {0}
-MayBeAsked group terminals batch (inr accepted) = WereAsked group terminals accepted.commands
+MayBeAsked group terminals batch (inr accepted) = WereAsked group terminals accepted.0.commands
 
 -- where nothing but what is in doubt is on its way, no event comes before the cut
 abbrev pub MayComeFirst : {D : Type 0} (keeper : KeeperView D) (batch : List Entry)

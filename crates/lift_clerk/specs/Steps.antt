@@ -27,9 +27,13 @@ group_of clerk = record {
   policy = tt;
 }
 
--- While nothing has failed, the rules decide these commands on what the keeper shows.
-pub record DecidesOn {D : Type 0} (keeper : KeeperView D) (commands : List Command)
-    (replies : List Reply) (decided : State) : Type 0 where
+-- While nothing has failed, the rules decide some commands on what the keeper shows, at most one of
+-- each terminal. Whether they were asked is not said: what a crash leaves is shown of all of them.
+pub record DecidesOn {D : Type 0} (keeper : KeeperView D) : Type 0 where
+  pub commands : List Command
+  pub replies : List Reply
+  pub decided : State
+  pub apart : AreApart commands
   pub was_whole : keeper.writer.is_broken ≡ false
   pub run : Run keeper.writer.plan any_eligible keeper.state commands replies decided
   pub shows : decided.register ≡ register_of keeper.writer.register decided.batch
@@ -37,35 +41,26 @@ pub record DecidesOn {D : Type 0} (keeper : KeeperView D) (commands : List Comma
 -- Commands are decided, their batch is made safe, and then they have their replies, at the same
 -- desk.
 pub record TurnMakesSafe {D P : Type 0} (old new : ClerkState D P) : Type 0 where
-  pub commands : List Command
-  pub replies : List Reply
-  pub decided : State
   pub desk : new.desk ≡ old.desk
-  pub decides : DecidesOn old.keeper commands replies decided
-  pub answers : TakesAndAnswers old.seat new.seat commands replies
-  pub state : new.keeper.state ≡ without_batch decided
-  pub safe : new.keeper.writer.register ≡ decided.register
+  pub decides : DecidesOn old.keeper
+  pub answers : TakesAndAnswers old.seat new.seat decides.commands decides.replies
+  pub state : new.keeper.state ≡ without_batch decides.decided
+  pub safe : new.keeper.writer.register ≡ decides.decided.register
   pub is_whole : new.keeper.writer.is_broken ≡ false
   pub no_doubt : new.keeper.writer.doubt ≡ []
   pub same_plan : new.keeper.writer.plan ≡ old.keeper.writer.plan
 
--- The rules accept this batch on what the keeper shows, of commands that may have been asked. Whether
--- they were is not said: what a crash leaves is shown of all of them.
-pub record MayAccept {D : Type 0} (keeper : KeeperView D) (batch : List Entry) : Type 0 where
-  pub commands : List Command
-  pub replies : List Reply
-  pub decided : State
-  pub apart : AreApart commands
-  pub decides : DecidesOn keeper commands replies decided
-  pub is : decided.batch ≡ batch
+-- The rules accept this batch on what the keeper shows, of commands that may have been asked.
+abbrev pub MayAccept : {D : Type 0} → KeeperView D → List Entry → Type 0
+MayAccept keeper batch = (decides : DecidesOn keeper) × (decides.decided.batch ≡ batch)
 
 -- The rules accept a batch of some commands, and the device fails it, so that it is in doubt. Each
 -- command is answered Unknown.
 pub record LeavesInDoubt {D P : Type 0} (old new : ClerkState D P) : Type 0 where
   pub may : MayAccept old.keeper new.keeper.writer.doubt
   pub desk : new.desk ≡ old.desk
-  pub answers : TakesAndAnswers old.seat new.seat may.commands (unknowns may.commands)
-  pub some : 0 < length may.decided.batch
+  pub answers : TakesAndAnswers old.seat new.seat may.0.commands (unknowns may.0.commands)
+  pub some : 0 < length may.0.decided.batch
   pub breaks : new.keeper.writer.is_broken ≡ true
   pub same_register : new.keeper.writer.register ≡ old.keeper.writer.register
   pub same_plan : new.keeper.writer.plan ≡ old.keeper.writer.plan
@@ -83,17 +78,14 @@ pub record AnswersUnknown {D P : Type 0} (old new : ClerkState D P) : Type 0 whe
 pub data TurnAdds {D : Type 0} (before after : GroupState D) : (fails : Bool)
     → (batch more : List Entry) → List Taken → Type 0 where
   -- It makes its batch safe, and then gives its replies.
-  Safe : (t : TurnMakesSafe before after)
-      → TurnAdds before after false t.decided.batch t.decided.batch
-      (with_replies t.commands t.replies)
+  Safe : (t : TurnMakesSafe before after) → TurnAdds before after false t.decides.decided.batch
+      t.decides.decided.batch (with_replies t.decides.commands t.decides.replies)
   -- The device fails it: its batch is in doubt, and nothing more is safe.
-  InDoubt : (t : LeavesInDoubt before after)
-      → TurnAdds before after true after.keeper.writer.doubt []
-      (with_replies t.may.commands (unknowns t.may.commands))
+  InDoubt : (t : LeavesInDoubt before after) → TurnAdds before after true
+      after.keeper.writer.doubt [] (with_replies t.may.0.commands (unknowns t.may.0.commands))
   -- It comes after a fault: there is what is in doubt.
-  Unknown : (t : AnswersUnknown before after)
-      → TurnAdds before after true before.keeper.writer.doubt []
-      (with_replies t.commands (unknowns t.commands))
+  Unknown : (t : AnswersUnknown before after) → TurnAdds before after true
+      before.keeper.writer.doubt [] (with_replies t.commands (unknowns t.commands))
 
 -- Nothing is taken, answered or made safe, and the desk is the same. What a keeper shows stays while
 -- nothing has failed; once something has, it is no matter.

@@ -22,17 +22,10 @@ abbrev pub answer_words : ℕ → List Answer → List ℕ
 answer_words turn [] = []
 answer_words turn (a ∷ answers) = reply_word turn a.number a.reply ∷ answer_words (suc turn) answers
 
-abbrev pub answers_to : List Command → List Reply → List Answer
-answers_to cs rs = map answer_of (with_replies cs rs)
-
--- none of these commands is of this terminal
-abbrev pub AreOthers : ℕ → List Command → Type 0
-AreOthers terminal commands = AllByRecursion (λ (d : Command). d.terminal ≢ terminal) commands
-
--- no two of them are of one terminal
+-- no two of these commands are of one terminal
 abbrev pub AreApart : List Command → Type 0
 AreApart [] = Unit {0}
-AreApart (c ∷ cs) = AreOthers c.terminal cs × AreApart cs
+AreApart (c ∷ cs) = AllByRecursion (λ (d : Command). d.terminal ≢ c.terminal) cs × AreApart cs
 
 -- these asks are taken, and these answers to them stored
 pub record Grows (before after : ClerkView) (cs : List Command)
@@ -40,7 +33,6 @@ pub record Grows (before after : ClerkView) (cs : List Command)
   pub taken : after.taken ≡ before.taken ++ ask_words (suc (length before.taken)) (map ask_of cs)
   pub answered : after.answered
       ≡ before.answered ++ answer_words (suc (length before.answered)) answers
-  pub same : length cs ≡ length answers
 
 -- These commands were taken, at most one of each terminal, and answered so, and nothing else was.
 pub record TakesAndAnswers (old new : List ClerkPlace) (commands : List Command)
@@ -50,4 +42,4 @@ pub record TakesAndAnswers (old new : List ClerkPlace) (commands : List Command)
   -- a word can spell each
   pub in_range : All IsAsk (map ask_of commands)
   pub grows : (t : ℕ) → Grows (view_at old t) (view_at new t) (filter (asks t) commands)
-      (filter (is_answer_to t) (answers_to commands replies))
+      (filter (is_answer_to t) (map answer_of (with_replies commands replies)))

@@ -55,15 +55,13 @@ pub record Scans (IsLook : ClerkPlace → Visit → Type 0) (Found : List Visit 
 
 -- the command that a look at a terminal took
 abbrev pub command_at : ℕ → Option Ask → List Command
-command_at terminal None = []
-command_at terminal (Some ask) =
-    record { terminal = terminal; number = ask.number; body = ask.body } ∷ []
+command_at t None = []
+command_at t (Some ask) = record { terminal = t; number = ask.number; body = ask.body } ∷ []
 
 -- the commands that these looks took, from this terminal on, by rising terminal
 abbrev pub commands_of : ℕ → List Visit → List Command
-commands_of terminal [] = []
-commands_of terminal (visit ∷ visits) =
-    command_at terminal visit.found ++ commands_of (suc terminal) visits
+commands_of t [] = []
+commands_of t (visit ∷ visits) = command_at t visit.found ++ commands_of (suc t) visits
 
 -- a terminal's words once the first of these replies is stored, if its look found an ask
 abbrev pub with_reply : ClerkView → Option Ask → List Reply → ClerkView

@@ -12,7 +12,7 @@ ghost use Rattle.lift_world.specs.declared.event.Taken.{Taken};
 ghost use Rattle.lift_clerk.specs.Steps.{group_of};
 ghost use Rattle.lift_clerk.specs.Once.{TurnsOnce, TurnAdvances, ReopensOnce};
 ghost use Rattle.lift_clerk.specs.History.{History, HistoriesAreRuns, BeginsOver};
-ghost use Rattle.lift_clerk.specs.Keeping.{ImageKeeps, KeepsNow, CrashesKeep, MomentsStand};
+ghost use Rattle.lift_clerk.specs.Keeping.{ImageKeeps, KeepsEither, CrashesKeep, MomentsStand};
 ghost use Rattle.lift_clerk.specs.Keeping.{MomentsKeep};
 
 use crate::clerk::Clerk;
@@ -77,7 +77,8 @@ pub fn begin_over<'d, 'b, D: Disk, P: Policy + Drop>(
 pub fn crash_shows_letters<D: Disk, P: Policy + Drop>(clerk: &Clerk<'_, '_, D, P>)
     ensures now { (base : RegisterState) (safe : List Entry) (given : List Taken)
         → History base (group_of clerk.now) safe given
-        → KeepsNow base (group_of clerk.now) safe given (D.state clerk.now.keeper.writer.device) }
+        → LeavesNow (D.state clerk.now.keeper.writer.device)
+        (KeepsEither D clerk.now.keeper.writer.plan base safe clerk.now.keeper.writer.doubt given) }
     // While nothing has failed, it keeps just what is safe.
     ensures whole { clerk.now.keeper.writer.is_broken ≡ false
         → (base : RegisterState) (safe : List Entry) (given : List Taken)

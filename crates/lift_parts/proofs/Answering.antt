@@ -3,7 +3,7 @@ use Rattle.lift_world.specs.Turns.{with_replies}
 use Rattle.lift_policy.specs.Run.{unknowns}
 use Rattle.lift_base.specs.declared.command.Reply.TheVariants.{Unknown}
 use Rattle.std.proofs.lemmas.List.{length-map}
-use Rattle.lift_clerk.specs.TakenAndAnswered.{AreApart, AreOthers, Grows, TakesAndAnswers, answers_to}
+use Rattle.lift_clerk.specs.TakenAndAnswered.{AreApart, Grows, TakesAndAnswers}
 use Rattle.lift_parts.specs.Batch.{replies_in}
 use Rattle.lift_clerk.specs.TakenAndAnswered.{answer_words, ask_of}
 use Rattle.std.proofs.Common.{ℕ, suc, ◌≡◌, ◌≢◌, ◌+◌, Bool, true, false, cond, eqb, List, [], ◌∷◌, ◌++◌, length, map, refl, sym, ap, subst, ◌∙◌, arith}
@@ -24,7 +24,7 @@ use Rattle.lift_world.specs.World.{asks, is_answer_to}
 use Rattle.lift_world.specs.Next.{answer_of, unknown_to}
 use Rattle.lift_clerk.specs.Answering.{reply_told}
 use Rattle.lift_clerk.specs.Visits.{FindsAt}
-use Rattle.lift_clerk.specs.lemmas.Lists.{no_asks}
+use Rattle.lift_clerk.specs.lemmas.Lists.{AreOthers, answers_to, no_asks}
 use Rattle.lift_clerk.specs.lemmas.Stored.{length-answered, number-taken}
 use Rattle.lift_clerk.specs.lemmas.Visiting.{taken-new}
 use Rattle.lift_parts.specs.declared.taken.NotedCommand.{NotedCommand}
@@ -164,5 +164,5 @@ module _ where
             let same : filter (is_answer_to t) (answers_to (commands_in batch) (replies_of is_safe batch)) ≡ told_here is_safe t batch =
             ap (λ (xs : List Taken). filter (is_answer_to t) (map answer_of xs)) (held_is is_safe batch) ∙ ap (filter (is_answer_to t)) (told_is is_safe batch) in
             subst (λ (xs : List Answer). Grows (view_at places t) (view_at next t) (here t batch) xs) (sym same)
-            (record { taken = g.taken; answered = g.answered; same = as_many is_safe t batch });
+            (record { taken = g.taken; answered = g.answered });
       }

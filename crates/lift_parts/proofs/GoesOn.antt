@@ -33,7 +33,7 @@ use Rattle.lift_clerk.specs.Steps.{group_of, DecidesOn, TurnMakesSafe, LeavesInD
 use Rattle.lift_clerk.specs.Group.{Terminals, TakesAsks}
 use Rattle.lift_clerk.specs.Past.{IsPastOf, LeadsToPast, PastsGoOn}
 use Rattle.lift_clerk.specs.History.{History, Turned, Rested}
-use Rattle.lift_clerk.specs.Keeping.{CrashesKeep, MomentsKeep, LeavesSafe, KeepsNow}
+use Rattle.lift_clerk.specs.Keeping.{CrashesKeep, KeepsEither, MomentsKeep, LeavesSafe}
 use Rattle.lift_clerk.specs.lemmas.Adding.{failed, turned_while_broken}
 use Rattle.lift_clerk.specs.lemmas.Keeps.{kept_now}
 use Rattle.lift_parts.specs.declared.counts.FlushCounts.{FlushCounts}
@@ -103,7 +103,7 @@ module _ {D : Type 0} (state : D → DiskState) (crashes : CrashesKeep D) (law :
 
   -- from its end on
   keeps_after : (answer : Result FlushCounts KeeperFault) → CommitsTo {T = FlushCounts} state f.writer (entries_between f.end g.end) g.end.state.register g.writer answer
-      → (entries : List Entry) (told : List Taken) → Now entries told → LeavesSafe f.writer old → KeepsNow base (group_after g) entries told new
+      → (entries : List Entry) (told : List Taken) → Now entries told → LeavesSafe f.writer old → LeavesNow new (KeepsEither D g.writer.plan base entries g.writer.doubt told)
   keeps_after answer c entries told k leaves = kept_now crashes base (group_after g) entries told k new (leaves_after state f g answer c leaves)
 
   -- a turn that received nothing
@@ -203,8 +203,12 @@ module _ {D : Type 0} (state : D → DiskState) (crashes : CrashesKeep D) (law :
           t.decided.shows ∙ ap (λ (r : RegisterState). register_of r batch.entries)
           (ap (λ (s : State). s.register) t.receives.next.on_state ∙ sym (is.safe whole))
 
-      decides : f.writer.is_broken ≡ false → DecidesOn (record { state = f.end.state; writer = f.writer }) cs (replies_in batch.commands) (state_with_entries batch)
+      abbrev decides : f.writer.is_broken ≡ false → DecidesOn (record { state = f.end.state; writer = f.writer })
       decides whole = record {
+        commands = cs;
+        replies = replies_in batch.commands;
+        decided = state_with_entries batch;
+        apart = t.apart;
         was_whole = whole;
         run = subst (λ (p : Plan). Run p any_eligible f.end.state cs (replies_in batch.commands) (state_with_entries batch)) (t.receives.next.of_building ∙ is.of_building)
             (subst (λ (s : State). Run batch.building any_eligible s cs (replies_in batch.commands) (state_with_entries batch)) t.receives.next.on_state t.decided.run);
@@ -212,7 +216,7 @@ module _ {D : Type 0} (state : D → DiskState) (crashes : CrashesKeep D) (law :
       }
 
       accepts : f.writer.is_broken ≡ false → MayAccept (record { state = f.end.state; writer = f.writer }) batch.entries
-      accepts whole = record { commands = cs; replies = replies_in batch.commands; decided = state_with_entries batch; apart = t.apart; decides = decides whole; is = refl }
+      accepts whole = (decides whole, refl)
 
       -- its moments
       moments_whole : (whole : f.writer.is_broken ≡ false) → CommitsTo {T = FlushCounts} state f.writer (entries_between f.end g.end) g.end.state.register g.writer answer
@@ -261,9 +265,6 @@ module _ {D : Type 0} (state : D → DiskState) (crashes : CrashesKeep D) (law :
 
       abbrev makes_safe : TurnMakesSafe (group_after f) (group_after g)
       makes_safe = record {
-        commands = cs;
-        replies = replies_in batch.commands;
-        decided = state_with_entries batch;
         desk = same_desk;
         decides = decides (Ok counts) t was_whole;
         answers = answers (Ok counts) t true refl;
@@ -318,7 +319,7 @@ module _ {D : Type 0} (state : D → DiskState) (crashes : CrashesKeep D) (law :
       lost_history k = subst (λ (xs : List Entry). Now xs (given ++ (held_in [] ++ map unknown_to (held_in (batch ∷ []))))) (sym (append-nil safe))
           (subst (λ (ts : List Taken). Now safe ts) (lost_told (Err fault) t) k)
 
-      lost_now : Now safe (with_given false) → LeavesSafe f.writer old → KeepsNow base (group_after g) (safe ++ []) (given ++ (held_in [] ++ map unknown_to (held_in (batch ∷ [])))) new
+      lost_now : Now safe (with_given false) → LeavesSafe f.writer old → LeavesNow new (KeepsEither D g.writer.plan base (safe ++ []) g.writer.doubt (given ++ (held_in [] ++ map unknown_to (held_in (batch ∷ [])))))
       lost_now k = keeps_after (Err fault) c (safe ++ []) (given ++ (held_in [] ++ map unknown_to (held_in (batch ∷ [])))) (lost_history k)
 
       abbrev lost_goes_on : Now safe (with_given false) → GoesOnTo f g base safe given
@@ -333,7 +334,7 @@ module _ {D : Type 0} (state : D → DiskState) (crashes : CrashesKeep D) (law :
       leaves_in_doubt whole e =
           let is_disk : Err fault ≡ Err (Journal Disk) = ap (λ (x : KeeperFault). Err x) e in
           record {
-            may = record { commands = cs; replies = replies_in batch.commands; decided = state_with_entries batch; apart = t.apart; decides = decides (Err fault) t whole; is = sym (t.fails is_disk).0 };
+            may = (decides (Err fault) t whole, sym (t.fails is_disk).0);
             desk = same_desk;
             answers = answers (Err fault) t false refl;
             some = some_long batch.entries (t.fails is_disk).1;

@@ -1,5 +1,5 @@
 -- A scan is the machine's.
-use Rattle.lift_clerk.specs.TakenAndAnswered.{AreApart, AreOthers, ask_of}
+use Rattle.lift_clerk.specs.TakenAndAnswered.{AreApart, ask_of}
 use Rattle.std.proofs.Common.{ℕ, zero, suc, ◌≡◌, ◌≢◌, ◌+◌, ◌*◌, ◌^◌, ◌<◌, ◌≤◌, Bool, true, false, cond, eqb, List, [], ◌∷◌, ◌++◌, length, map, Option, Some, None, refl, sym, ap, subst, ◌∙◌, arith, append_assoc}
 use Rattle.std.specs.Prelude.{filter, count_by, All, Contains}
 use Rattle.std.specs.List.{AllByRecursion, flat_map}
@@ -36,7 +36,7 @@ use Rattle.lift_world.specs.Turns.{AreFound}
 use Rattle.lift_clerk.specs.Turn.{without_batch}
 use Rattle.lift_clerk.specs.Visits.{Visit, AreLooksAt, command_at, commands_of, looked_at}
 use Rattle.lift_clerk.specs.Machine.{IsReached}
-use Rattle.lift_clerk.specs.lemmas.Lists.{no_asks}
+use Rattle.lift_clerk.specs.lemmas.Lists.{AreOthers, no_asks}
 use Rattle.lift_clerk.specs.lemmas.Served.{behind}
 use Rattle.lift_clerk.specs.lemmas.Standing.{finds_last}
 use Rattle.lift_clerk.specs.lemmas.Words.{last_has, one_ask, asks_both, asks_count}

@@ -3,7 +3,7 @@
 use Rattle.std.specs.Prelude.{◌≡◌, true, false, List, [], ◌++◌, map, Option, Result}
 use Rattle.std.specs.List.{flat_map}
 use Rattle.lift_base.specs.declared.history.Entry.{Entry}
-use Rattle.lift_disk.specs.Disk.{DiskState}
+use Rattle.lift_disk.specs.Disk.{DiskState, LeavesNow, LeavesOnly}
 use Rattle.lift_register.specs.Register.{RegisterState}
 use Rattle.lift_desk.specs.Seats.{ClerkPlace, with_looks_of}
 use Rattle.lift_keeper.specs.declared.fault.KeeperFault.{KeeperFault}
@@ -13,7 +13,7 @@ use Rattle.lift_world.specs.Turns.{with_replies}
 use Rattle.lift_clerk.specs.Clerk.{ClerkState}
 use Rattle.lift_clerk.specs.Steps.{GroupState, group_of}
 use Rattle.lift_clerk.specs.History.{History}
-use Rattle.lift_clerk.specs.Keeping.{KeepsThroughout, LeavesSafe, KeepsNow}
+use Rattle.lift_clerk.specs.Keeping.{KeepsEither, LeavesSafe}
 use Rattle.lift_parts.specs.declared.counts.FlushCounts.{FlushCounts}
 use Rattle.lift_parts.specs.Batch.{BatchState, commands_in, replies_in, entries_of_batches}
 use Rattle.lift_parts.specs.Flusher.{FlusherState}
@@ -65,9 +65,9 @@ pub record FlushStands {D : Type 0} (f g : FlusherState D) (base : RegisterState
   pub batch : List Entry
   pub while_whole : f.writer.is_broken ≡ false → batch ≡ entries_of_batches received
   pub while_broken : f.writer.is_broken ≡ true → batch ≡ f.writer.doubt
-  pub stands : KeepsThroughout base (group_after f) safe given batch old new
-  pub now : LeavesSafe f.writer old
-      → KeepsNow base (group_after g) (safe ++ goes_on.more) (given ++ goes_on.told) new
+  pub stands : LeavesOnly old new (KeepsEither D f.writer.plan base safe batch given)
+  pub now : LeavesSafe f.writer old → LeavesNow new (KeepsEither D g.writer.plan base
+      (safe ++ goes_on.more) g.writer.doubt (given ++ goes_on.told))
 
 -- Whatever had happened before it: all that was given is kept at each moment, and what the turn gives
 -- from its end on.

@@ -1,12 +1,12 @@
 -- What a flusher's turns keep, over power cuts, of all that was answered.
 use Rattle.std.specs.Prelude.{List, ◌++◌, Option, Result}
 use Rattle.lift_base.specs.declared.history.Entry.{Entry}
-use Rattle.lift_disk.specs.Disk.{DiskState, LeavesOnly}
+use Rattle.lift_disk.specs.Disk.{DiskState, LeavesNow, LeavesOnly}
 use Rattle.lift_register.specs.Register.{RegisterState}
 use Rattle.lift_world.specs.declared.event.Taken.{Taken}
 use Rattle.lift_keeper.specs.declared.fault.KeeperFault.{KeeperFault}
 use Rattle.lift_clerk.specs.History.{History}
-use Rattle.lift_clerk.specs.Keeping.{KeepsAll, LeavesSafe, KeepsNow}
+use Rattle.lift_clerk.specs.Keeping.{KeepsAll, KeepsEither, LeavesSafe}
 use Rattle.lift_parts.specs.declared.counts.FlushCounts.{FlushCounts}
 use Rattle.lift_parts.specs.Flusher.{FlusherState}
 use Rattle.lift_parts.specs.Turns.{FlusherTurns, IsFlush}
@@ -46,8 +46,8 @@ pub record HaveKept {D : Type 0} (state : D → DiskState) (base : RegisterState
   -- from each turn on to the last
   pub loses_nothing : LosesNothing (state g.writer.device) turns
   pub history : History base (group_after g) now_safe now_given
-  pub kept : LeavesSafe f.writer (state f.writer.device)
-      → KeepsNow base (group_after g) now_safe now_given (state g.writer.device)
+  pub kept : LeavesSafe f.writer (state f.writer.device) → LeavesNow (state g.writer.device)
+      (KeepsEither D g.writer.plan base now_safe g.writer.doubt now_given)
 
 -- So it is of all turns that a flusher may have made by any moment, whether or not they end, and
 -- whatever the allocator took and sent meanwhile.

@@ -1,12 +1,9 @@
 -- A history speaks of no device: it is one over devices of another type too.
 use Rattle.std.proofs.Common.{Bool, List, ap, inl, inr}
-use Rattle.lift_base.specs.declared.command.Reply.{Reply}
 use Rattle.lift_base.specs.declared.history.Entry.{Entry}
 use Rattle.lift_building.specs.Plan.{Plan}
 use Rattle.lift_disk.specs.Disk.{DiskState, Image}
 use Rattle.lift_register.specs.Register.{RegisterState}
-use Rattle.lift_policy.specs.Step.{State}
-use Rattle.lift_policy.specs.declared.command.Command.{Command}
 use Rattle.lift_keeper.specs.Writer.{WriterView}
 use Rattle.lift_keeper.specs.Keeper.{KeeperView}
 use Rattle.lift_world.specs.declared.event.Taken.{Taken}
@@ -37,18 +34,19 @@ abbrev group_over : {D E : Type 0} → E → GroupState D → GroupState E
 group_over device g = record { desk = g.desk; seat = g.seat; keeper = keeper_over device g.keeper; policy = tt }
 
 module _ {D E : Type 0} (device : E) where
-  decides_over : (k : KeeperView D) (commands : List Command) (replies : List Reply) (decided : State) → DecidesOn k commands replies decided → DecidesOn (keeper_over device k) commands replies decided
-  decides_over k commands replies decided d = record { was_whole = d.was_whole; run = d.run; shows = d.shows }
+  abbrev decides_over : (k : KeeperView D) → DecidesOn k → DecidesOn (keeper_over device k)
+  decides_over k d = record {
+    commands = d.commands;
+    replies = d.replies;
+    decided = d.decided;
+    apart = d.apart;
+    was_whole = d.was_whole;
+    run = d.run;
+    shows = d.shows;
+  }
 
   abbrev accepts_over : (k : KeeperView D) (batch : List Entry) → MayAccept k batch → MayAccept (keeper_over device k) batch
-  accepts_over k batch m = record {
-    commands = m.commands;
-    replies = m.replies;
-    decided = m.decided;
-    apart = m.apart;
-    decides = decides_over k m.commands m.replies m.decided m.decides;
-    is = m.is;
-  }
+  accepts_over k batch m = (decides_over k m.0, m.1)
 
   adds_over : (k : KeeperView D) (batch : List Entry) → MayAdd k batch → MayAdd (keeper_over device k) batch
   adds_over k batch (inl doubt) = inl doubt
@@ -56,11 +54,8 @@ module _ {D E : Type 0} (device : E) where
 
   turn_over : {before after : GroupState D} {fails : Bool} {batch more : List Entry} {told : List Taken} → TurnAdds before after fails batch more told → TurnAdds (group_over device before) (group_over device after) fails batch more told
   turn_over {before} {after} (Safe t) = Safe (record {
-    commands = t.commands;
-    replies = t.replies;
-    decided = t.decided;
     desk = t.desk;
-    decides = decides_over before.keeper t.commands t.replies t.decided t.decides;
+    decides = decides_over before.keeper t.decides;
     answers = t.answers;
     state = t.state;
     safe = t.safe;
@@ -124,7 +119,9 @@ module _ {D E : Type 0} (device : E) where
 -- so is what an image keeps, and what a device holds
 keeps_over : {D E : Type 0} → D → (plan : Plan) (base : RegisterState) (entries : List Entry) (given : List Taken) (left : Image) → ImageKeeps D plan base entries given left → ImageKeeps E plan base entries given left
 keeps_over {D} {E} device plan base entries given left k = record {
-  shows = k.shows;
+  reads = k.reads;
+  holds = k.holds;
+  letters = k.letters;
   goes_on = λ (clerk : GroupState E) begins. history_over clerk.keeper.writer.device (k.goes_on (group_over device clerk) (begins_over device plan left clerk begins));
 }
 

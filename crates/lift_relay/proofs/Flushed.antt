@@ -13,7 +13,8 @@ use Rattle.lift_desk.specs.lemmas.Places.{view_at-here}
 use Rattle.lift_desk.specs.lemmas.WordLists.{last_of-push}
 use Rattle.lift_clerk.specs.declared.answering.DueAnswer.{DueAnswer}
 use Rattle.lift_clerk.specs.Answering.{AreOwed, terminals_in, reply_told, replies_told, with_answers}
-use Rattle.lift_clerk.specs.TakenAndAnswered.{AreApart, AreOthers, ask_of}
+use Rattle.lift_clerk.specs.TakenAndAnswered.{AreApart, ask_of}
+use Rattle.lift_clerk.specs.lemmas.Lists.{AreOthers}
 use Rattle.lift_clerk.specs.Visits.{Visit, FindsAt}
 use Rattle.lift_clerk.specs.lemmas.Visiting.{taken-new}
 use Rattle.lift_clerk.specs.lemmas.Looking.{Looked}

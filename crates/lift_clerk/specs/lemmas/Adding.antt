@@ -32,20 +32,20 @@ use Rattle.lift_clerk.specs.lemmas.Turned.{makes_safe}
 abbrev pub leaves_in_doubt : {D P : Type 0} → (choice : Choice) → RunsAreAny choice
     → (before after : ClerkState D P) → TurnFails choice before after → LeavesInDoubt before after
 leaves_in_doubt choice any before after t = record {
-  may = record {
-    commands = commands_of 0 t.turn.visits;
-    replies = t.turn.decided_so;
-    decided = after.keeper.state;
-    apart = (answers_of before.seat after.seat t.turn.visits
-        (unknowns (commands_of 0 t.turn.visits)) t.turn.serves).apart;
-    decides = record {
+  may = (
+    record {
+      commands = commands_of 0 t.turn.visits;
+      replies = t.turn.decided_so;
+      decided = after.keeper.state;
+      apart = (answers_of before.seat after.seat t.turn.visits
+          (unknowns (commands_of 0 t.turn.visits)) t.turn.serves).apart;
       was_whole = t.was_whole;
       run = any before.keeper.writer.plan before.keeper.state (commands_of 0 t.turn.visits)
           t.turn.decided_so after.keeper.state t.turn.run;
       shows = t.turn.register;
-    };
-    is = sym t.turn.doubt;
-  };
+    },
+    sym t.turn.doubt,
+  );
   desk = t.turn.desk;
   answers = answers_of before.seat after.seat t.turn.visits
       (unknowns (commands_of 0 t.turn.visits)) t.turn.serves;
@@ -122,7 +122,7 @@ same_safe {D} {base} {after} {safe} told h =
 module _ {D : Type 0} {base : RegisterState} {before after : GroupState D} {safe : List Entry}
     {given : List Taken} where
   pub failed : History base before safe given → (t : LeavesInDoubt before after)
-      → History base after safe (given ++ with_replies t.may.commands (unknowns t.may.commands))
+      → History base after safe (given ++ with_replies t.may.0.commands (unknowns t.may.0.commands))
   failed h t = same_safe _ (Turned h (InDoubt t))
 
   pub turned_while_broken : History base before safe given → (t : AnswersUnknown before after)

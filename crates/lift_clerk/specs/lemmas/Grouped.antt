@@ -11,9 +11,6 @@ module _ {D P : Type 0} (before after : ClerkState D P) where
   abbrev pub grouped_safe : TurnMakesSafe before after
       → TurnMakesSafe (group_of before) (group_of after)
   grouped_safe t = record {
-    commands = t.commands;
-    replies = t.replies;
-    decided = t.decided;
     desk = t.desk;
     decides = t.decides;
     answers = t.answers;

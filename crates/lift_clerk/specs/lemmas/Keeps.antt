@@ -4,14 +4,14 @@ use Rattle.std.proofs.lemmas.List.{append-nil}
 use mathlib.Core.List.{IsPrefix}
 use Rattle.lift_base.specs.declared.history.Entry.{Entry}
 use Rattle.lift_building.specs.Plan.{Plan}
-use Rattle.lift_disk.specs.Disk.{DiskState, Image}
+use Rattle.lift_disk.specs.Disk.{DiskState, Image, LeavesNow}
 use Rattle.lift_register.specs.Register.{RegisterState}
 use Rattle.lift_keeper.specs.Images.{IsInDoubt}
 use Rattle.lift_world.specs.declared.event.Taken.{Taken}
 use Rattle.lift_clerk.specs.Steps.{GroupState}
 use Rattle.lift_clerk.specs.History.{History}
 use Rattle.lift_clerk.specs.Keeping.{CrashesKeep, ImageKeeps, KeepsAll, KeepsEither, KeepsPrefix}
-use Rattle.lift_clerk.specs.Keeping.{KeepsNow, LeavesSafe}
+use Rattle.lift_clerk.specs.Keeping.{LeavesSafe}
 
 -- of what is safe followed by what is on its way
 pub either_front : {D : Type 0} (plan : Plan) (base : RegisterState) (safe batch : List Entry) (given : List Taken)
@@ -53,5 +53,6 @@ module _ {D : Type 0} (law : CrashesKeep D) (base : RegisterState) (group : Grou
 
   -- between two calls
   pub kept_now : (disk : DiskState) → LeavesSafe group.keeper.writer disk
-      → KeepsNow base group safe given disk
+      → LeavesNow disk
+      (KeepsEither D group.keeper.writer.plan base safe group.keeper.writer.doubt given)
   kept_now disk leaves = λ honest left may. in_doubt left (leaves honest left may)

@@ -1,5 +1,5 @@
 -- What a turn changes in the words of one terminal.
-use Rattle.lift_clerk.specs.TakenAndAnswered.{AreOthers, AreApart, answers_to, ask_of, Grows, TakesAndAnswers}
+use Rattle.lift_clerk.specs.TakenAndAnswered.{AreApart, ask_of, Grows, TakesAndAnswers}
 use Rattle.std.proofs.Common.{ℕ, zero, suc, ◌≡◌, ◌≢◌, ◌+◌, ◌≤◌, Bool, true, false, cond, List, []}
 use Rattle.std.proofs.Common.{◌∷◌, ◌++◌, length, Option, Some, None, refl, sym, ap, subst, ◌∙◌}
 use Rattle.std.proofs.Common.{arith, map}
@@ -20,7 +20,7 @@ use Rattle.lift_policy.specs.declared.command.Command.{Command}
 use Rattle.lift_world.specs.declared.event.Answer.{Answer}
 use Rattle.lift_world.specs.World.{asks, is_answer_to}
 use Rattle.lift_clerk.specs.Visits.{Visit, FindsAt, Finds, LooksAndAnswers, commands_of, command_at, served}
-use Rattle.lift_clerk.specs.lemmas.Lists.{no_asks, no_answers}
+use Rattle.lift_clerk.specs.lemmas.Lists.{AreOthers, answers_to, no_asks, no_answers}
 
 grows_as : (before after : ClerkView) (cs ds : List Command) (xs ys : List Answer) → ds ≡ cs
     → ys ≡ xs → Grows before after cs xs → Grows before after ds ys
@@ -63,7 +63,6 @@ module _ (place : ClerkPlace) (word t first k : ℕ) where
       record {
         taken = same ∙ sym (append-nil place.view.taken);
         answered = sym (append-nil place.view.answered);
-        same = refl;
       }
 
   -- or an ask, which gets this reply
@@ -84,7 +83,6 @@ module _ (place : ClerkPlace) (word t first k : ℕ) where
       record {
         taken = more ∙ ap (λ (x : ℕ). place.view.taken ++ x ∷ []) is;
         answered = ap (λ (n : ℕ). place.view.answered ++ reply_word n ask.number reply ∷ []) count;
-        same = refl;
       }
 
 abbrev asked_of : ℕ → List Command → List Command
@@ -171,7 +169,6 @@ view_after places [] first finds replies k t e count =
     record {
       taken = sym (append-nil (view_at places k).taken);
       answered = sym (append-nil (view_at places k).answered);
-      same = refl;
     }
 view_after [] (visit ∷ visits) first finds replies k t e count = absurd finds
 view_after (place ∷ places) (visit ∷ visits) first finds replies k t e count =

@@ -1,5 +1,5 @@
 -- What a turn found at the desk, its terminals ask in the machine too.
-use Rattle.lift_clerk.specs.TakenAndAnswered.{AreApart, AreOthers}
+use Rattle.lift_clerk.specs.TakenAndAnswered.{AreApart}
 use Rattle.std.proofs.Common.{ℕ, ◌≡◌, ◌≢◌, ◌≤◌, ◌⊎◌, inl, inr, Bool, true, false, cond, eqb, List}
 use Rattle.std.proofs.Common.{[], ◌∷◌, ◌++◌, length, drop, Option, Some, None, refl, sym, ap, subst}
 use Rattle.std.proofs.Common.{◌∙◌, arith}
@@ -21,7 +21,7 @@ use Rattle.lift_world.specs.Tie.{TakeFinds}
 use Rattle.lift_world.specs.Asking.{AreAnswered, asked_on}
 use Rattle.lift_world.specs.Among.{LooksFindAsks}
 use Rattle.lift_clerk.specs.Machine.{waiting_in, LooksAgree}
-use Rattle.lift_clerk.specs.lemmas.Lists.{no_asks}
+use Rattle.lift_clerk.specs.lemmas.Lists.{AreOthers, no_asks}
 
 -- the last that passes a test
 module _ {A : Type 0} (p : A → Bool) where

@@ -15,7 +15,7 @@ use Rattle.lift_policy.specs.declared.command.Command.{Command}
 use Rattle.lift_clerk.specs.declared.answering.DueAnswer.{DueAnswer}
 use Rattle.lift_clerk.specs.Answering.{AreOwed, terminals_in, reply_told, replies_told}
 use Rattle.lift_clerk.specs.Answering.{with_answers, with_reply_to_last}
-use Rattle.lift_clerk.specs.TakenAndAnswered.{AreOthers}
+use Rattle.lift_clerk.specs.lemmas.Lists.{AreOthers}
 use Rattle.lift_clerk.specs.Scanning.{terminals_of}
 use Rattle.lift_clerk.specs.Visits.{Visit, FindsAt, Finds, commands_of, command_at, looked_at, served}
 use Rattle.lift_clerk.specs.lemmas.Served.{behind}

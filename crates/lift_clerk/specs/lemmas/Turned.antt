@@ -64,7 +64,7 @@ module _ {D P : Type 0} (laws : Laws) (w : World) (before after : ClerkState D P
 
       abbrev words : (t : ℕ) → ShowsWords end t (view_at after.seat t)
       words t =
-          words_after w end t found rs k.ends (view_at before.seat t) (view_at after.seat t)
+          words_after w end t found rs k.ends answers.one_each (view_at before.seat t) (view_at after.seat t)
           (m.words t) (more t).waiting (more t).asked (answers.grows t)
 
       waits : WaitsNowhere w → WaitsNowhere end
@@ -211,11 +211,12 @@ abbrev pub makes_safe : {D P : Type 0} → (choice : Choice) → RunsAreAny choi
     → (before after : ClerkState D P) (counts : Counts) → Turns choice before after counts
     → TurnMakesSafe before after
 makes_safe choice any before after counts t = record {
-  commands = commands_of 0 t.turn.visits;
-  replies = t.turn.replies;
-  decided = t.turn.decided;
   desk = t.turn.desk;
   decides = record {
+    commands = commands_of 0 t.turn.visits;
+    replies = t.turn.replies;
+    decided = t.turn.decided;
+    apart = (answers_of before.seat after.seat t.turn.visits t.turn.replies t.turn.serves).apart;
     was_whole = t.was_whole;
     run = any before.keeper.writer.plan before.keeper.state (commands_of 0 t.turn.visits)
         t.turn.replies t.turn.decided t.turn.run;
@@ -231,31 +232,31 @@ makes_safe choice any before after counts t = record {
 
 -- what was decided on the keeper's state is decided on the machine's
 pub decided_in : {D P : Type 0} → (w : World) (clerk : ClerkState D P) → w.building ≡ clerk.keeper.writer.plan
-    → state_of w ≡ clerk.keeper.state → (cs : List Command) (rs : List Reply) (decided : State)
-    → DecidesOn clerk.keeper cs rs decided → Run w.building any_eligible (state_of w) cs rs decided
-decided_in w clerk b s cs rs decided d =
-    subst (λ (p : Plan). Run p any_eligible (state_of w) cs rs decided) (sym b)
-    (subst (λ (x : State). Run clerk.keeper.writer.plan any_eligible x cs rs decided) (sym s) d.run)
+    → state_of w ≡ clerk.keeper.state → (d : DecidesOn clerk.keeper)
+    → Run w.building any_eligible (state_of w) d.commands d.replies d.decided
+decided_in w clerk b s d =
+    subst (λ (p : Plan). Run p any_eligible (state_of w) d.commands d.replies d.decided) (sym b)
+    (subst (λ (x : State). Run clerk.keeper.writer.plan any_eligible x d.commands d.replies d.decided) (sym s) d.run)
 
 -- A batch that is made safe is a turn of the machine.
 pub batches_are_turns : {D P : Type 0} → Laws → (w : World) (before after : ClerkState D P)
-    → (t : TurnMakesSafe before after) → IsMachineOf w before → LooksAgree w t.commands
+    → (t : TurnMakesSafe before after) → IsMachineOf w before → LooksAgree w t.decides.commands
     → (letters : List (Option ℕ))
     × ((folds : ℕ) → LeadsToClerk w
-    (events_of_turn t.commands letters folds (length t.decided.batch))
-    (with_replies t.commands t.replies) (safe_list w ++ t.decided.batch) after)
+    (events_of_turn t.decides.commands letters folds (length t.decides.decided.batch))
+    (with_replies t.decides.commands t.decides.replies) (safe_list w ++ t.decides.decided.batch) after)
 batches_are_turns laws w before after t m agree =
-    let cs : List Command = t.commands in
-    let state : State = t.decided in
+    let cs : List Command = t.decides.commands in
+    let state : State = t.decides.decided in
     let wh : ShowsWhole w before.keeper = m.whole t.decides.was_whole in
     let a : Asked w cs = ask laws w m.reached (splits laws w before after m)
     (rests w wh.at_rest) cs agree t.answers.apart in
-    let run : Run w.building any_eligible (state_of w) cs t.replies state =
-    decided_in w before m.building wh.state cs t.replies state t.decides in
-    let e = ends_well laws w wh.at_rest cs t.replies state a run in (
+    let run : Run w.building any_eligible (state_of w) cs t.decides.replies state =
+    decided_in w before m.building wh.state t.decides in
+    let e = ends_well laws w wh.at_rest cs t.decides.replies state a run in (
       e.0,
       λ folds.
-          let k : EndsWell w (events_of_turn cs e.0 folds (length state.batch)) cs t.replies
+          let k : EndsWell w (events_of_turn cs e.0 folds (length state.batch)) cs t.decides.replies
           state = e.1 folds in
           let safe : safe_list w ≡ w.accepted = safe_all w wh.at_rest in
           let register : register_of k.end.base k.end.accepted ≡ state.register =
@@ -263,7 +264,7 @@ batches_are_turns laws w before after t m agree =
           ap (register_of w.base) (k.accepted ∙ ap (λ (xs : List Entry). xs ++ state.batch) (sym safe)) ∙
           register_with laws.registers w state.batch before.keeper.writer.register wh.safe ∙ sym
           t.decides.shows in
-          follows laws w before after m cs t.replies t.answers agree t.same_plan
+          follows laws w before after m cs t.decides.replies t.answers agree t.same_plan
           (events_of_turn cs e.0 folds (length state.batch)) k.end
           (record {
             first = k.before;

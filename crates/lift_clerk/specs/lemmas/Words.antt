@@ -1,5 +1,6 @@
 -- What the clerk's words are after a turn.
-use Rattle.lift_clerk.specs.TakenAndAnswered.{Grows, answer_words, answers_to, ask_of}
+use Rattle.lift_clerk.specs.TakenAndAnswered.{Grows, answer_words, ask_of}
+use Rattle.lift_clerk.specs.lemmas.Lists.{answers_to, as_many}
 use Rattle.std.proofs.Common.{ℕ, suc, ◌≡◌, ◌+◌, List, [], ◌∷◌, ◌++◌, length, map, refl, sym, ap}
 use Rattle.std.proofs.Common.{◌∙◌, arith}
 use Rattle.std.specs.Prelude.{filter, count_by, All}
@@ -86,12 +87,12 @@ module _ (w end : World) (t : ℕ) (cs : List Command) (rs : List Reply) (e : En
   answered_here = ap (filter (is_answer_to t)) e.answered ∙ filter-append
       (is_answer_to t) w.answered (answers_to cs rs)
 
-  abbrev pub words_after : (before after : ClerkView) (k : ShowsWords w t before)
-      → (waiting : List Command)
+  abbrev pub words_after : length rs ≡ length cs → (before after : ClerkView)
+      (k : ShowsWords w t before) → (waiting : List Command)
       → filter (asks t) w.asked ++ filter (asks t) (fresh w cs) ≡ (k.first ++ filter (asks t) cs)
       ++ waiting
       → Grows before after taken_here answers_here → ShowsWords end t after
-  words_after before after k waiting asked g =
+  words_after long before after k waiting asked g =
       let firsts : List Ask = map ask_of k.first in
       let old : List Answer = filter (is_answer_to t) w.answered in
       let lf : length firsts ≡ length k.first = length-map k.first ask_of in
@@ -107,7 +108,7 @@ module _ (w end : World) (t : ℕ) (cs : List Command) (rs : List Reply) (e : En
       ap length answered_here in
       let lb = length-append old answers_here in
       let la = length-append k.first taken_here in
-      let same = g.same in
+      let same = as_many t cs rs long in
       record {
         first = k.first ++ taken_here;
         waiting = waiting;

@@ -9,7 +9,8 @@ use Rattle.lift_desk.specs.Steps.{with_taking}
 use Rattle.lift_desk.specs.Seats.{ClerkPlace, no_place, view_at, clerk_with, placed_at, Owes}
 use Rattle.lift_desk.specs.lemmas.Places.{view_at-here, view_at-else}
 use Rattle.lift_clerk.specs.Answering.{AreOwed, terminals_in, reply_told, with_answers, with_reply_to_last}
-use Rattle.lift_clerk.specs.TakenAndAnswered.{AreApart, AreOthers, ask_of}
+use Rattle.lift_clerk.specs.TakenAndAnswered.{AreApart, ask_of}
+use Rattle.lift_clerk.specs.lemmas.Lists.{AreOthers}
 use Rattle.lift_clerk.specs.Visits.{FindsAt}
 use Rattle.lift_clerk.specs.lemmas.Stored.{answered-else, owes-taken}
 use Rattle.lift_parts.specs.declared.taken.NotedCommand.{NotedCommand}

@@ -129,7 +129,7 @@ module _ {D F : Type 0} (state : D → DiskState) (held : F → DiskState) (plan
   safe = found.0
 
   register : keeper.writer.register ≡ register_of base safe
-  register = sym (reopens.only honest (register_of base safe) found.2.shows.reads)
+  register = sym (reopens.only honest (register_of base safe) found.2.reads)
 
   reads : IsImageOf plan keeper.writer.register new.image
   reads = reopens.safe (reopens.moments.honest.1 honest) new.image
