@@ -1,9 +1,6 @@
 -- A policy by which cars that are absent come last.
 use Rattle.std.specs.Prelude.{ℕ, ◌==◌, Bool, true, false, List, [], ◌∷◌, filter}
 use Rattle.std.specs.Int.{bit_at}
-use Rattle.lift_building.specs.Plan.{Plan}
-use Rattle.lift_cost.specs.declared.call.NewCall.{NewCall}
-use Rattle.lift_policy.specs.View.{ViewState}
 use Rattle.lift_policy.specs.Eligible.{Choice}
 use Rattle.lift_policy.specs.declared.dispatching.Dispatching.{Dispatching}
 use Rattle.lift_policy.specs.declared.presence.CarSet.{CarSet}
@@ -27,20 +24,14 @@ any_cars cars = Unit {0}
 
 -- what a policy may name of the eligible cars that are present, as that was told; where none of them
 -- is present, of all
-pub record NamesPresent (tells : CarSet → Type 0) (choice : Choice) (plan : Plan) (view : ViewState)
-    (call : NewCall) (eligible : List ℕ) (car : ℕ) : Type 0 where
-  pub present : CarSet
-  pub told : tells present
-  pub chosen : choice plan view call (present_first present eligible) car
-
-abbrev pub AbsentLastChoice : (CarSet → Type 0) → Choice → Choice
-AbsentLastChoice tells choice plan view call eligible car =
-    NamesPresent tells choice plan view call eligible car
+abbrev pub NamesPresent : (CarSet → Type 0) → Choice → Choice
+NamesPresent tells choice plan view call eligible car = (present : CarSet) × tells present
+    × choice plan view call (present_first present eligible) car
 
 -- a policy's own choice; or, where absent cars come last, that of the present ones
 abbrev pub AbsentLastWhere : (absent_last : Bool) → (CarSet → Type 0) → Choice → Choice
 AbsentLastWhere false tells choice = choice
-AbsentLastWhere true tells choice = AbsentLastChoice tells choice
+AbsentLastWhere true tells choice = NamesPresent tells choice
 
 -- the choice of a group that dispatches so
 abbrev pub IsDispatched : {P : Type 0} → (CarSet → Type 0) → (P → Choice) → Dispatching P → Choice

@@ -14,8 +14,7 @@ Run plan choice state [] [] next = next ≡ state
 Run plan choice state (c ∷ commands) (reply ∷ replies) next =
     (mid : State) × Step plan choice state c.terminal c.number c.body reply mid
     × Run plan choice mid commands replies next
-Run plan choice state [] (reply ∷ replies) next = ⊥
-Run plan choice state (c ∷ commands) [] next = ⊥
+Run plan choice state _ _ next = ⊥
 
 -- one Unknown for each command
 abbrev pub unknowns : List Command → List Reply

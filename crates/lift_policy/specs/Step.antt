@@ -53,22 +53,18 @@ floor_of (Place floor dir) = floor
 
 -- calls and stops are numbered, places aren't
 abbrev pub is_numbered : Body → Bool
-is_numbered (Call floor party) = true
-is_numbered (Stop floor dir) = true
 is_numbered (Place floor dir) = false
+is_numbered _ = true
 
 abbrev pub is_call : Body → Bool
 is_call (Call floor party) = true
-is_call (Stop floor dir) = false
-is_call (Place floor dir) = false
+is_call _ = false
 
 -- what was kept says what is asked now, for a call the same floor and the same party
 abbrev pub is_same : Body → Content → Bool
 is_same (Call floor party) (Letter from to car persons) = to == floor && persons == party
 is_same (Stop floor dir) (StoppedAt f d) = f == floor && same_dir d dir
-is_same (Call floor party) (StoppedAt f d) = false
-is_same (Stop floor dir) (Letter from to car persons) = false
-is_same (Place floor dir) content = false
+is_same _ _ = false
 
 abbrev pub is_kept : RegisterState → ℕ → Body → Bool
 is_kept register terminal body =
@@ -90,8 +86,7 @@ cars_for plan state terminal to party =
 -- no car may take what is asked
 abbrev pub lacks_car : Plan → State → ℕ → Body → Bool
 lacks_car plan state terminal (Call to party) = length (cars_for plan state terminal to party) == 0
-lacks_car plan state terminal (Stop floor dir) = false
-lacks_car plan state terminal (Place floor dir) = false
+lacks_car plan state terminal _ = false
 
 -- each cause of a refusal; no decision finds the journal full
 abbrev pub has_cause : Plan → State → ℕ → ℕ → Body → Reason → Bool
@@ -108,8 +103,7 @@ has_cause plan state terminal number body OtherBody =
 has_cause plan state terminal number body OldNumber =
     is_numbered body && (number == 0 || nat_lt number (last_number state.register terminal))
 has_cause plan state terminal number body GapNumber =
-    if is_numbered body then nat_lt (last_number state.register terminal + 1) number else nat_lt 0
-    number
+    nat_lt (if is_numbered body then last_number state.register terminal + 1 else 0) number
 has_cause plan state terminal number body NoCar =
     is_new state terminal number && lacks_car plan state terminal body
 has_cause plan state terminal number body Full = false
@@ -126,21 +120,16 @@ first_cause plan state terminal number body =
 
 -- the entry joins the register and the batch
 abbrev pub accepting : State → Entry → State
-accepting state entry =
-    record {
-      register = register_of state.register (entry ∷ []);
-      positions = state.positions;
-      batch = state.batch ++ entry ∷ [];
-    }
+accepting state entry = record state {
+  register = register_of state.register (entry ∷ []);
+  batch = state.batch ++ entry ∷ [];
+}
 
 -- the car stands there
 abbrev pub with_car_at : State → ℕ → ℕ → Dir → State
-with_car_at state car floor dir =
-    record {
-      register = state.register;
-      positions = slice_set state.positions car (Some (record { floor = floor; dir = dir }));
-      batch = state.batch;
-    }
+with_car_at state car floor dir = record state {
+  positions = slice_set state.positions car (Some (record { floor = floor; dir = dir }));
+}
 
 -- a stop of a new number joins, a repeat doesn't; either way the car stands there
 abbrev pub stopping : State → ℕ → ℕ → ℕ → Dir → State

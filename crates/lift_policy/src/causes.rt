@@ -140,9 +140,8 @@ fn is_old(register: &Register, command: &Command) -> bool
 
 /// Whether a command's number is above its terminal's next one, or a position's above 0.
 fn is_beyond(register: &Register, command: &Command) -> bool
-    ensures { result ≡ (if is_numbered command.now.body then nat_lt
-        (last_number register.now command.now.terminal + 1) command.now.number else nat_lt 0
-        command.now.number) }
+    ensures { result ≡ (nat_lt (if is_numbered command.now.body then
+        last_number register.now command.now.terminal + 1 else 0) command.now.number) }
 {
     let number = command.number.get();
     if is_numbered(&command.body) {

@@ -42,8 +42,8 @@ pub absent_last_member : (tells : CarSet → Type 0) (choice : Choice)
     → (plan : Plan) (view : ViewState) (call : NewCall) (eligible : List ℕ) (car : ℕ)
     → NamesPresent tells choice plan view call eligible car → Contains eligible car
 absent_last_member tells choice members plan view call eligible car h =
-    present_first_contains h.present eligible car
-    (members plan view call (present_first h.present eligible) car h.chosen)
+    present_first_contains h.0 eligible car
+    (members plan view call (present_first h.0 eligible) car h.2)
 
 pub dispatched_member : {P : Type 0} (tells : CarSet → Type 0) (chooses : P → Choice)
     → ((policy : P) (plan : Plan) (view : ViewState) (call : NewCall) (eligible : List ℕ) (car : ℕ)
