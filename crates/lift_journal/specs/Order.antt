@@ -1,7 +1,7 @@
 -- In which order records stand: first the open calls of a checkpoint by rising car, then the last
 -- commands of its terminals by rising terminal, then its count of done calls; after it, or without
 -- one, entries.
-use Rattle.std.specs.Prelude.{ℕ, ◌<◌, ◌≤◌, List, [], ◌∷◌, Option, Some, None}
+use Rattle.std.specs.Prelude.{◌<◌, ◌≤◌, List, [], ◌∷◌, Option, Some, None}
 use Rattle.lift_base.specs.declared.history.Record.{Record}
 use Rattle.lift_base.specs.declared.history.Record.TheVariants.{Entry, Row, Last, Done}
 

@@ -1,5 +1,5 @@
 -- What a commit does to a writer, whatever it answers.
-use Rattle.std.specs.Prelude.{◌≡◌, ◌<◌, ◌⊎◌, ◌↔◌, ℕ, true, false, List, [], length, Result, Ok, Err}
+use Rattle.std.specs.Prelude.{◌≡◌, ◌<◌, ◌⊎◌, ◌↔◌, ℕ, true, false, List, [], length, Result, Err}
 use Rattle.std.specs.Prelude.{IsOk, IfErr, OnOk, OnErr}
 use Rattle.lift_base.specs.declared.history.Entry.{Entry}
 use Rattle.lift_disk.specs.Disk.{DiskState, LeavesNow, LeavesOnly}

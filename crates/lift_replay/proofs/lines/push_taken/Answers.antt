@@ -1,10 +1,10 @@
-use Rattle.std.proofs.Common.{◌≡◌, ap, subst, ◌∙◌, inl, refl, Err}
+use Rattle.std.proofs.Common.{◌≡◌, ap, ◌∙◌, inl, refl, Err}
 use Rattle.std.specs.Prelude.{codes}
 use Rattle.lift_disk.specs.Faults.{fuse_state_of}
 use Rattle.lift_journal.specs.declared.fault.JournalFault.TheVariants.{Disk}
 use Rattle.lift_keeper.specs.declared.fault.KeeperFault.TheVariants.{Journal}
 use Rattle.lift_keeper.specs.lemmas.Committed.{safe_register}
-use Rattle.lift_replay.specs.Told.{HasCommitted, device_of}
+use Rattle.lift_replay.specs.Told.{HasCommitted}
 use Rattle.lift_replay.specs.Report.{fault_text, turn_text}
 use Rattle.lift_replay.proofs.Told.{fault_tells, is_whole, on_ok}
 use Rattle.lift_replay.proofs.lines.push_taken.Goals as goal
