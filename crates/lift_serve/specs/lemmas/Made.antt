@@ -26,12 +26,10 @@ images_keep {D} plan register image sound reads =
       [],
       ([], refl),
       record {
-        shows = record {
-          reads = subst (λ (r : RegisterState).
-              IsImageOf plan r image) (sym (over_nothing plan register of)) reads;
-          holds = none_has (IsHeld register []);
-          letters = none_has (StillNames register []);
-        };
+        reads = subst (λ (r : RegisterState).
+            IsImageOf plan r image) (sym (over_nothing plan register of)) reads;
+        holds = none_has (IsHeld register []);
+        letters = none_has (StillNames register []);
         goes_on = λ clerk over.
             Began (subst (λ (p : Plan). IsBuilding p) (sym over.same_plan) sound)
             (subst (λ (p : Plan). IsOfBuilding p register) (sym over.same_plan) of) over.begins
