@@ -40,9 +40,10 @@ TurnsHandOn {D} {F} {state} {base} {g = h} held plan
 
 -- Whatever turns a flusher has made by any moment, whether or not they end, so it is.
 abbrev pub EachTurnHandsOn : (D F : Type 0) → (D → DiskState) → (F → DiskState) → Type 0
-EachTurnHandsOn D F state held = (base : RegisterState) (last : DiskState) (f g : FlusherState D) (safe mid : List Entry)
+EachTurnHandsOn D F state held = (base : RegisterState) (f g : FlusherState D) (safe mid : List Entry)
     (given now : List Taken) → (state f.writer.device).is_honest
-    → (turns : KeepingTurns state base last f safe given g mid now) → TurnsHandOn held f.writer.plan turns
+    → (turns : KeepingTurns state base (state g.writer.device) f safe given g mid now)
+    → TurnsHandOn held f.writer.plan turns
 
 -- The building was served over a file that was found, and that holds these letters, by turns of a flusher
 -- that began so and came to that. Then the next start finds one that holds all that was answered by then,

@@ -97,8 +97,8 @@ handed_on {D} state held plan base last f safe given h end later own honest
     }
 
 pub turns_hand_on : {D F : Type 0} (state : D → DiskState) (held : F → DiskState) → EachTurnHandsOn D F state held
-turns_hand_on state held base last f g safe mid given now honest turns =
-    (handed_on state held f.writer.plan base last f safe given g mid now refl honest turns).cuts
+turns_hand_on state held base f g safe mid given now honest turns =
+    (handed_on state held f.writer.plan base (state g.writer.device) f safe given g mid now refl honest turns).cuts
 
 -- Keeper::open has opened this device, which holds what was found, and that keeps a prefix of what was
 -- accepted, and all that was given.
@@ -195,7 +195,7 @@ module _ {D F : Type 0} (state : D → DiskState) (held : F → DiskState) (plan
     cuts : TurnsHandOn held plan kept.turns
     cuts = subst (λ (p : Plan). TurnsHandOn held p kept.turns)
         (ap (λ (v : WriterView D). v.plan) begun ∙ own)
-        (turns_hand_on state held base (state g.writer.device) f g safe kept.now_safe given
+        (turns_hand_on state held base f g safe kept.now_safe given
         kept.now_given
         (subst (λ (v : WriterView D). (state v.device).is_honest) (sym begun)
         (reopens.moments.honest.1 honest)) kept.turns)
