@@ -64,8 +64,7 @@ pub record IsFullTurn {P : Type 0} (old new : AllocatorState P) (counts : Counts
   pub in_hand : old.hand ≢ []
   pub was_full : WasFull old.end
   pub same : new ≡ record old { end = record old.end { tries = tried old.end.tries true } }
-  pub taken : counts.taken ≡ 0
-  pub accepted : counts.accepted ≡ 0
+  pub counted : (counts.taken ≡ 0) × (counts.accepted ≡ 0)
 
 -- the tries of an end once a batch in hand was sent, if there is one
 abbrev pub tries_after : List BatchState → Tries → Tries

@@ -19,7 +19,7 @@ use Rattle.lift_parts.specs.declared.counts.FlushCounts.{FlushCounts}
 use Rattle.lift_clerk.specs.TakenAndAnswered.{AreApart, ask_of}
 use Rattle.lift_parts.specs.Batch.{BatchState, IsDecided, AreBelow, commands_in}
 use Rattle.lift_parts.specs.Batch.{entries_of_batches}
-use Rattle.lift_parts.specs.Line.{ReceiveState, ReceivesOne, WasEmpty, tried}
+use Rattle.lift_parts.specs.Line.{Begins, ReceiveState, ReceivesOne, tried}
 
 pub record FlusherState (D : Type 0) : Type 0 where
   pub desk : List TableId
@@ -32,8 +32,7 @@ pub record FlusherState (D : Type 0) : Type 0 where
 -- Every ask that these seats took is answered, and the last of each terminal has this turn: so no
 -- batch that was received has been left out.
 abbrev pub AllAnsweredBy : List ClerkPlace → List ℕ → Type 0
-AllAnsweredBy places turns = (t : ℕ)
-    → (¬ Owes (view_at places t))
+AllAnsweredBy places turns = (t : ℕ) → (¬ Owes (view_at places t))
     × (turn_of (last_of (view_at places t).taken) ≡ slice_index_or turns t 0)
 
 -- What is true of every flusher: where nothing has failed, what is safe is what was received, and
@@ -81,7 +80,7 @@ entries_received old new = entries_of_batches (drop (length old.received) new.re
 -- pop the line was empty. Nothing else changes.
 pub record IsEmptyTurn {D : Type 0} (old new : FlusherState D)
     (result : Result FlushCounts KeeperFault) : Type 0 where
-  pub was_empty : WasEmpty old.end
+  pub was_empty : Begins old.end.known old.end.received
   pub same : new ≡ record old { end = record old.end { tries = tried old.end.tries true } }
   pub whole : old.writer.is_broken ≡ false → result ≡ Ok (record { batches = 0; answers = 0 })
   pub broken : old.writer.is_broken ≡ true → result ≡ Err (Journal Broken)

@@ -125,17 +125,14 @@ pub record WasFull (s : SendState) : Type 0 where
   pub all : s.sent ≡ received ++ items
   pub later : Begins s.gone received
 
--- at one moment since this end's last pop all that had been sent had left the line
-abbrev pub WasEmpty : ReceiveState → Type 0
-WasEmpty s = Begins s.known s.received
-
 -- The end tried once more to send, and was refused: at some moment since its last push the line was
 -- full. That try alone changes anything.
 pub record FindsNoRoom (old new : SendState) : Type 0 where
   pub tries : new ≡ record old { tries = tried old.tries true }
   pub was_full : WasFull old
 
--- It tried once more to receive, where the line was empty.
+-- It tried once more to receive, where the line was empty: at one moment since its last pop all that
+-- had been sent had left it.
 pub record FindsNone (old new : ReceiveState) : Type 0 where
   pub tries : new ≡ record old { tries = tried old.tries true }
-  pub was_empty : WasEmpty old
+  pub was_empty : Begins old.known old.received

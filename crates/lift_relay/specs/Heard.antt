@@ -5,5 +5,4 @@ use Rattle.std.specs.Prelude.{◌≡◌, Bool, true, false}
 abbrev pub FailureHeard : {V : Type 0} → (hears : V → V → Type 0) → (was_broken is_broken : Bool)
     → (old new : V) → Type 0
 FailureHeard hears false true old new = hears old new
-FailureHeard hears false false old new = new ≡ old
-FailureHeard hears true is_broken old new = new ≡ old
+FailureHeard hears _ _ old new = new ≡ old

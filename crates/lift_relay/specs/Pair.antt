@@ -28,9 +28,8 @@ HaveTurned choice state a f (Err idle) g = (idle.0 ≡ a) × (g ≡ f)
 
 -- Each part had its turns, and what was in hand then was sent. The fault is the flusher's first, if
 -- it had one.
-pub record HaveRun {D P : Type 0} (choice : Choice) (state : D
-    → DiskState) (a b : AllocatorState P) (f g : FlusherState D)
-    (fault : Option RunFault) : Type 0 where
+pub record HaveRun {D P : Type 0} (choice : Choice) (state : D → DiskState)
+    (a b : AllocatorState P) (f g : FlusherState D) (fault : Option RunFault) : Type 0 where
   pub first : Option KeeperFault
   pub is_first : fault ≡ option_map (λ (of : KeeperFault). Keeper of) first
   pub allocator : AllocatorTurns choice a b

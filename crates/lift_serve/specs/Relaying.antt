@@ -20,9 +20,8 @@ use Rattle.lift_serve.specs.declared.serving.ServeFault.TheVariants.{Thread}
 
 -- Both parts ran, and all that was sent is received and answered; or no thread could be made, and
 -- they are as they were.
-pub record HaveRunOrNot {D P : Type 0} (choice : Choice) (state : D
-    → DiskState) (a b : AllocatorState P) (f g : FlusherState D)
-    (fault : Option RunFault) : Type 0 where
+pub record HaveRunOrNot {D P : Type 0} (choice : Choice) (state : D → DiskState)
+    (a b : AllocatorState P) (f g : FlusherState D) (fault : Option RunFault) : Type 0 where
   pub refused : fault ≡ Some (Spawn tt) → (b ≡ a) × (g ≡ f)
   pub ran : fault ≢ Some (Spawn tt) → HaveRun choice state a b f g fault
   pub received : fault ≢ Some (Spawn tt) → b.end.sent ≡ g.end.received
@@ -30,16 +29,14 @@ pub record HaveRunOrNot {D P : Type 0} (choice : Choice) (state : D
 
 -- whether a turn of the flusher failed
 abbrev pub has_failed : Option RunFault → Bool
-has_failed None = false
-has_failed (Some (Spawn no_thread)) = false
 has_failed (Some (Keeper fault)) = true
+has_failed _ = false
 
 -- Both parts were served: they ran, each by its turns alone, or came to a fault; or no thread could be had,
 -- and that is reported, whatever else there was. The flusher is broken exactly where it was before, or a
 -- turn of it failed.
-pub record HaveServed {D P : Type 0} (chooses : P → Choice) (state : D
-    → DiskState) (a b : AllocatorState P) (f g : FlusherState D)
-    (told : Option ServeFault) : Type 0 where
+pub record HaveServed {D P : Type 0} (chooses : P → Choice) (state : D → DiskState)
+    (a b : AllocatorState P) (f g : FlusherState D) (told : Option ServeFault) : Type 0 where
   pub fault : Option RunFault
   pub ran : HaveRunOrNot (chooses a.policy) state a b f g fault
   pub tells : fault ≡ Some (Spawn tt) → told ≡ Some Thread
