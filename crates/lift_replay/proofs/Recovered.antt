@@ -36,7 +36,7 @@ use Rattle.lift_register.specs.Register.{RegisterState, cars, terminals}
 
 -- what was found is what the image reads as
 pub found_reads : (plan : Plan) (found : Found) (image : Image) → IsFound plan found image → IsImageOf plan found.register image
-found_reads plan found image is = record { half = half; base = is.base; entries = is.entries; reads = is.reads; is = is.is }
+found_reads plan found image is = is.found
 
 -- a device in memory that was not told to fail does not
 pub never_fails : (old new : DiskState) → old.is_inert → IsUnarmed old → new.is_short ≡ false → LastFails old new → ⊥
@@ -124,10 +124,14 @@ none_used shape (batch ∷ batches) image holds none = absurd (some_record (take
 pub empty_found : (plan : Plan) (image : Image) → ReadsAs (shape_of plan 64) [] [] image → Picks false image → IsFound plan nothing_found image
 unfolding cars terminals
 empty_found plan image reads picks = record {
-  base = [];
-  entries = [];
-  reads = reads;
-  is = record { base_fits = tt; entries_fit = tt; is = refl };
+  found = record {
+    half = half;
+    base = [];
+    entries = [];
+    reads = reads;
+    is = record { base_fits = tt; entries_fit = tt; is = refl };
+  };
+  sectors = refl;
   picks = picks;
   counts = none_used (shape_of plan 64) reads.batches image reads.holds reads.joined;
 }
