@@ -4,7 +4,7 @@ use crate::deeds::{Deed, at_desk};
 use crate::device::{Device, NEVER, armed_for, cut};
 use crate::faults::asking::{ask, ask_again, calls_first, commands_of, hear, stands};
 use crate::faults::case::{APPENDED, Case, MOVED, Work, counts};
-use crate::faults::images::{copy, image_of, is_new};
+use crate::faults::images::{copy, image_of};
 use crate::faults::showing::shows;
 use crate::groups::group;
 use crate::tally::Tally;
@@ -160,8 +160,7 @@ fn device_after<R: Threads + Wait + Abort + Sync>(
     at_desk(rt, alloc, tally, device, building, Deed::GoOn(case))
 }
 
-/// All of the work is there after another power cut, and all batches are of version 2 where the
-/// checkpoint moved them.
+/// All of the work is there after another power cut.
 fn ends<R: Threads + Wait + Abort + Sync>(
     rt: &R,
     alloc: Global,
@@ -171,11 +170,7 @@ fn ends<R: Threads + Wait + Abort + Sync>(
     case: &Case,
 ) {
     let device = cut(device, Some(Outcome::Lose));
-    let device = at_desk(rt, alloc, tally, device, building, Deed::Show(case));
-    if case.work.is_old {
-        let batches = if case.batches_in() > 0 { 2 } else { 3 };
-        tally.want(is_new(&mut device.into_inner(), batches));
-    }
+    let _left = at_desk(rt, alloc, tally, device, building, Deed::Show(case));
 }
 
 /// Each call of the work fails in turn, and none where it is one after the last; after it each call
@@ -212,5 +207,5 @@ fn stop_all<R: Threads + Wait + Abort + Sync>(rt: &R, alloc: Global, work: &Work
 #[test]
 fn turns_stop(rt: HostRuntime) {
     stop_all(&rt, rt.alloc(), &APPENDED, 74_212);
-    stop_all(&rt, rt.alloc(), &MOVED, 101_678);
+    stop_all(&rt, rt.alloc(), &MOVED, 96_070);
 }
