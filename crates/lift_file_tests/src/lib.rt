@@ -4,5 +4,5 @@
 mod memory_file;
 mod memory_opener;
 
-pub use memory_file::{MemoryFile, buffered, device, made};
+pub use memory_file::{MemoryFile, made};
 pub use memory_opener::{MemoryOpener, made_in_memory};

@@ -5,7 +5,6 @@ ghost use Rattle.lift_disk.specs.Traced.{to_be_made};
 
 use lift_disk::{
     Buffered, Disk, FileFault, FileOpener, MOST_AHEAD, MemDisk, RunDisk, SectorFile, ToldFile,
-    TracedFile,
 };
 use lift_memory::Memory;
 use std::alloc::Global;
@@ -37,7 +36,6 @@ impl MemoryFile {
     /// This many sectors of zeros.
     pub fn new(alloc: Global, sectors: u32) -> Result<MemoryFile, Memory>
         ensures honest { IfOk result (λ file. (held file).is_honest) }
-        ensures size { IfOk result (λ file. (held file).size ≡ sectors) }
     {
         Ok(MemoryFile {
             disk: MemDisk::new(alloc, sectors)?,
@@ -201,25 +199,6 @@ impl ToldFile for MemoryFile {
     fn length_told(&mut self) -> io::Result<u64> {
         Ok(u64::from(self.disk.sectors()) * 512)
     }
-}
-
-/// An honest device on such a file.
-pub fn device(alloc: Global, sectors: u32) -> Result<SectorFile<MemoryFile>, Memory>
-    ensures honest { IfOk result (λ device.
-        (⟦<SectorFile<MemoryFile> as Disk>⟧.state device).is_honest) }
-    ensures size { IfOk result (λ device.
-        (⟦<SectorFile<MemoryFile> as Disk>⟧.state device).size ≡ sectors) }
-{
-    let file = MemoryFile::new(alloc, sectors)?;
-    Ok(SectorFile::over(TracedFile::over(file), sectors))
-}
-
-/// The same, which reads ahead and joins neighbouring writes.
-pub fn buffered(alloc: Global, sectors: u32) -> Result<Buffered<SectorFile<MemoryFile>>, Memory>
-    ensures honest { IfOk result (λ device.
-        (⟦<Buffered<SectorFile<MemoryFile>> as Disk>⟧.state device).is_honest) }
-{
-    Ok(Buffered::over(device(alloc, sectors)?))
 }
 
 /// A device of 40 sectors on a file that is made by an opener, whatever opener it is. It is honest

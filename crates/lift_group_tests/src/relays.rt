@@ -8,7 +8,7 @@ use lift_clerk::{Clerk, Counts};
 use lift_disk::Disk;
 use lift_keeper::KeeperFault;
 use lift_policy::{Etd, Policy};
-use lift_relay::{Allocator, FlushCounts, Flusher, NoWitness, RunFault, rejoin, run, split, tell};
+use lift_relay::{Allocator, FlushCounts, Flusher, NoWitness, RunFault, rejoin, run, split};
 use std::alloc::Global;
 use std::process::Abort;
 use std::sync::Wait;
@@ -40,10 +40,6 @@ impl<'d, 'b, D: Disk + Drop, P: Policy + Drop> Relay<'d, 'b, D, P> {
 
     pub(crate) fn flush<R: Wait>(&mut self, rt: &R) -> Result<FlushCounts, KeeperFault> {
         self.flusher.turn(rt, &mut NoWitness)
-    }
-
-    pub(crate) fn tell(&mut self) {
-        tell(&mut self.allocator, &mut self.flusher);
     }
 
     /// Whether this many batches were sent and received, and whether one is in hand just where one

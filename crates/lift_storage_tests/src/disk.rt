@@ -1,9 +1,5 @@
-//! Tests of `lift_disk`: what no contract can say of memory and of a real file, and each public
-//! call once.
+//! Tests of `lift_disk`: a device that fails once; and calls of a file, which are told.
 
-mod buffered;
-pub(crate) mod calls;
-mod faults;
-pub(crate) mod files;
+mod calls;
+mod flaky;
 mod noted;
-mod notes;

@@ -18,21 +18,9 @@ use std::sync::atomic::Ordering;
 use std::thread::Threads;
 use std::time::Clock;
 
-/// Both cars say where they are. Kiosk 1 calls, and kiosk 0, of which another connection is refused
-/// meanwhile, once the sync for that call is held. Both hear, and are gone.
+/// Kiosk 1 calls, and kiosk 0, of which another connection is refused meanwhile, once the sync for that
+/// call is held. Both hear, and are gone.
 const BOTH_CALL: &str = "\
-1+
-1>CAR A
-1<READY 0
-1>PLACE 0 up
-1<IDLE
-1-
-2+
-2>CAR B
-2<READY 0
-2>PLACE 9 down
-2<IDLE
-2-
 3+
 4+
 3>KIOSK 1
@@ -43,42 +31,29 @@ const BOTH_CALL: &str = "\
 1>KIOSK 0
 1<BUSY
 1-
-3>CALL 1 2
+3>CALL 1 1
 3s
-4>CALL 1 5
+4>CALL 1 2
 3<CAR B
 4<CAR A
 3-
 4-
 ";
 
-/// Both cars say where they are. Kiosk 0 calls, and the sync for its call is held when the last
-/// connection that counts ends, by when it would have made all of its looks without their rests. The
-/// sync is released after that, and the kiosk has called once more; it hears the letter for its first
-/// call, and is closed then: the second one isn't read.
+/// Kiosk 0 calls, and the sync for its call is held when the last connection that counts ends, by when it
+/// would have made all of its looks without their rests. The sync is released after that, and the kiosk has
+/// called once more; it hears the letter for its first call, and is closed then: the second one isn't read.
 const ONE_CALLS: &str = "\
-1+
-1>CAR A
-1<READY 0
-1>PLACE 0 up
-1<IDLE
-1-
-2+
-2>CAR B
-2<READY 0
-2>PLACE 9 down
-2<IDLE
-2-
 3+
 4+
 3>KIOSK 0
 3<READY 0
-3>CALL 1 5
+3>CALL 1 2
 3s
 0h
 4-
 0c
-3>CALL 2 8
+3>CALL 2 1
 0r
 3<CAR A
 3x

@@ -125,7 +125,23 @@ fn end_server<R: Net<Listener = TcpListener, Stream = TcpStream>>(
     }
 }
 
-/// Says that all went as the script has it; where it didn't, ends the server. Its lines: `1+`
+/// Both cars say where they are.
+const PLACED: &str = "\
+1+
+1>CAR A
+1<READY 0
+1>PLACE 0 up
+1<IDLE
+1-
+2+
+2>CAR B
+2<READY 0
+2>PLACE 2 down
+2<IDLE
+2-
+";
+
+/// Says that all went as the script has it, once both cars are placed; where it didn't, ends the server. Its lines: `1+`
 /// connection 1 is made; `1>TEXT` it says this line; `1<TEXT` it hears just this line; `1x` it hears
 /// that the other end is closed, or that it is reset; `1-` it hears the first after closing its own;
 /// `1s` a sync is held, `1h` a second goes by, `1c` an end is counted meanwhile, `1r` the sync is
@@ -137,11 +153,13 @@ pub(crate) fn follow<R: Clock + Net<Listener = TcpListener, Stream = TcpStream>>
     script: &str,
 ) {
     let mut callers = [None, None, None, None, None];
-    for line in script.lines() {
-        if !follows_line(rt, port, words, &mut callers, line) {
-            words.released.store(1, Ordering::SeqCst);
-            end_server(rt, port, words);
-            return;
+    for part in [PLACED, script] {
+        for line in part.lines() {
+            if !follows_line(rt, port, words, &mut callers, line) {
+                words.released.store(1, Ordering::SeqCst);
+                end_server(rt, port, words);
+                return;
+            }
         }
     }
     words.followed.store(1, Ordering::SeqCst);

@@ -1,4 +1,4 @@
-//! The demo building, and its keeper on a device in memory.
+//! A building, and its keeper on a device in memory.
 ghost use Rattle.std.specs.Prelude.{◌≡◌, []};
 
 use lift_building::Building;
@@ -8,27 +8,14 @@ use lift_keeper::Keeper;
 use std::alloc::Global;
 use std::process::Abort;
 
-/// Ten floors, kiosks on floors 0 and 5; a flight takes 2,000 ms and 1,000 ms for each floor; cars
+/// Three floors, kiosks on floors 0 and 2; a flight takes 2,000 ms and 1,000 ms for each floor; cars
 /// A and B, for 8 persons.
 const DEMO: &str = "\
-floors = 10
+floors = 3
 door_ms = 6000
-kiosks = [0, 5]
-flight = [
-[0,3000,4000,5000,6000,7000,8000,9000,10000,11000],
-[3000,0,3000,4000,5000,6000,7000,8000,9000,10000],
-[4000,3000,0,3000,4000,5000,6000,7000,8000,9000],
-[5000,4000,3000,0,3000,4000,5000,6000,7000,8000],
-[6000,5000,4000,3000,0,3000,4000,5000,6000,7000],
-[7000,6000,5000,4000,3000,0,3000,4000,5000,6000],
-[8000,7000,6000,5000,4000,3000,0,3000,4000,5000],
-[9000,8000,7000,6000,5000,4000,3000,0,3000,4000],
-[10000,9000,8000,7000,6000,5000,4000,3000,0,3000],
-[11000,10000,9000,8000,7000,6000,5000,4000,3000,0]]
-[[cars]]
-places = 8
-[[cars]]
-places = 8
+kiosks = [0, 2]
+flight = [[0, 3000, 4000], [3000, 0, 3000], [4000, 3000, 0]]
+cars = [{ places = 8 }, { places = 8 }]
 ";
 
 // (a function that has a long text and calls others is dear to prove)

@@ -23,15 +23,6 @@ fn is_answered(pager: &Pager) -> bool {
     pager.scan_begins(1) && pager.is_flushed(1)
 }
 
-/// A rest that no answer ends takes a millisecond.
-#[test]
-fn each_rest_takes_a_millisecond(rt: HostRuntime) {
-    let pager = Pager::new(Terminal::default());
-    for _ in 0..RESTS {
-        assert!(rt; rest(&rt, &pager) >= Duration::from_millis(1));
-    }
-}
-
 /// The shortest of the rests that an answer ends; each that comes after one takes a millisecond.
 fn shortest_answered<R: Wait + Clock + Abort>(rt: &R, pager: &Pager) -> Duration {
     let mut shortest = Duration::from_millis(1);

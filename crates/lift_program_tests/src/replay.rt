@@ -1,5 +1,0 @@
-//! Tests of `lift_replay`.
-
-mod buildings;
-mod reading;
-mod streams;
