@@ -4,17 +4,14 @@ use Rattle.std.proofs.lemmas.List.{append-nil}
 use Rattle.std.proofs.KnownBytes.{Appends-kept}
 use Rattle.std.specs.Io.KnownBytes.{Appends, Keeps}
 use Rattle.std.specs.Prelude.{Err}
-use Rattle.lift_base.specs.Input.{InputState}
 use Rattle.lift_base.specs.Output.{OutputTally, flushed_by}
 use Rattle.lift_replay.specs.Replaying.{ReportsPrefixOfWhatCame, ReportsWhatCame}
 use Rattle.lift_replay.specs.Writing.{GoesInto, IsCalledTill, TakesSomeEachCall, gone_in}
 use Rattle.lift_replay.specs.declared.lines.Verdict.{Verdict}
 use Rattle.lift_replay.specs.declared.script.ReplayFault.{ReplayFault}
 use Rattle.lift_replay.specs.declared.script.ReplayFault.TheVariants.{Memory as NoMemory, Read, Write}
-use Rattle.lift_program.specs.Ends.{IsCalledFor, IsFileFault, IsInputLeft, IsScriptEnd, IsServingEnd}
+use Rattle.lift_program.specs.Ends.{IsCalledFor, IsFileFault}
 use Rattle.lift_program.specs.Faults.{of_replay}
-use Rattle.lift_program.specs.declared.end.End.{End}
-use Rattle.lift_program.specs.declared.end.End.TheVariants.{Replayed, Formatted, Shown, Served, OtherWords, NoWords}
 use Rattle.lift_program.specs.declared.fault.Fault.{Fault}
 use Rattle.lift_program.specs.declared.fault.Role.TheVariants.{Output}
 
@@ -51,22 +48,3 @@ pub called_unflushed : {W : Type 0} (gives : W → List ℕ → Option ℕ → W
     → IsCalledFor gives flushes old new (Err fault)
 called_unflushed gives flushes old mid new fault taken failed (inl is) = subst (λ (f : Fault). IsCalledFor gives flushes old new (Err f)) (sym is) (inr (mid, taken, failed))
 called_unflushed gives flushes old mid new fault taken failed (inr is) = subst (λ (f : Fault). IsCalledFor gives flushes old new (Err f)) (sym is) (mid, taken, inr failed)
-
--- what is served is no script,
-pub serving_no_script : {M S V F O W : Type 0} (sent : W → OutputTally) (contents : W → Option (List ℕ)) (gives : W → List ℕ → Option ℕ → W → Type 0) (flushes : W → Bool → W → Type 0) (came came' : List ℕ) (old new : W) (end : End M S V F O) → IsServingEnd end
-    → IsScriptEnd sent contents gives flushes came came' old new end
-serving_no_script sent contents gives flushes came came' old new (Replayed outcome unused) never = absurd never
-serving_no_script sent contents gives flushes came came' old new (Formatted outcome) is = tt
-serving_no_script sent contents gives flushes came came' old new (Shown outcome) is = tt
-serving_no_script sent contents gives flushes came came' old new (Served outcome) is = tt
-serving_no_script sent contents gives flushes came came' old new (OtherWords unused) is = tt
-serving_no_script sent contents gives flushes came came' old new (NoWords no_memory unused) is = tt
-
--- and nothing was read for it
-pub serving_unread : {M S V F O R : Type 0} (remaining : R → Option (List ℕ)) (old new : InputState R) (end : End M S V F O) → IsServingEnd end → new ≡ old → IsInputLeft remaining end old new
-serving_unread remaining old new (Replayed outcome unused) never same = absurd never
-serving_unread remaining old new (Formatted outcome) is same = same
-serving_unread remaining old new (Shown outcome) is same = same
-serving_unread remaining old new (Served outcome) is same = same
-serving_unread remaining old new (OtherWords unused) is same = same
-serving_unread remaining old new (NoWords no_memory unused) is same = same

@@ -7,7 +7,7 @@ use Rattle.lift_base.specs.declared.text.output.WriteFault.{WriteFault}
 use Rattle.lift_replay.specs.Writing.{TakesSomeEachCall}
 use Rattle.lift_replay.specs.lemmas.Writes.{fails_of, takes_of}
 use Rattle.lift_building.specs.Plan.{Plan}
-use Rattle.lift_program.specs.Ends.{IsFileFault, IsShowingFault}
+use Rattle.lift_program.specs.Ends.{IsFileFault}
 use Rattle.lift_program.specs.Output.{WriterHasFailed}
 use Rattle.lift_disk.specs.Disk.{DiskState}
 use Rattle.lift_disk.specs.declared.file.FileFault.{FileFault}
@@ -16,7 +16,8 @@ use Rattle.lift_program.specs.declared.leftover.Failure.{Failure}
 use Rattle.lift_program.specs.declared.leftover.Failure.TheVariants.{NoBuilding, NoImage, Opened}
 use Rattle.lift_program.specs.declared.fault.Fault.{Fault}
 use Rattle.lift_program.specs.declared.fault.Fault.TheVariants.{File, Memory, Network}
-use Rattle.lift_program.specs.declared.fault.Role.TheVariants.{Building as OfBuilding, Image as OfImage, Output}
+use Rattle.lift_program.specs.declared.fault.Role.{Role}
+use Rattle.lift_program.specs.declared.fault.Role.TheVariants.{Building as OfBuilding, Image as OfImage}
 
 -- all of the bytes were written
 pub takes_put : {W : Type 0} (gives : W → List ℕ → Option ℕ → W → Type 0) (bytes : List ℕ) (old new : W) (result : Result Unit WriteFault)
@@ -31,44 +32,18 @@ pub put_failed : {W : Type 0} (gives : W → List ℕ → Option ℕ → W → T
 put_failed gives flushes bytes old new (Ok done) failed within told = absurd (false≢true failed)
 put_failed gives flushes bytes old new (Err fault) failed within told = inl (fails_of gives bytes old new fault within told)
 
--- no fault but a building's file and text, or memory
-abbrev pub IsOfBuilding : Fault → Type 0
-IsOfBuilding = IsBuildingFault (λ text. ⊥) ⊥
-
-pub building_no_output : (is_text : List ℕ → Type 0) (is_no_text : Type 0) (fault : Fault) → IsBuildingFault is_text is_no_text fault → fault ≡ File Output → ⊥
-building_no_output is_text is_no_text fault is same = subst (IsBuildingFault is_text is_no_text) same is
-
+-- the port is no fault but of a socket
 pub building_no_network : (is_text : List ℕ → Type 0) (is_no_text : Type 0) (fault : Fault) → IsBuildingFault is_text is_no_text fault → fault ≡ Network → ⊥
 building_no_network is_text is_no_text fault is same = subst (IsBuildingFault is_text is_no_text) same is
 
-pub image_no_output : (fault : Fault) → IsFileFault OfImage fault → fault ≡ File Output → ⊥
-image_no_output fault (inl is) same = absurd (let other = sym is ∙ same in cc)
-image_no_output fault (inr is) same = subst IsOfBuilding (sym is ∙ same) tt
-
-pub image_no_network : (fault : Fault) → IsFileFault OfImage fault → fault ≡ Network → ⊥
-image_no_network fault (inl is) same = absurd (let other = sym is ∙ same in cc)
-image_no_network fault (inr is) same = subst IsOfBuilding (sym is ∙ same) tt
-
-pub keeper_failure_no_output : {D F O : Type 0} (is_fresh : D → Type 0) (state : D → DiskState) (is_refused : FileFault F O → Type 0) (plan : Plan) (failure : Failure D F O) → IsKeeperFailure is_fresh state is_refused plan failure → fault_in failure ≡ File Output → ⊥
-keeper_failure_no_output is_fresh state is_refused plan (NoBuilding fault unused) never same = absurd never
-keeper_failure_no_output is_fresh state is_refused plan (NoImage refused) is same = image_no_output refused.fault is.is_fault same
-keeper_failure_no_output is_fresh state is_refused plan (Opened fault left) is same = absurd (let other = sym is.is_refusal ∙ same in cc)
+pub file_no_network : (role : Role) (fault : Fault) → IsFileFault role fault → fault ≡ Network → ⊥
+file_no_network role fault (inl is) same = absurd (let other = sym is ∙ same in cc)
+file_no_network role fault (inr is) same = absurd (let other = sym is ∙ same in cc)
 
 pub keeper_failure_no_network : {D F O : Type 0} (is_fresh : D → Type 0) (state : D → DiskState) (is_refused : FileFault F O → Type 0) (plan : Plan) (failure : Failure D F O) → IsKeeperFailure is_fresh state is_refused plan failure → fault_in failure ≡ Network → ⊥
 keeper_failure_no_network is_fresh state is_refused plan (NoBuilding fault unused) never same = absurd never
-keeper_failure_no_network is_fresh state is_refused plan (NoImage refused) is same = image_no_network refused.fault is.is_fault same
+keeper_failure_no_network is_fresh state is_refused plan (NoImage fault cause) is same = file_no_network OfImage fault is.is_fault same
 keeper_failure_no_network is_fresh state is_refused plan (Opened fault left) is same = absurd (let other = sym is.is_refusal ∙ same in cc)
-
-pub output_no_network : (fault : Fault) → IsFileFault Output fault → fault ≡ Network → ⊥
-output_no_network fault (inl is) same = subst IsShowingFault (sym is ∙ same) tt
-output_no_network fault (inr is) same = subst IsOfBuilding (sym is ∙ same) tt
-
-pub network_no_output : (fault : Fault) → fault ≡ Network → fault ≡ File Output → ⊥
-network_no_output fault is same = absurd (let other = sym is ∙ same in cc)
-
--- want of memory isn't the standard output
-pub memory_no_output : (fault : Fault) → fault ≡ Memory tt → fault ≡ File Output → ⊥
-memory_no_output fault is same = absurd (let other = sym is ∙ same in cc)
 
 -- what holds anyhow
 pub on_err : {T E : Type 0} (result : Result T E) (P : Type 0) → P → OnErr result P

@@ -9,6 +9,7 @@ use Rattle.clap.proofs.WalkLemmas.{first_value-rows}
 use Rattle.lift_base.specs.lemmas.Words.{same_text, other_text}
 use Rattle.std.specs.Str.{bytes_eq}
 use Rattle.lift_program.specs.Words.{AsksNothing, IsAbsentLast, IsCount, IsFormat, IsHalf, IsOver, IsPolicy, IsServe, IsShow}
+use Rattle.lift_policy.specs.declared.dispatching.Dispatching.{Dispatching}
 use Rattle.lift_policy.specs.declared.policies.Shipped.{Shipped}
 use Rattle.lift_program.specs.declared.words.Request.TheVariants.{Replay, Format, Show, Serve}
 
@@ -27,17 +28,24 @@ no_image rows none image building is = let bad = sym is.0 ∙ none in cc
 pub no_building : (rows : List Row) → first_of (codes "building") rows ≡ None → (image building : Text) → IsOver rows image building → ⊥
 no_building rows none image building is = let bad = sym is.1 ∙ none in cc
 
+-- the words after a command ask for nothing where they don't ask for what it does
+no_format : (rows : List Row) → ((image building : Bor Text) (half : ℕ) → IsFormat rows (Format image building half) → ⊥) → AsksNothing (IsFormat rows)
+no_format rows none Replay is = is
+no_format rows none (Show image building) is = is
+no_format rows none (Serve image building port sessions policy) is = is
+no_format rows none (Format image building half) is = none image building half is
+
+no_serve : (rows : List Row) → ((image building : Bor Text) (port sessions : ℕ) (policy : Dispatching Shipped) → IsServe rows (Serve image building port sessions policy) → ⊥) → AsksNothing (IsServe rows)
+no_serve rows none Replay is = is
+no_serve rows none (Format image building half) is = is
+no_serve rows none (Show image building) is = is
+no_serve rows none (Serve image building port sessions policy) is = none image building port sessions policy is
+
 pub no_files_to_format : (rows : List Row) → ((image building : Text) → IsOver rows image building → ⊥) → AsksNothing (IsFormat rows)
-no_files_to_format rows none Replay is = is
-no_files_to_format rows none (Show image building) is = is
-no_files_to_format rows none (Serve image building port sessions policy) is = is
-no_files_to_format rows none (Format image building half) is = none image.now building.now is.0
+no_files_to_format rows none = no_format rows (λ image building half is. none image.now building.now is.0)
 
 pub no_half : (rows : List Row) (word : Option Text) → first_of (codes "half") rows ≡ word → ((half : ℕ) → IsHalf word half → ⊥) → AsksNothing (IsFormat rows)
-no_half rows word same none Replay is = is
-no_half rows word same none (Show image building) is = is
-no_half rows word same none (Serve image building port sessions policy) is = is
-no_half rows word same none (Format image building half) is = none half (subst (λ w. IsHalf w half) same is.1)
+no_half rows word same none = no_format rows (λ image building half is. none half (subst (λ w. IsHalf w half) same is.1))
 
 pub no_files_to_show : (rows : List Row) → ((image building : Text) → IsOver rows image building → ⊥) → AsksNothing (IsShow rows)
 no_files_to_show rows none Replay is = is
@@ -45,36 +53,24 @@ no_files_to_show rows none (Format image building half) is = is
 no_files_to_show rows none (Serve image building port sessions policy) is = is
 no_files_to_show rows none (Show image building) is = none image.now building.now is
 
+pub no_files_to_serve : (rows : List Row) → ((image building : Text) → IsOver rows image building → ⊥) → AsksNothing (IsServe rows)
+no_files_to_serve rows none = no_serve rows (λ image building port sessions policy is. none image.now building.now is.0)
+
+pub no_port : (rows : List Row) (word : Option Text) → first_of (codes "port") rows ≡ word → ((count : ℕ) → IsCount 65535 word count → ⊥) → AsksNothing (IsServe rows)
+no_port rows word same none = no_serve rows (λ image building port sessions policy is. none port (subst (λ w. IsCount 65535 w port) same is.1))
+
+pub no_sessions : (rows : List Row) (word : Option Text) → first_of (codes "sessions") rows ≡ word → ((count : ℕ) → IsCount 1000000 word count → ⊥) → AsksNothing (IsServe rows)
+no_sessions rows word same none = no_serve rows (λ image building port sessions policy is. none sessions (subst (λ w. IsCount 1000000 w sessions) same is.2))
+
+pub no_policy : (rows : List Row) (word : Option Text) → first_of (codes "policy") rows ≡ word → ((policy : Shipped) → IsPolicy word policy → ⊥) → AsksNothing (IsServe rows)
+no_policy rows word same none = no_serve rows (λ image building port sessions policy is. none policy.policy (subst (λ w. IsPolicy w policy.policy) same is.3))
+
 -- a number below 64 spells no other one
 pub too_small : (word : Option Text) (text : Text) (number : ℕ) → word ≡ Some text → text ≡ decimal number → number < 64 → (half : ℕ) → IsHalf word half → ⊥
 too_small word text number same spelled small half is = go (subst (λ w. IsHalf w half) same is)
   where
     go : IsHalf (Some text) half → ⊥
     go said = let equal = decimal_injective number half (omega arith) (omega (arith, said)) (sym spelled ∙ said.0) in omega (arith, equal, said, small)
-
-pub no_files_to_serve : (rows : List Row) → ((image building : Text) → IsOver rows image building → ⊥) → AsksNothing (IsServe rows)
-no_files_to_serve rows none Replay is = is
-no_files_to_serve rows none (Format image building half) is = is
-no_files_to_serve rows none (Show image building) is = is
-no_files_to_serve rows none (Serve image building port sessions policy) is = none image.now building.now is.0
-
-pub no_port : (rows : List Row) (word : Option Text) → first_of (codes "port") rows ≡ word → ((count : ℕ) → IsCount 65535 word count → ⊥) → AsksNothing (IsServe rows)
-no_port rows word same none Replay is = is
-no_port rows word same none (Format image building half) is = is
-no_port rows word same none (Show image building) is = is
-no_port rows word same none (Serve image building port sessions policy) is = none port (subst (λ w. IsCount 65535 w port) same is.1)
-
-pub no_sessions : (rows : List Row) (word : Option Text) → first_of (codes "sessions") rows ≡ word → ((count : ℕ) → IsCount 1000000 word count → ⊥) → AsksNothing (IsServe rows)
-no_sessions rows word same none Replay is = is
-no_sessions rows word same none (Format image building half) is = is
-no_sessions rows word same none (Show image building) is = is
-no_sessions rows word same none (Serve image building port sessions policy) is = none sessions (subst (λ w. IsCount 1000000 w sessions) same is.2)
-
-pub no_policy : (rows : List Row) (word : Option Text) → first_of (codes "policy") rows ≡ word → ((policy : Shipped) → IsPolicy word policy → ⊥) → AsksNothing (IsServe rows)
-no_policy rows word same none Replay is = is
-no_policy rows word same none (Format image building half) is = is
-no_policy rows word same none (Show image building) is = is
-no_policy rows word same none (Serve image building port sessions policy) is = none policy.policy (subst (λ w. IsPolicy w policy.policy) same is.3)
 
 -- nought is no count
 pub no_count : (most : ℕ) (word : Option Text) (text : Text) (number : ℕ) → most < 2 ^ 32 → word ≡ Some text → text ≡ decimal number → number < 1 → (count : ℕ) → IsCount most word count → ⊥

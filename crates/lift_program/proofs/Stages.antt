@@ -1,5 +1,5 @@
 -- What the faults of each stage are to a whole command.
-use Rattle.std.proofs.Common.{◌≡◌, ◌≢◌, ◌<◌, ◌≤◌, ◌+◌, ◌*◌, ◌⊎◌, ℕ, List, [], Option, Some, length, false, refl, sym, ap, subst, ◌∙◌, inl, inr}
+use Rattle.std.proofs.Common.{◌≡◌, ◌≢◌, ◌<◌, ◌≤◌, ◌+◌, ◌*◌, ℕ, List, [], Option, Some, length, false, refl, sym, ap, subst, ◌∙◌, inl, inr}
 use Rattle.std.specs.Prelude.{Result, Ok, Err, IfErr}
 use Rattle.std.specs.Str.{IsUtf8}
 use Rattle.lift_building.specs.Describes.{IsTextOf}
@@ -7,7 +7,7 @@ use Rattle.lift_building.specs.Gives.{IsFirstFault}
 use Rattle.lift_building.specs.Plan.{Plan, IsBuilding, shape_of}
 use Rattle.lift_building.specs.declared.fault.BuildingFault.{BuildingFault}
 use Rattle.lift_building.specs.declared.fault.BuildingFault.TheVariants.{NotToml, Missing, WrongType, OutOfRange, TableShape, Detour, Memory as NoRoom}
-use Rattle.lift_disk.specs.Disk.{DiskState, IsSynced, RunsOn}
+use Rattle.lift_disk.specs.Disk.{DiskState, IsSynced, LeavesOnly, MayLeave, RunsOn}
 use Rattle.lift_journal.specs.Calls.{MakesPrefix, format_calls}
 use Rattle.lift_journal.specs.Journal.{ReadsAs}
 use Rattle.lift_keeper.specs.Writer.{WriterView}
@@ -35,15 +35,14 @@ use Rattle.lift_disk.specs.declared.file.FileFault.{FileFault}
 use Rattle.lift_disk.specs.declared.told.ToldFile.{Ghosts as Told}
 use Rattle.lift_disk.specs.declared.sectors.SectorFile.{SectorFile}
 use Rattle.lift_program.specs.Images.{CommandFiles, ImageFiles, IsOpened}
-use Rattle.lift_program.specs.Ends.{IsFileFault, IsMadeWith, IsUnformatted, IsReportOfFailure, IsShowingFault}
+use Rattle.lift_program.specs.Ends.{IsFileFault, IsMadeWith, IsUnformatted, IsReportOfFailure}
 use Rattle.lift_program.specs.Faults.{of_building}
 use Rattle.std.specs.declared.net.tcp.TcpListener.{TcpListener as Listener}
 use Rattle.lift_program.specs.Serving.{IsReadyOver}
-use Rattle.lift_program.specs.Showing.{ShowsRegister, ShowsPart, WritesFront}
-use Rattle.lift_program.specs.Stages.{HasBuilding, HasKeeperOf, HasNoImage, HasNoKeeperOf, HasRecovered, IsBuildingFault, IsImageFault, IsLeftAs, IsFailure, IsKeeperFailure, ReadsBuilding, GoesNoFurther, fault_in, most_text}
+use Rattle.lift_program.specs.Showing.{IsNotShown, ShowsRegister, ShowsPart}
+use Rattle.lift_program.specs.Stages.{HasBuilding, HasKeeperOf, HasNoImage, HasNoKeeperOf, HasRecovered, IsBuildingFault, IsImageFault, IsLeftAs, IsFailure, IsKeeperFailure, ReadsBuilding, GoesNoFurther, most_text}
 use Rattle.lift_program.specs.declared.leftover.Failure.{Failure}
 use Rattle.lift_program.specs.declared.leftover.Failure.TheVariants.{NoBuilding, NoImage, Opened}
-use Rattle.lift_program.proofs.Writing.{part_shown}
 use Rattle.lift_program.specs.declared.fault.Fault.{Fault}
 use Rattle.lift_program.specs.declared.fault.Fault.TheVariants.{Building, Journal, File, Memory, Network, Thread}
 use Rattle.lift_program.specs.declared.fault.Role.TheVariants.{Building as OfBuilding, Image as OfImage, Input, Output}
@@ -136,16 +135,25 @@ pub has_no_image : {F O : Type 0} (is_refused : FileFault F O → Type 0) (fault
 has_no_image {F} {O} is_refused fault given cause same is told refused =
     subst (λ (c : FileFault F O). HasNoImage is_refused fault c) (sym same) (record { is_fault = is; told = told; refused = refused })
 
+-- what is reported of a fault is that of one that it is
+pub report_of : {D : Type 0} (has_failed : Type 0) (fault known : Fault) (left : D) (before after : Option (List ℕ)) → fault ≡ known → IsReportOfFailure {D = D} {F = Unit {0}} {O = Unit {0}} has_failed (Opened known left) before after
+    → IsReportOfFailure {D = D} {F = Unit {0}} {O = Unit {0}} has_failed (Opened fault left) before after
+report_of {D} has_failed fault known left before after is so = subst (λ (f : Fault). IsReportOfFailure {D = D} {F = Unit {0}} {O = Unit {0}} has_failed (Opened f left) before after) (sym is) so
+
+-- the register that is shown is the recovery's
+recovered_in : {plan : Plan} {old new : DiskState} {is_written : List ℕ → Type 0} → ShowsRegister plan old new is_written → HasRecovered plan old new
+recovered_in shows = let r = shows.recovers in (shows.register, r.half, r.is_in_second_half, r.used, r.reopens)
+
 -- all that a serving takes was had
-pub is_ready : (files : CommandFiles) (gives : Option Listener → Type 0) (image building : List ℕ) (plan standing : Plan) (keeper : KeeperView files.image.Served) (listener : Listener) (policy : Dispatching Shipped) (sessions : ℕ) (a : AllocatorState (Dispatching Shipped)) (f : FlusherState files.image.Served) (terms : EndedState)
-    → standing ≡ plan → HasBuilding (files.is_text building) plan → HasKeeperOf files.image image standing keeper → gives (Some listener) → terms ≡ record { listener = listener; sessions = sessions }
-    → IsNewGroup files.image.served_state policy keeper a f → IsReadyOver files gives image building policy sessions a f terms
-is_ready files gives image building plan standing keeper listener policy sessions a f terms stands has kept here bound group = record {
+pub is_ready : (files : CommandFiles) (image building : List ℕ) (plan standing : Plan) (keeper : KeeperView files.image.Served) (listener : Listener) (port : ℕ) (policy : Dispatching Shipped) (sessions : ℕ) (a : AllocatorState (Dispatching Shipped)) (f : FlusherState files.image.Served) (terms : EndedState)
+    → standing ≡ plan → HasBuilding (files.is_text building) plan → HasKeeperOf files.image image standing keeper → files.gives port (Some listener) → terms ≡ record { listener = listener; sessions = sessions }
+    → IsNewGroup files.image.served_state policy keeper a f → IsReadyOver files image building port policy sessions a f terms
+is_ready files image building plan standing keeper listener port policy sessions a f terms stands has kept here bound group = record {
   from = record { plan = standing; described = subst (HasBuilding (files.is_text building)) (sym stands) has; opened = kept.opened; fresh = kept.fresh };
   keeper = keeper;
   is_kept = kept.is_kept;
   group = group;
-  here = subst (λ (t : EndedState). gives (Some t.listener)) (sym bound) here;
+  here = subst (λ (t : EndedState). files.gives port (Some t.listener)) (sym bound) here;
   count = ap (λ (t : EndedState). t.sessions) bound;
 }
 
@@ -165,7 +173,7 @@ stands_so is_text plan standing same has = subst (HasBuilding is_text) (sym same
 pub keeper_failure : {D : Type 0} (files : CommandFiles) (building : List ℕ) (is_fresh : D → Type 0) (state : D → DiskState) (is_refused : FileFault files.image.File files.image.Opener → Type 0) (plan : Plan) (failure : Failure D files.image.File files.image.Opener) → HasBuilding (files.is_text building) plan
     → IsKeeperFailure is_fresh state is_refused plan failure → IsFailure files building is_refused (IsLeftAs files building is_fresh state) failure
 keeper_failure files building is_fresh state is_refused plan (NoBuilding fault unused) has never = absurd never
-keeper_failure files building is_fresh state is_refused plan (NoImage refused) has is = ((plan, has), is)
+keeper_failure files building is_fresh state is_refused plan (NoImage fault cause) has is = ((plan, has), is)
 keeper_failure files building is_fresh state is_refused plan (Opened fault left) has is = record {
   from = record { plan = plan; described = has; opened = is.opened; fresh = is.fresh };
   cause = subst (GoesNoFurther plan (state is.opened) (state left)) (sym is.is_refusal) is.refused;
@@ -173,110 +181,71 @@ keeper_failure files building is_fresh state is_refused plan (Opened fault left)
   unwritten = is.refused.writes;
 }
 
--- after the recovery
-kept_left : (files : CommandFiles) (building path : List ℕ) (plan : Plan) (keeper : KeeperView files.image.Served) (left : files.image.Served) (fault : Fault) → HasBuilding (files.is_text building) plan → HasKeeperOf files.image path plan keeper → left ≡ keeper.writer.device
-    → ((old new : DiskState) → HasRecovered plan old new → GoesNoFurther plan old new fault) → IsLeftAs files building (files.image.is_to_be_served path) files.image.served_state fault left
-kept_left files building path plan keeper left fault has opened is stops =
+-- after the recovery a command has failed for a known fault
+pub kept_left : (files : CommandFiles) (building path : List ℕ) (plan : Plan) (keeper : KeeperView files.image.Served) (left : files.image.Served) (fault known : Fault) → HasBuilding (files.is_text building) plan → HasKeeperOf files.image path plan keeper → left ≡ keeper.writer.device
+    → fault ≡ known → ((old new : DiskState) → HasRecovered plan old new → GoesNoFurther plan old new known) → IsLeftAs files building (files.image.is_to_be_served path) files.image.served_state fault left
+kept_left files building path plan keeper left fault known has opened is same stops =
     let recovers = opened.is_kept.recovers in
     subst (λ (d : files.image.Served). IsLeftAs files building (files.image.is_to_be_served path) files.image.served_state fault d) (sym is) (record {
       from = record { plan = plan; described = has; opened = opened.opened; fresh = opened.fresh };
-      cause = stops _ _ (keeper.writer.register, keeper.writer.half, keeper.writer.is_in_second_half, keeper.writer.used, recovers);
+      cause = subst (GoesNoFurther plan _ _) (sym same) (stops _ _ (keeper.writer.register, keeper.writer.half, keeper.writer.is_in_second_half, keeper.writer.used, recovers));
       moments = recovers.moments;
       unwritten = recovers.writes;
     })
 
--- the port was refused
-pub port_left : (files : CommandFiles) (building path : List ℕ) (plan : Plan) (keeper : KeeperView files.image.Served) (left : files.image.Served) (fault : Fault) → HasBuilding (files.is_text building) plan → HasKeeperOf files.image path plan keeper → left ≡ keeper.writer.device
-    → fault ≡ Network → IsLeftAs files building (files.image.is_to_be_served path) files.image.served_state fault left
-port_left files building path plan keeper left fault has opened is network =
-    kept_left files building path plan keeper left fault has opened is (λ old new recovered. subst (GoesNoFurther plan old new) (sym network) recovered)
-
--- the standard output failed, or memory was wanting
+-- for the standard output, or want of memory
 pub output_left : (files : CommandFiles) (building path : List ℕ) (plan : Plan) (keeper : KeeperView files.image.Served) (left : files.image.Served) (fault : Fault) → HasBuilding (files.is_text building) plan → HasKeeperOf files.image path plan keeper → left ≡ keeper.writer.device
     → IsFileFault Output fault → IsLeftAs files building (files.image.is_to_be_served path) files.image.served_state fault left
-output_left files building path plan keeper left fault has opened is (inl output) =
-    kept_left files building path plan keeper left fault has opened is (λ old new recovered. subst (GoesNoFurther plan old new) (sym output) recovered)
-output_left files building path plan keeper left fault has opened is (inr memory) =
-    kept_left files building path plan keeper left fault has opened is (λ old new recovered. subst (GoesNoFurther plan old new) (sym memory) recovered)
+output_left files building path plan keeper left fault has opened is (inl output) = kept_left files building path plan keeper left fault (File Output) has opened is output (λ old new recovered. recovered)
+output_left files building path plan keeper left fault has opened is (inr memory) = kept_left files building path plan keeper left fault (Memory tt) has opened is memory (λ old new recovered. recovered)
 
--- how the showing of a journal that failed has left its image
-module _ {D : Type 0} (files : CommandFiles) (building : List ℕ) (is_fresh : D → Type 0) (state : D → DiskState) (plan : Plan) (opened left : D) (before after : Option (List ℕ)) (has : HasBuilding (files.is_text building) plan) (fresh : is_fresh opened) where
-  recovered_left : (fault : Fault) → (HasRecovered plan (state opened) (state left) → GoesNoFurther plan (state opened) (state left) fault)
-      → ShowsRegister plan (state opened) (state left) (WritesFront before after) → IsLeftAs files building is_fresh state fault left
-  recovered_left fault stops shows =
-      let r = shows.recovers in
-      record {
-        from = record { plan = plan; described = has; opened = opened; fresh = fresh };
-        cause = stops (shows.register, r.half, r.is_in_second_half, r.used, r.reopens);
-        moments = r.reopens.moments;
-        unwritten = r.reopens.writes;
-      }
+-- how the showing of a journal that failed has left its image, and what it has written
+module _ {D : Type 0} (state : D → DiskState) (plan : Plan) (opened left : D) (has_failed : Type 0) (before after : Option (List ℕ)) where
+  unshown_goes : (fault : Fault) → IsNotShown plan (state opened) (state left) has_failed before after fault → GoesNoFurther plan (state opened) (state left) fault
+  unshown_goes fault (inl (refusal, is, refused, same)) = subst (GoesNoFurther plan (state opened) (state left)) (sym is) refused
+  unshown_goes fault (inr (shows, inl (is, failed))) = subst (GoesNoFurther plan (state opened) (state left)) (sym is) (recovered_in shows)
+  unshown_goes fault (inr (shows, inr (is, so))) = subst (GoesNoFurther plan (state opened) (state left)) (sym is) (recovered_in shows)
 
-  shown_left : (fault : Fault) → IsShowingFault fault
-      → ((refusal : KeeperFault) → fault ≡ Journal refusal → RefusesReopening plan (state opened) (state left) refusal)
-      → (IsFileFault Output fault → ShowsRegister plan (state opened) (state left) (WritesFront before after)) → IsLeftAs files building is_fresh state fault left
-  shown_left (Journal fault) is refused front =
-      let r = refused fault refl in
-      record { from = record { plan = plan; described = has; opened = opened; fresh = fresh }; cause = r; moments = r.moments; unwritten = r.writes }
-  shown_left (File Output) is refused front = recovered_left (File Output) (λ recovered. recovered) (front (inl refl))
-  shown_left (Memory no_memory) is refused front = recovered_left (Memory no_memory) (λ recovered. recovered) (front (inr refl))
-  shown_left (Building fault) is refused front = absurd is
-  shown_left (File OfBuilding) is refused front = absurd is
-  shown_left (File OfImage) is refused front = absurd is
-  shown_left (File Input) is refused front = absurd is
-  shown_left Network is refused front = absurd is
-  shown_left Thread is refused front = absurd is
+  unshown_moments : (fault : Fault) → IsNotShown plan (state opened) (state left) has_failed before after fault → LeavesOnly (state opened) (state left) (MayLeave (state opened)) × ((state left).writes ≡ (state opened).writes)
+  unshown_moments fault (inl (refusal, is, refused, same)) = (refused.moments, refused.writes)
+  unshown_moments fault (inr (shows, cause)) = (shows.recovers.reopens.moments, shows.recovers.reopens.writes)
 
-  pub showing_left : (told : D) (fault : Fault) → told ≡ left → IsShowingFault fault
-      → ((refusal : KeeperFault) → fault ≡ Journal refusal → RefusesReopening plan (state opened) (state left) refusal)
-      → (IsFileFault Output fault → ShowsRegister plan (state opened) (state left) (WritesFront before after)) → IsLeftAs files building is_fresh state fault told
-  showing_left told fault same is refused front =
-      subst (λ (d : D). IsLeftAs files building is_fresh state fault d) (sym same) (shown_left fault is refused front)
+  pub unshown_left : (files : CommandFiles) (building : List ℕ) (is_fresh : D → Type 0) (told : D) (fault : Fault) → told ≡ left → HasBuilding (files.is_text building) plan → is_fresh opened
+      → IsNotShown plan (state opened) (state left) has_failed before after fault → IsLeftAs files building is_fresh state fault told
+  unshown_left files building is_fresh told fault same has fresh is = subst (λ (d : D). IsLeftAs files building is_fresh state fault d) (sym same) (record {
+    from = record { plan = plan; described = has; opened = opened; fresh = fresh };
+    cause = unshown_goes fault is;
+    moments = (unshown_moments fault is).0;
+    unwritten = (unshown_moments fault is).1;
+  })
 
--- what was written of a journal on an image whose showing failed
-pub showing_part : (files : CommandFiles) (path building : List ℕ) (plan : Plan) (opened left : files.image.Shown) (before after : Option (List ℕ)) (fault : Fault) (has_failed : Type 0) → HasBuilding (files.is_text building) plan
-    → files.image.is_to_be_shown path opened → (after ≡ before) ⊎ (has_failed × IsFileFault Output fault)
-    → (IsFileFault Output fault → ShowsRegister plan (files.image.shown_state opened) (files.image.shown_state left) (WritesFront before after)) → ShowsPart files path building before after
-showing_part files path building plan opened left before after fault has_failed described fresh (inl same) front = inl same
-showing_part files path building plan opened left before after fault has_failed described fresh (inr (failed, is)) front =
-    part_shown files path building plan opened left before after described fresh (front is)
+  pub unshown_report : (fault : Fault) (told : D) → IsNotShown plan (state opened) (state left) has_failed before after fault → IsReportOfFailure {D = D} {F = Unit {0}} {O = Unit {0}} has_failed (Opened fault told) before after
+  unshown_report fault told (inl (refusal, is, refused, same)) = report_of has_failed fault (Journal refusal) told before after is same
+  unshown_report fault told (inr (shows, inl (is, failed))) = report_of has_failed fault (File Output) told before after is failed
+  unshown_report fault told (inr (shows, inr (is, so))) = report_of has_failed fault (Memory tt) told before after is so
 
--- where nothing was written any fault may be told but the output
-pub nothing_written : {D F O : Type 0} (has_failed : Type 0) (failure : Failure D F O) (written : Option (List ℕ)) → fault_in failure ≢ File Output → IsReportOfFailure has_failed failure written written
-nothing_written has_failed (NoBuilding fault unused) written other = refl
-nothing_written has_failed (NoImage refused) written other = refl
-nothing_written has_failed (Opened (Building fault) left) written other = refl
-nothing_written has_failed (Opened (Journal fault) left) written other = refl
-nothing_written has_failed (Opened (File OfBuilding) left) written other = refl
-nothing_written has_failed (Opened (File OfImage) left) written other = refl
-nothing_written has_failed (Opened (File Input) left) written other = refl
-nothing_written has_failed (Opened (File Output) left) written other = absurd (other refl)
-nothing_written has_failed (Opened (Memory no_memory) left) written other = inl refl
-nothing_written has_failed (Opened Network left) written other = refl
-nothing_written has_failed (Opened Thread left) written other = refl
+  pub unshown_no_network : (fault : Fault) → IsNotShown plan (state opened) (state left) has_failed before after fault → fault ≢ Network
+  unshown_no_network fault (inl (refusal, is, refused, unwritten)) same = absurd (let other = sym is ∙ same in cc)
+  unshown_no_network fault (inr (shows, inl (is, failed))) same = absurd (let other = sym is ∙ same in cc)
+  unshown_no_network fault (inr (shows, inr (is, so))) same = absurd (let other = sym is ∙ same in cc)
 
--- no fault but the output, and want of memory, is told where that has failed
-still_so : (same has_failed : Type 0) (fault : Fault) → fault ≢ File Output → fault ≢ Memory tt → same ⊎ (has_failed × IsFileFault Output fault) → same
-still_so same has_failed fault no_output no_memory (inl is) = is
-still_so same has_failed fault no_output no_memory (inr (failed, inl is)) = absurd (no_output is)
-still_so same has_failed fault no_output no_memory (inr (failed, inr is)) = absurd (no_memory is)
+pub unshown_part : (files : CommandFiles) (path building : List ℕ) (plan : Plan) (opened left : files.image.Shown) (has_failed : Type 0) (before after : Option (List ℕ)) (fault : Fault) → HasBuilding (files.is_text building) plan
+    → files.image.is_to_be_shown path opened → IsNotShown plan (files.image.shown_state opened) (files.image.shown_state left) has_failed before after fault → ShowsPart files path building before after
+unshown_part files path building plan opened left has_failed before after fault described fresh (inl (refusal, is, refused, same)) = inl same
+unshown_part files path building plan opened left has_failed before after fault described fresh (inr (shows, cause)) =
+    inr (record { from = record { plan = plan; described = described; opened = opened; fresh = fresh }; left = left; front = shows })
 
-pub output_report : {D : Type 0} (has_failed : Type 0) (fault : Fault) (left : D) (before after : Option (List ℕ)) → (after ≡ before) ⊎ (has_failed × IsFileFault Output fault) → (fault ≡ File Output → has_failed)
-    → IsReportOfFailure {D = D} {F = Unit {0}} {O = Unit {0}} has_failed (Opened fault left) before after
-output_report has_failed (File Output) left before after so failed = failed refl
-output_report has_failed (Memory no_memory) left before after (inl same) failed = inl same
-output_report has_failed (Memory no_memory) left before after (inr so) failed = inr so.0
-output_report has_failed (Building fault) left before after so failed = still_so _ has_failed (Building fault) (λ same. cc) (λ same. cc) so
-output_report has_failed (Journal fault) left before after so failed = still_so _ has_failed (Journal fault) (λ same. cc) (λ same. cc) so
-output_report has_failed (File OfBuilding) left before after so failed = still_so _ has_failed (File OfBuilding) (λ same. cc) (λ same. cc) so
-output_report has_failed (File OfImage) left before after so failed = still_so _ has_failed (File OfImage) (λ same. cc) (λ same. cc) so
-output_report has_failed (File Input) left before after so failed = still_so _ has_failed (File Input) (λ same. cc) (λ same. cc) so
-output_report has_failed Network left before after so failed = still_so _ has_failed Network (λ same. cc) (λ same. cc) so
-output_report has_failed Thread left before after so failed = still_so _ has_failed Thread (λ same. cc) (λ same. cc) so
+-- what the opening of a keeper has failed for: nothing was written, and it is neither the output nor the port
+pub keeper_report : {D F O : Type 0} (is_fresh : D → Type 0) (state : D → DiskState) (is_refused : FileFault F O → Type 0) (plan : Plan) (has_failed : Type 0) (failure : Failure D F O) (written : Option (List ℕ))
+    → IsKeeperFailure is_fresh state is_refused plan failure → IsReportOfFailure has_failed failure written written
+keeper_report is_fresh state is_refused plan has_failed (NoBuilding fault unused) written never = absurd never
+keeper_report is_fresh state is_refused plan has_failed (NoImage fault cause) written is = refl
+keeper_report is_fresh state is_refused plan has_failed (Opened fault left) written is = report_of has_failed fault (Journal is.refusal) left written written is.is_refusal refl
 
--- no port was asked for to show a journal
-pub showing_no_network : (fault : Fault) → IsShowingFault fault → fault ≢ Network
-showing_no_network fault is same = subst IsShowingFault same is
+-- what was said failed
+pub said_report : {D : Type 0} (has_failed : Type 0) (fault : Fault) (left : D) (before after : Option (List ℕ)) → has_failed → IsFileFault Output fault → IsReportOfFailure {D = D} {F = Unit {0}} {O = Unit {0}} has_failed (Opened fault left) before after
+said_report has_failed fault left before after failed (inl is) = report_of has_failed fault (File Output) left before after is failed
+said_report has_failed fault left before after failed (inr is) = report_of has_failed fault (Memory tt) left before after is (inr failed)
 
 -- a file whose writes are refused holds what it would else
 pub unwritten_holds : {F : Type 0} {told : Told F} (holds : F → DiskState) (d : UnwrittenFile F told) → HoldsTheSame (sector_file_state_of holds (unwritten_file_of d)) (unwritten_state_of holds d)

@@ -26,7 +26,7 @@ use Rattle.lift_program.specs.Output.{WriterHasFailed}
 use Rattle.lift_program.specs.Serving.{HasLeftLetters, IsServing}
 use Rattle.lift_program.specs.Images.{CommandFiles}
 use Rattle.lift_program.specs.Showing.{IsShown, ShowsPart, WritesFront}
-use Rattle.lift_program.specs.Stages.{HasOpened, IsFailure, IsOpeningFault}
+use Rattle.lift_program.specs.Stages.{HasOpened, IsFailure}
 use Rattle.lift_program.specs.Stages.{IsServingFailure, IsShowingFailure, fault_in}
 use Rattle.lift_program.specs.Words.{AskForRequest, AsksForHelp, help_text}
 use Rattle.lift_program.specs.declared.fault.Fault.{Fault}
@@ -156,13 +156,6 @@ abbrev pub IsUnmade : (files : CommandFiles) → (image building : List ℕ) →
 IsUnmade files image building half = IsFailure files building
     (files.image.is_unmade image (2 + 2 * half)) (IsUnformatted files image building half)
 
--- what an opening may be refused for, want of memory, or the standard output
-abbrev pub IsShowingFault : Fault → Type 0
-IsShowingFault (Journal fault) = IsOpeningFault fault
-IsShowingFault (File Output) = Unit {0}
-IsShowingFault (Memory no_memory) = Unit {0}
-IsShowingFault _ = ⊥
-
 -- a reader of which no call was made yet
 abbrev pub uncalled : {R : Type 0} → R → InputState R
 uncalled reader =
@@ -223,11 +216,6 @@ IsScriptEnd sent contents gives flushes came came' old new (Replayed outcome unu
     IsCarriedOut sent contents gives flushes came came' old new outcome
 IsScriptEnd sent contents gives flushes came came' old new end = Unit {0}
 
--- an end of a serving
-abbrev pub IsServingEnd : {M S V F O : Type 0} → End M S V F O → Type 0
-IsServingEnd (Served outcome) = Unit {0}
-IsServingEnd end = ⊥
-
 -- A script couldn't be read: a call of its reader failed, or all were used and its end was not
 -- found.
 abbrev pub IsUnread : {R : Type 0} → InputState R → Type 0
@@ -258,60 +246,61 @@ abbrev pub MaySay : (gives : Option Listener → Type 0) → ℕ → (before aft
 MaySay gives port before after = (after ≡ before)
     ⊎ ((listener : Listener) × gives (Some listener) × WritesFront before after (serving_text port))
 
--- What a request may come to; a socket at a port gives this. A script was carried out, or why not, and
+-- What a request may come to. A script was carried out, or why not, and
 -- what was to open an image is left. A journal was made, or why not. Open calls were shown; or why not,
 -- which is no port, and how much of them was written. A group was served on this port until so many
 -- connections had ended; or why not, which is the port only where a socket there was refused, and
 -- something was written only where one was had.
-abbrev pub IsEndFor : (files : CommandFiles) → (gives : ℕ → Option Listener → Type 0) → Request
+abbrev pub IsEndFor : (files : CommandFiles) → Request
     → (before after : Option (List ℕ)) → EndOver files → Type 0
-IsEndFor files gives Replay before after (Replayed outcome unused) =
+IsEndFor files Replay before after (Replayed outcome unused) =
     IfErr outcome IsReplayFault × (unused ≡ files.image.opener)
-IsEndFor files gives (Format image building half) before after (Formatted (Ok left)) =
+IsEndFor files (Format image building half) before after (Formatted (Ok left)) =
     IsMadeWith files image.now building.now half left
-IsEndFor files gives (Format image building half) before after (Formatted (Err failure)) =
+IsEndFor files (Format image building half) before after (Formatted (Err failure)) =
     IsUnmade files image.now building.now half failure
-IsEndFor files gives (Show image building) before after (Shown (Ok left)) =
+IsEndFor files (Show image building) before after (Shown (Ok left)) =
     IsShown files image.now building.now left before after
-IsEndFor files gives (Show image building) before after (Shown (Err failure)) =
+IsEndFor files (Show image building) before after (Shown (Err failure)) =
     IsShowingFailure files image.now building.now failure × (fault_in failure ≢ Network)
     × ShowsPart files image.now building.now before after
-IsEndFor files gives (Serve image building port sessions policy) before after (Served (Ok serving)) =
+IsEndFor files (Serve image building port sessions policy) before after (Served (Ok serving)) =
     (serving.port ≡ port)
-    × IsServing files (gives port) image.now building.now policy sessions serving
-IsEndFor files gives (Serve image building port sessions policy) before after (Served (Err failure)) =
+    × IsServing files image.now building.now port policy sessions serving
+IsEndFor files (Serve image building port sessions policy) before after (Served (Err failure)) =
     IsServingFailure files image.now building.now failure
-    × (fault_in failure ≡ Network → gives port None) × MaySay (gives port) port before after
-IsEndFor files gives request before after end = ⊥
+    × (fault_in failure ≡ Network → files.gives port None)
+    × MaySay (files.gives port) port before after
+IsEndFor files request before after end = ⊥
 
 -- What these words come to: an end of what they ask for; want of memory for them; or, where they ask
 -- for nothing, other words. In these two nothing was asked of an image.
-abbrev pub IsEndOf : (files : CommandFiles) → (gives : ℕ → Option Listener → Type 0) → List Text
+abbrev pub IsEndOf : (files : CommandFiles) → List Text
     → (before after : Option (List ℕ)) → EndOver files → Type 0
-IsEndOf files gives words before after (OtherWords unused) =
+IsEndOf files words before after (OtherWords unused) =
     ((request : Request) → AskForRequest words request → ⊥) × (unused ≡ files.image.opener)
-IsEndOf files gives words before after (NoWords no_memory unused) = unused ≡ files.image.opener
-IsEndOf files gives words before after end = (request : Request) × AskForRequest words request
-    × IsEndFor files gives request before after end
+IsEndOf files words before after (NoWords no_memory unused) = unused ≡ files.image.opener
+IsEndOf files words before after end = (request : Request) × AskForRequest words request
+    × IsEndFor files request before after end
 
 -- What is kept of a group that was to be served: every letter; and what is left of one that wasn't, once
 -- its image was opened.
-abbrev pub KeepsFor : (files : CommandFiles) → (gives : ℕ → Option Listener → Type 0) → Request
+abbrev pub KeepsFor : (files : CommandFiles) → Request
     → Result (Serving files.image.Served)
     (Failure files.image.Served files.image.File files.image.Opener) → Type 0
-KeepsFor files gives (Serve image building port sessions policy) (Ok serving) =
-    IsServing files (gives port) image.now building.now policy sessions serving
-KeepsFor files gives (Serve image building port sessions policy) (Err (Opened fault left)) =
+KeepsFor files (Serve image building port sessions policy) (Ok serving) =
+    IsServing files image.now building.now port policy sessions serving
+KeepsFor files (Serve image building port sessions policy) (Err (Opened fault left)) =
     HasLeftLetters files image.now building.now fault left
-KeepsFor files gives (Serve image building port sessions policy) (Err failure) = Unit {0}
-KeepsFor files gives request outcome = ⊥
+KeepsFor files (Serve image building port sessions policy) (Err failure) = Unit {0}
+KeepsFor files request outcome = ⊥
 
 -- A group that was served has kept every letter, and one that was not has left them.
-abbrev pub KeepsIfServed : (files : CommandFiles) → (gives : ℕ → Option Listener → Type 0) → List Text
+abbrev pub KeepsIfServed : (files : CommandFiles) → List Text
     → EndOver files → Type 0
-KeepsIfServed files gives words (Served outcome) =
-    (request : Request) × AskForRequest words request × KeepsFor files gives request outcome
-KeepsIfServed files gives words end = Unit {0}
+KeepsIfServed files words (Served outcome) =
+    (request : Request) × AskForRequest words request × KeepsFor files request outcome
+KeepsIfServed files words end = Unit {0}
 
 -- What a command over an image has written that failed: nothing, or its output has failed. Where that is
 -- the fault it has; out of memory it may have, once the image was opened.

@@ -2,6 +2,7 @@
 use Rattle.std.specs.Prelude.{◌≡◌, ℕ, List, [], ◌∷◌, Option, Result, Ok, Bool, IfSome}
 use Rattle.std.specs.declared.io.Error.{Error}
 use Rattle.std.specs.declared.fs.options.OpenOptions.{OpenOptions}
+use Rattle.std.specs.declared.net.tcp.TcpListener.{TcpListener as Listener}
 use Rattle.lift_disk.specs.Below.{below}
 use Rattle.lift_disk.specs.Disk.{DiskState}
 use Rattle.lift_disk.specs.FileCalls.{FileCall}
@@ -56,13 +57,19 @@ pub record ImageFiles : Type 1 where
   -- no call of its file has failed, and none was a write
   pub is_only_read : Shown → Type 0
 
--- What is said of a command's files.
+-- the address that this machine alone can reach
+abbrev pub local : List ℕ
+local = 127 ∷ 0 ∷ 0 ∷ 1 ∷ []
+
+-- What is said of a command's files, and of its socket.
 pub record CommandFiles : Type 1 where
   pub image : ImageFiles
   -- this text was read from the building's file, which was opened at this path
   pub is_text : (path text : List ℕ) → Type 0
   -- the building's file at this path gave no text
   pub is_no_text : (path : List ℕ) → Type 0
+  -- this was given where a socket was asked for at this port of this machine
+  pub gives : ℕ → Option Listener → Type 0
 
 -- A file was opened, and this text was all that its reader held, where it is known what it held.
 abbrev pub IsTextRead : {R : Type 0} → (opens : Result R Error → Type 0)

@@ -1,7 +1,6 @@
 pub mod Devices
 pub mod Ends
 pub mod Faults
-pub mod Listening
 pub mod Images
 pub mod Output
 pub mod Serving

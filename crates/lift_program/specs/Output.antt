@@ -1,12 +1,9 @@
 -- What is written, and what is known where it was not.
-use Rattle.std.specs.Prelude.{ℕ, ◌≡◌, ◌+◌, ◌⊎◌, Bool, true, false, Option, List, OnOk, Result, Err}
+use Rattle.std.specs.Prelude.{ℕ, ◌≡◌, ◌+◌, ◌⊎◌, Bool, true, false, Option, List}
 use Rattle.std.specs.Prelude.{take}
 use Rattle.std.specs.Io.KnownBytes.{Appends}
 use Rattle.lift_base.specs.Output.{OutputState, OutputTally, Takes, TakesPrefix, sink_of}
 use Rattle.lift_replay.specs.Writing.{TakesSomeEachCall, FailsAtLast}
-use Rattle.lift_program.specs.declared.fault.Fault.{Fault}
-use Rattle.lift_program.specs.declared.fault.Fault.TheVariants.{File, Memory}
-use Rattle.lift_program.specs.declared.fault.Role.TheVariants.{Output}
 
 -- All of these bytes were written, or the writer failed after a prefix of them.
 abbrev pub IsWrittenOrFailed : {W : Type 0} → (W → Option (List ℕ)) → (old new : OutputState W)
@@ -44,15 +41,6 @@ pub record IsAllPassedOn (before after : OutputTally) : Type 0 where
 -- one call of it failed, or took nothing, or a flush failed
 abbrev pub HasFailedOnce : (before after : OutputTally) → Type 0
 HasFailedOnce before after = after.failures ≡ before.failures + 1
-
--- How the standard output was called: what is written ends well only with a flush after it that
--- did not fail; the output is the fault only where it has failed, and memory only where no
--- call failed but a flush.
-pub record IsPassedOnOrFailed {W : Type 0} (gives : W → List ℕ → Option ℕ → W → Type 0)
-    (flushes : W → Bool → W → Type 0) (old new : W) (result : Result Unit Fault) : Type 0 where
-  pub flushed : OnOk result (IsFlushed gives flushes old new)
-  pub failed : result ≡ Err (File Output) → WriterHasFailed gives flushes old new
-  pub out_of_memory : result ≡ Err (Memory tt) → WasTaken gives flushes old new
 
 -- This text was written and passed on; or a prefix of it, and then the output has failed.
 abbrev pub SaysText : List ℕ → (is_flushed has_failed : Type 0) → (before after : Option (List ℕ))

@@ -1,6 +1,5 @@
 -- The serving of a group.
-use Rattle.std.specs.Prelude.{ℕ, ◌≡◌, List, Option, Some}
-use Rattle.std.specs.declared.net.tcp.TcpListener.{TcpListener as Listener}
+use Rattle.std.specs.Prelude.{ℕ, ◌≡◌, List, Some}
 use Rattle.lift_base.specs.declared.history.Entry.{Entry}
 use Rattle.lift_disk.specs.Disk.{DiskState}
 use Rattle.lift_disk.specs.Starts.{StartsAfter}
@@ -27,15 +26,15 @@ use Rattle.lift_program.specs.declared.serve.Serving.{Serving}
 -- The recovery opened a journal on the file that was there at this path, of a building that the text
 -- describes which was read from its file; the socket that was asked for was had, and so many connections
 -- are to end there. Both parts of a clerk with this policy stand ready over it at a new desk.
-pub record IsReadyOver (files : CommandFiles) (gives : Option Listener → Type 0)
-    (image building : List ℕ) (policy : Dispatching Shipped) (sessions : ℕ)
+pub record IsReadyOver (files : CommandFiles) (image building : List ℕ) (port : ℕ)
+    (policy : Dispatching Shipped) (sessions : ℕ)
     (a : AllocatorState (Dispatching Shipped)) (f : FlusherState files.image.Served)
     (terms : EndedState) : Type 0 where
   pub from : HasOpened files building (files.image.is_to_be_served image)
   pub keeper : KeeperView files.image.Served
   pub is_kept : RecoversKeeper files.image.served_state from.plan from.opened keeper
   pub group : IsNewGroup files.image.served_state policy keeper a f
-  pub here : gives (Some terms.listener)
+  pub here : files.gives port (Some terms.listener)
   pub count : terms.sessions ≡ sessions
 
 -- Of whatever letters the file holds that was found, if it is an honest device: where each image that a
@@ -73,13 +72,13 @@ pub record IsServedOver {D : Type 0} (state : D → DiskState) (a : AllocatorSta
 -- letters of the file a crash at any moment until the end leaves a prefix of what was accepted, and with
 -- them all that was answered until then. So the next start finds what this one takes, word for word, at
 -- whatever moment the power goes.
-pub record IsServing (files : CommandFiles) (gives : Option Listener → Type 0)
-    (image building : List ℕ) (policy : Dispatching Shipped) (sessions : ℕ)
+pub record IsServing (files : CommandFiles) (image building : List ℕ) (port : ℕ)
+    (policy : Dispatching Shipped) (sessions : ℕ)
     (serving : Serving files.image.Served) : Type 0 where
   pub a : AllocatorState (Dispatching Shipped)
   pub f : FlusherState files.image.Served
   pub terms : EndedState
-  pub ready : IsReadyOver files gives image building policy sessions a f terms
+  pub ready : IsReadyOver files image building port policy sessions a f terms
   pub served : IsServedOver files.image.served_state a f terms serving
   pub keeps : OfItsLetters files image building ready.from (λ found.
       KeepsOver files.image.served_state files.image.held ready.from.plan found f served.g)

@@ -16,11 +16,9 @@ use Rattle.lift_disk.specs.declared.file.FileFault.{FileFault}
 use Rattle.lift_disk.specs.declared.file.FileFault.TheVariants.{Untold, NotAFile, Unopened, Failed}
 use Rattle.lift_program.specs.Images.{CommandFiles, ImageFiles, IsTextRead}
 use Rattle.lift_decider.specs.Decider.{starting}
-use Rattle.lift_journal.specs.declared.fault.JournalFault.TheVariants.{Full, Broken}
 use Rattle.lift_keeper.specs.Keeper.{KeeperView}
 use Rattle.lift_keeper.specs.Reopening.{RefusesReopening, Reopens}
 use Rattle.lift_keeper.specs.declared.fault.KeeperFault.{KeeperFault}
-use Rattle.lift_keeper.specs.declared.fault.KeeperFault.TheVariants.{Journal as OfJournal}
 use Rattle.lift_register.specs.Register.{RegisterState}
 use Rattle.lift_replay.specs.Reading.{ReaderFails}
 use Rattle.lift_program.specs.declared.fault.Fault.{Fault}
@@ -36,16 +34,12 @@ use Rattle.lift_program.specs.declared.fault.Role.TheVariants.{Image as OfImage,
 abbrev pub most_text : ℕ
 most_text = 1048576
 
--- so many bytes were taken from the reader
-abbrev pub TakesBytes : {R : Type 0} → ℕ → (R → Option (List ℕ)) → (old new : R) → Type 0
-TakesBytes count remaining old new = (bytes : List ℕ) × (length bytes ≡ count)
-    × Consumes (remaining old) (remaining new) bytes
-
 -- A call of this reader failed, which was the last, or it gave a byte more than a text may have.
 abbrev pub GivesNoText : {R : Type 0} → (remaining : R → Option (List ℕ))
     → (gives : R → List ℕ → Option ℕ → R → Type 0) → (old new : R) → Type 0
-GivesNoText remaining gives old new =
-    ReaderFails gives old new ⊎ TakesBytes (most_text + 1) remaining old new
+GivesNoText remaining gives old new = ReaderFails gives old new
+    ⊎ ((bytes : List ℕ) × (length bytes ≡ most_text + 1)
+    × Consumes (remaining old) (remaining new) bytes)
 
 -- the system didn't open the building's file, and not for want of memory
 abbrev pub IsTextRefused : {R : Type 0} → (opens : Result R Error → Type 0) → Type 0
@@ -117,13 +111,6 @@ abbrev pub HasRecovered : Plan → (old new : DiskState) → Type 0
 HasRecovered plan old new = (register : RegisterState) × (half : ℕ) × (is_in_second_half : Bool)
     × (used : ℕ) × Reopens plan old new register half is_in_second_half used
 
--- What an opening may be refused for: what the journal's opening is, a building of another shape,
--- or a record that doesn't fit.
-abbrev pub IsOpeningFault : KeeperFault → Type 0
-IsOpeningFault (OfJournal Full) = ⊥
-IsOpeningFault (OfJournal Broken) = ⊥
-IsOpeningFault _ = Unit {0}
-
 -- Why a command went no further over a device that was opened: the recovery was refused for this; or
 -- it gave a register, and then the port was refused, or the standard output failed, or memory was
 -- wanting.
@@ -180,7 +167,7 @@ pub record HasNoImage {F O : Type 0} (is_refused : FileFault F O → Type 0) (fa
 -- the fault that a command over an image has failed for
 abbrev pub fault_in : {D F O : Type 0} → Failure D F O → Fault
 fault_in (NoBuilding fault unused) = fault
-fault_in (NoImage refused) = refused.fault
+fault_in (NoImage fault cause) = fault
 fault_in (Opened fault left) = fault
 
 -- Why a command over an image has failed, and how it has left the image, its file or what was to open
@@ -191,8 +178,8 @@ abbrev pub IsFailure : {D : Type 0} → (files : CommandFiles) → (building : L
 IsFailure files building is_refused is_left (NoBuilding fault unused) =
     IsBuildingFault (files.is_text building) (files.is_no_text building) fault
     × (unused ≡ files.image.opener)
-IsFailure files building is_refused is_left (NoImage refused) =
-    ReadsBuilding (files.is_text building) × HasNoImage is_refused refused.fault refused.cause
+IsFailure files building is_refused is_left (NoImage fault cause) =
+    ReadsBuilding (files.is_text building) × HasNoImage is_refused fault cause
 IsFailure files building is_refused is_left (Opened fault left) = is_left fault left
 
 -- so it is of an image that was to be served
@@ -211,8 +198,8 @@ IsShowingFailure files image building = IsFailure files building (files.image.is
 abbrev pub IsKeeperFailure : {D F O : Type 0} → (is_fresh : D → Type 0) → (state : D → DiskState)
     → (is_refused : FileFault F O → Type 0) → Plan → Failure D F O → Type 0
 IsKeeperFailure is_fresh state is_refused plan (NoBuilding fault unused) = ⊥
-IsKeeperFailure is_fresh state is_refused plan (NoImage refused) =
-    HasNoImage is_refused refused.fault refused.cause
+IsKeeperFailure is_fresh state is_refused plan (NoImage fault cause) =
+    HasNoImage is_refused fault cause
 IsKeeperFailure {D} is_fresh state is_refused plan (Opened fault left) =
     HasNoKeeperOf D is_fresh state plan fault left
 

@@ -1,7 +1,7 @@
 //! How the program ends.
 
-ghost use Rattle.std.specs.Prelude.{◌≡◌, None, Some, IfSome};
-ghost use Rattle.lift_program.specs.Ends.{exit_status_of, line_at_end, line_at_end_in};
+ghost use Rattle.std.specs.Prelude.{◌≡◌, None, IfSome};
+ghost use Rattle.lift_program.specs.Ends.{exit_status_of, line_at_end};
 ghost use Rattle.lift_program.specs.Output.{IsWrittenOrFailed};
 
 use crate::fault::Fault;
@@ -36,23 +36,6 @@ pub enum End<M, S, V, F: Drop, O: Drop> {
 
 /// How a command ends over files that this opens.
 pub type EndBy<I, T> = End<SectorFile<T>, ShownImage<T>, BufferedFile<T>, T, I>;
-
-/// Writes the line of a fault of a serving at its end: but that a device failed was reported when
-/// it did.
-fn tell_at_end<E: Write + Drop>(fault: &Fault, errors: &mut Watched<E>)
-    ensures told { IfSome (line_at_end_in (Some fault.now))
-        (IsWrittenOrFailed E.contents errors.old errors.new) }
-    ensures quiet { line_at_end_in (Some fault.now) ≡ None → errors.new ≡ errors.old }
-{
-    match fault {
-        Fault::Journal(_) => {}
-        Fault::Building(_) => fault.tell(errors),
-        Fault::File(_) => fault.tell(errors),
-        Fault::Memory(_) => fault.tell(errors),
-        Fault::Network => fault.tell(errors),
-        Fault::Thread => fault.tell(errors),
-    }
-}
 
 impl<M, S, V, F: Drop, O: Drop> End<M, S, V, F, O> {
     /// The program's status: 0 where all was done, 1 for a bad script or a fault, 2 for other
@@ -94,7 +77,10 @@ impl<M, S, V, F: Drop, O: Drop> End<M, S, V, F, O> {
             End::Shown(Err(failure)) => failure.fault().tell(errors),
             End::Served(Ok(serving)) => match &serving.fault {
                 None => {}
-                Some(fault) => tell_at_end(fault, errors),
+                Some(fault) => match fault {
+                    Fault::Journal(_) => {}
+                    other => other.tell(errors),
+                },
             },
             End::Served(Err(failure)) => failure.fault().tell(errors),
             End::OtherWords(_) => tell(errors, b"liftd: usage\n"),

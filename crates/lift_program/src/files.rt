@@ -1,23 +1,20 @@
 //! The files that the commands name: buildings, and the images of journals.
 
-ghost use Rattle.std.specs.Prelude.{◌≡◌, ◌≢◌, ◌≤◌, ◌∷◌, [], Err, IfOk, IfErr, length};
+ghost use Rattle.std.specs.Prelude.{◌≡◌, ◌≢◌, ◌≤◌, Err, IfOk, IfErr, length};
 ghost use Rattle.std.specs.Str.{IsUtf8};
-ghost use Rattle.lift_disk.specs.FileCalls.FileCall.{Lock};
-ghost use Rattle.lift_disk.specs.Files.{IsMeasured, making_below, sector_file_state_of};
-ghost use Rattle.lift_disk.specs.Traced.{making_calls, to_be_read, to_be_used};
-ghost use Rattle.lift_program.specs.Images.{IsJustMade, IsTextRead};
+ghost use Rattle.lift_program.specs.Images.{IsTextRead};
 ghost use Rattle.lift_program.specs.Stages.{HasBuilding, HasNoImage, IsBuildingFault};
 ghost use Rattle.lift_program.specs.Stages.{IsNoText, most_text};
 ghost use Rattle.lift_program.specs.declared.fault.Role.TheVariants.{Building as OfBuilding};
 
 use crate::fault::{Fault, Role};
-use crate::leftover::Refused;
+use crate::leftover::Leftover;
+use crate::leftover::text::bytes_of;
 use crate::opening::{ImageView, TextOpener};
 use crate::refused::{refused, text_in};
-use crate::text::bytes_of;
 use crate::unwritten::{ShownImage, UnwrittenFile};
 use lift_building::Building;
-use lift_disk::{Buffered, FileOpener, SectorFile};
+use lift_disk::{Buffered, FileFault, FileOpener, SectorFile};
 use std::alloc::Global;
 use std::str;
 
@@ -56,78 +53,17 @@ pub fn building_in<B: TextOpener>(opener: B, alloc: Global, path: &str) -> Resul
     building_of(alloc, &bytes)
 }
 
-/// The file of a journal, made or made anew, if its lock is to be had.
-pub fn image_at<I: FileOpener>(
-    opener: I,
-    path: &str,
-    sectors: u32,
-) -> Result<SectorFile<I::Told>, Refused<I::Told, I>>
-    ensures size { IfOk result (λ disk. (sector_file_state_of I.Told.holds disk).size ≡ sectors) }
-    ensures failures { IfOk result (λ disk. (sector_file_state_of I.Told.holds disk).failures ≡ 0) }
-    ensures calls { IfOk result (λ disk. (sector_file_state_of I.Told.holds disk).calls ≡ 0) }
-    ensures writes { IfOk result (λ disk. (sector_file_state_of I.Told.holds disk).writes ≡ 0) }
-    ensures trace { IfOk result (λ disk. (sector_file_state_of I.Told.holds disk).trace ≡ []) }
-    ensures made { IfOk result (IsJustMade (I.opens opener) (I.names opener) I.Told.gives
-        I.Told.holds path.now sectors) }
-    ensures making { IfOk result (λ disk. making_below disk ≡ making_calls sectors) }
-    ensures no_image { IfErr result (λ no. HasNoImage
-        ((⟦<I as ImageView>⟧.image opener).is_unmade path.now sectors) no.fault no.cause) }
-{
-    match SectorFile::create(opener, path, sectors) {
-        Ok(disk) => Ok(disk),
-        Err(fault) => Err(refused(fault)),
-    }
-}
-
-/// The file of a journal that is there, if its lock is to be had. It is not made anew.
-pub fn image_in<I: FileOpener>(
-    opener: I,
-    path: &str,
-) -> Result<SectorFile<I::Told>, Refused<I::Told, I>>
-    ensures failures { IfOk result (λ disk. (sector_file_state_of I.Told.holds disk).failures ≡ 0) }
-    ensures calls { IfOk result (λ disk. (sector_file_state_of I.Told.holds disk).calls ≡ 0) }
-    ensures writes { IfOk result (λ disk. (sector_file_state_of I.Told.holds disk).writes ≡ 0) }
-    ensures measured { IfOk result (IsMeasured (I.opens opener to_be_used path.now) I.Told.gives
-        I.Told.holds (Lock ∷ [])) }
-    ensures no_image { IfErr result (λ no. HasNoImage
-        ((⟦<I as ImageView>⟧.image opener).is_unserved path.now) no.fault no.cause) }
-{
-    match SectorFile::open(opener, path) {
-        Ok(disk) => Ok(disk),
-        Err(fault) => Err(refused(fault)),
-    }
-}
-
-/// The file of a journal that is there, to be read alone.
-fn image_to_read<I: FileOpener>(
-    opener: I,
-    path: &str,
-) -> Result<SectorFile<I::Told>, Refused<I::Told, I>>
-    ensures failures { IfOk result (λ disk. (sector_file_state_of I.Told.holds disk).failures ≡ 0) }
-    ensures calls { IfOk result (λ disk. (sector_file_state_of I.Told.holds disk).calls ≡ 0) }
-    ensures writes { IfOk result (λ disk. (sector_file_state_of I.Told.holds disk).writes ≡ 0) }
-    ensures measured { IfOk result (IsMeasured (I.opens opener to_be_read path.now) I.Told.gives
-        I.Told.holds []) }
-    ensures no_image { IfErr result (λ no. HasNoImage
-        ((⟦<I as ImageView>⟧.image opener).is_unshown path.now) no.fault no.cause) }
-{
-    match SectorFile::open_to_read(opener, path) {
-        Ok(disk) => Ok(disk),
-        Err(fault) => Err(refused(fault)),
-    }
-}
-
 /// The image of a journal that is there, to be shown, also beside a group that runs over it.
 pub fn image_to_show<I: FileOpener>(
     opener: I,
     path: &str,
-) -> Result<ShownImage<I::Told>, Refused<I::Told, I>>
+) -> Result<ShownImage<I::Told>, (Fault, Leftover<FileFault<I::Told, I>>)>
     ensures opened { IfOk result ((⟦<I as ImageView>⟧.image opener).is_to_be_shown path.now) }
     ensures no_image { IfErr result (λ no. HasNoImage
-        ((⟦<I as ImageView>⟧.image opener).is_unshown path.now) no.fault no.cause) }
+        ((⟦<I as ImageView>⟧.image opener).is_unshown path.now) no.0 no.1) }
 {
-    match image_to_read(opener, path) {
+    match SectorFile::open_to_read(opener, path) {
         Ok(file) => Ok(Buffered::over(UnwrittenFile::over(file))),
-        Err(refused) => Err(refused),
+        Err(cause) => Err(refused(cause)),
     }
 }

@@ -4,9 +4,11 @@ ghost use Rattle.std.specs.Prelude.{◌≤◌, IfOk, IfErr};
 ghost use Rattle.lift_program.specs.Ends.{IsMadeWith, IsUnmade};
 
 use crate::fault::Fault;
-use crate::files::{building_in, image_at};
+use crate::files::building_in;
+use crate::given::ready::ForServing;
 use crate::leftover::{Failure, Leftover};
-use crate::opening::{Files, FilesView, TextOpener};
+use crate::opening::{FilesView, Listens, Openers, TextOpener};
+use crate::refused::refused;
 use lift_disk::{FileOpener, SectorFile};
 use lift_journal::JournalFault;
 use lift_keeper::KeeperFault;
@@ -16,8 +18,8 @@ use std::alloc::Global;
 /// many sectors in a half. Nothing is made for a building that is refused.
 #[inline(never)]
 #[tactic(auto, using(crate::proofs::Stages::reads_building))]
-pub fn format<B: TextOpener, I: FileOpener>(
-    files: Files<B, I>,
+pub(crate) fn format<B: TextOpener, I: FileOpener, L: Listens>(
+    openers: Openers<B, I, ForServing<L>>,
     alloc: Global,
     image: &str,
     building: &str,
@@ -26,17 +28,20 @@ pub fn format<B: TextOpener, I: FileOpener>(
     requires least { 64 ≤ half }
     requires most { half ≤ 1000000 }
     ensures made { IfOk result
-        (IsMadeWith (⟦<Files<B, I> as FilesView>⟧.view files) image.now building.now half) }
+        (IsMadeWith (⟦<Openers<B, I, L> as FilesView>⟧.view openers) image.now building.now half) }
     ensures failure { IfErr result
-        (IsUnmade (⟦<Files<B, I> as FilesView>⟧.view files) image.now building.now half) }
+        (IsUnmade (⟦<Openers<B, I, L> as FilesView>⟧.view openers) image.now building.now half) }
 {
-    let shape = match building_in(files.building, alloc, building) {
+    let shape = match building_in(openers.building, alloc, building) {
         Ok(building) => building.shape(half),
-        Err(fault) => return Err(Failure::NoBuilding(fault, Leftover::new(files.image))),
+        Err(fault) => return Err(Failure::NoBuilding(fault, Leftover::new(openers.image))),
     };
-    let mut disk = match image_at(files.image, image, 2 + 2 * half) {
+    let mut disk = match SectorFile::create(openers.image, image, 2 + 2 * half) {
         Ok(disk) => disk,
-        Err(refused) => return Err(Failure::NoImage(refused)),
+        Err(cause) => {
+            let (fault, cause) = refused(cause);
+            return Err(Failure::NoImage(fault, cause));
+        }
     };
     match lift_journal::format(&mut disk, shape) {
         Ok(()) => Ok(Leftover::new(disk)),

@@ -1,8 +1,8 @@
 //! The grammar of the program's words: its commands and their arguments, and the text that lists
 //! them.
 
-ghost use Rattle.std.specs.Prelude.{◌≡◌, codes, false, IfOk};
-ghost use Rattle.clap.specs.Words.{App, app_of, new_app, rule_of, with_subcommand};
+ghost use Rattle.std.specs.Prelude.{◌≡◌, false, IfOk};
+ghost use Rattle.clap.specs.Words.{App, app_of, rule_of, with_subcommand};
 ghost use Rattle.lift_program.specs.Words.{liftd_app, bare_app, format_app, show_app};
 ghost use Rattle.lift_program.specs.Words.{serve_app, word_rule, option_rule, flag_rule, IsCommand};
 
@@ -50,13 +50,6 @@ fn flag<'a>(alloc: Global, name: &'a str) -> Arg<'a>
     ensures local { result.global ≡ false }
 {
     Arg::new(alloc, name).long(name).action(ArgAction::SetTrue)
-}
-
-/// `replay`.
-fn replay_command<'a>(alloc: Global) -> Command<'a>
-    ensures { IsCommand (new_app (codes "replay")) result }
-{
-    Command::new(alloc, "replay")
 }
 
 /// `format <image> <building> [--half n]`.
@@ -113,7 +106,7 @@ fn with_command<'a>(
 pub fn grammar<'a>(alloc: Global) -> Result<Command<'a>, AllocError>
     ensures { IfOk result (λ command. app_of command ≡ liftd_app) }
 {
-    let program = with_command(bare(alloc), Ok(replay_command(alloc)))?;
+    let program = with_command(bare(alloc), Ok(Command::new(alloc, "replay")))?;
     let program = with_command(program, format_command(alloc))?;
     let program = with_command(program, show_command(alloc))?;
     with_command(program, serve_command(alloc))

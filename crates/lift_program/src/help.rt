@@ -5,9 +5,8 @@ ghost use Rattle.lift_program.specs.Ends.{IsAnswered};
 ghost use Rattle.lift_program.specs.Output.{IsFlushed, SaysText, WriterHasFailed};
 
 use crate::grammar::HELP;
-use crate::output::Outflow;
+use crate::output::{Outflow, write_out};
 use crate::words::asks_for_help;
-use lift_base::text::put_all;
 use std::convert::AsStr;
 
 /// Writes a text, and has the output pass it on. Where it can't be written, nothing says so.
@@ -16,10 +15,7 @@ fn write_text<W: Outflow>(writer: &mut W, text: &str)
         (WriterHasFailed W.gives W.flushes writer.old writer.new)
         (W.contents writer.old) (W.contents writer.new) }
 {
-    if put_all(writer, text.as_bytes()).is_err() {
-        return;
-    }
-    match writer.flush_once() {
+    match write_out(writer, text.as_bytes()) {
         Ok(()) => {}
         Err(_) => {}
     }

@@ -5,11 +5,11 @@ ghost use Rattle.lift_program.specs.Stages.{HasKeeperOf, IsServingKeeperFailure}
 
 use crate::at_once::AtOnce;
 use crate::fault::Fault;
-use crate::files::image_in;
 use crate::leftover::{Failure, Leftover};
 use crate::opening::ImageView;
+use crate::refused::refused;
 use lift_building::Building;
-use lift_disk::{Buffered, BufferedFile, Disk, FileOpener};
+use lift_disk::{Buffered, BufferedFile, Disk, FileOpener, SectorFile};
 use lift_keeper::Keeper;
 use lift_policy::Shipped;
 use lift_serve::{Flusher, HeardBy, ReadyGroup};
@@ -40,9 +40,12 @@ pub fn keeper_in<'b, I: FileOpener>(
     ensures failure { IfErr result
         (IsServingKeeperFailure (⟦<I as ImageView>⟧.image opener) path.now building.now) }
 {
-    let file = match image_in(opener, path) {
+    let file = match SectorFile::open(opener, path) {
         Ok(file) => file,
-        Err(refused) => return Err(Failure::NoImage(refused)),
+        Err(cause) => {
+            let (fault, cause) = refused(cause);
+            return Err(Failure::NoImage(fault, cause));
+        }
     };
     match Keeper::open(Buffered::over(file), building) {
         Ok(keeper) => Ok(keeper),

@@ -1,5 +1,7 @@
 //! How a command leaves the device that it was over, or what was to open it.
 
+pub(crate) mod text;
+
 ghost use Rattle.std.specs.Prelude.{◌≡◌};
 ghost use Rattle.lift_program.specs.Stages.{fault_in};
 
@@ -8,7 +10,8 @@ use lift_disk::FileFault;
 use std::marker::Model;
 
 /// A device as a command has left it, or what opens one. Nobody calls it any more: all that can be done
-/// with it is to let it go. So what is said of it is said of the end. Contracts see the device.
+/// with it is to let it go. So what is said of it is said of the end. A building's file is one as soon as it
+/// was opened: it is read as a whole by `bytes_of`, and not beside that. Contracts see the device.
 #[derive(Drop)]
 pub struct Leftover<D> {
     device: D,
@@ -35,20 +38,13 @@ impl<D> Leftover<D> {
     }
 }
 
-/// Why no image was had: what is reported, and what that comes from.
-#[derive(Drop)]
-pub struct Refused<F: Drop, O: Drop> {
-    pub fault: Fault,
-    pub cause: Leftover<FileFault<F, O>>,
-}
-
 /// Why a command over an image has failed.
 #[derive(Drop)]
 pub enum Failure<D, F: Drop, O: Drop> {
     /// No building was had, and nothing was asked of an image: what opens that is left.
     NoBuilding(Fault, Leftover<O>),
-    /// No image was had.
-    NoImage(Refused<F, O>),
+    /// No image was had, and what that comes from is left.
+    NoImage(Fault, Leftover<FileFault<F, O>>),
     /// One was, and was left so.
     Opened(Fault, Leftover<D>),
 }
@@ -60,7 +56,7 @@ impl<D, F: Drop, O: Drop> Failure<D, F, O> {
     {
         match self {
             Failure::NoBuilding(fault, _) => fault,
-            Failure::NoImage(refused) => &refused.fault,
+            Failure::NoImage(fault, _) => fault,
             Failure::Opened(fault, _) => fault,
         }
     }

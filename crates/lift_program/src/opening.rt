@@ -1,16 +1,20 @@
 //! What a command opens its building, its image and its socket by.
 
-ghost use Rattle.std.specs.Prelude.{◌≡◌, ℕ, List, Option, Result, Ok, Err, IfOk, IfErr, ⊤};
+ghost use Rattle.std.specs.Prelude.{◌≡◌, ℕ, List, Option, Some, None, Result, Ok, Err, ⊤};
+ghost use Rattle.std.specs.Prelude.{IfOk, IfErr, OnErr};
 ghost use Rattle.std.specs.declared.io.Error.{Error};
-ghost use Rattle.lift_program.specs.Images.{CommandFiles, ImageFiles, IsTextRead, image_files};
+ghost use Rattle.std.specs.declared.net.tcp.TcpListener.{TcpListener as Listener};
+ghost use Rattle.lift_program.specs.Images.{CommandFiles, ImageFiles, IsTextRead, image_files, local};
 ghost use Rattle.lift_program.specs.Stages.{IsNoText};
 
 use crate::leftover::Leftover;
 use crate::unwritten::ShownImage;
 use lift_base::text::Inlet;
 use lift_disk::{BufferedFile, Disk, FileOpener};
+use lift_serve::Listening;
 use std::fs::File;
 use std::io::ErrorKind;
+use std::net::{Ipv4Addr, SocketAddr, SocketAddrV4, TcpListener};
 use std::os::fd::AsRawFd;
 use std::rt::LibcRuntime;
 use std::{fs, io};
@@ -39,20 +43,33 @@ pub trait TextOpener: Drop {
         → Self.Text.gives old buffer answer new → reads old buffer answer new };
 }
 
-/// What opens the file of a building on the host.
+/// What opens a listening socket, once: to be asked for one takes it. A serving is proved for each,
+/// whatever its call gives: so the socket is one that was asked for at the address and the port that
+/// the serving's clause names.
+pub trait Listens: Drop {
+    // what was given where one was asked for at the octets of an address and at a port
+    ghost gives: { Self → List ℕ → ℕ → Option Listener → Type 0 };
+
+    /// A socket that listens at a port of an address.
+    fn listen(self, address: [u8; 4], port: u16) -> io::Result<Listening>
+        ensures gives { IfOk result (λ listening. gives self address port (Some listening)) }
+        ensures refused { OnErr result (gives self address port None) };
+}
+
+/// The host, which opens the file of a building, or a socket.
 #[derive(Drop)]
-pub struct SystemTextOpener<'r> {
+pub struct Host<'r> {
     rt: &'r LibcRuntime,
 }
 
-impl<'r> SystemTextOpener<'r> {
-    /// Over this runtime.
-    pub fn new(rt: &'r LibcRuntime) -> SystemTextOpener<'r> {
-        SystemTextOpener { rt }
+impl<'r> Host<'r> {
+    /// By this runtime.
+    pub fn new(rt: &'r LibcRuntime) -> Host<'r> {
+        Host { rt }
     }
 }
 
-impl TextOpener for SystemTextOpener<'_> {
+impl TextOpener for Host<'_> {
     type Text = File;
 
     ghost opens = { λ _ _ _. ⊤ };
@@ -78,29 +95,37 @@ impl TextOpener for SystemTextOpener<'_> {
     }
 }
 
-/// What a command opens its files by: each of them once.
-#[derive(Drop)]
-pub struct Files<B, I> {
-    pub building: B,
-    pub image: I,
+impl Listens for Host<'_> {
+    ghost gives = { λ _ _ _ _. ⊤ };
+
+    fn listen(self, address: [u8; 4], port: u16) -> io::Result<Listening> {
+        let address = Ipv4Addr::from_octets(address);
+        let listener = TcpListener::bind(
+            self.rt,
+            SocketAddr::V4(SocketAddrV4::new(address, port)),
+        )?;
+        Listening::at(listener)
+    }
 }
 
-/// What the program opens by: the files of its command, and a socket.
+/// What a command opens its building, its image and its socket by: each of them once.
 #[derive(Drop)]
 pub struct Openers<B, I, L> {
-    pub files: Files<B, I>,
+    pub building: B,
+    pub image: I,
     pub socket: L,
 }
 
 impl<B: Drop, I: Drop, L: Drop> Openers<B, I, L> {
     /// What opens an image, where nothing is asked of it.
     pub fn unused(self) -> Leftover<I>
-        ensures { result ≡ self.files.image }
+        ensures { result ≡ self.image }
     {
-        let Files {
+        let Openers {
             building: _unread,
             image,
-        } = self.files;
+            socket: _unasked,
+        } = self;
         Leftover::new(image)
     }
 }
@@ -116,15 +141,16 @@ impl<I: FileOpener> ImageView for I {
         ⟦<BufferedFile<I::Told> as Disk>⟧.state ⟦<ShownImage<I::Told> as Disk>⟧.state };
 }
 
-/// How they see what opens a command's files.
+/// How they see what a command opens by.
 pub trait FilesView {
     ghost view: { Self → CommandFiles };
 }
 
-impl<B: TextOpener, I: FileOpener> FilesView for Files<B, I> {
-    ghost view = { λ files. record {
-      image = ⟦<I as ImageView>⟧.image files.image;
-      is_text = λ path. IsTextRead (B.opens files.building path) B.Text.remaining;
-      is_no_text = λ path. IsNoText (B.opens files.building path) B.Text.remaining B.reads;
+impl<B: TextOpener, I: FileOpener, L: Listens> FilesView for Openers<B, I, L> {
+    ghost view = { λ openers. record {
+      image = ⟦<I as ImageView>⟧.image openers.image;
+      is_text = λ path. IsTextRead (B.opens openers.building path) B.Text.remaining;
+      is_no_text = λ path. IsNoText (B.opens openers.building path) B.Text.remaining B.reads;
+      gives = L.gives openers.socket local;
     } };
 }

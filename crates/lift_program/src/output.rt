@@ -1,10 +1,10 @@
 //! What is written to the standard output, and where no more can be done if it fails.
 
-ghost use Rattle.std.specs.Prelude.{ℕ, OnOk, OnErr, IfErr, take};
+ghost use Rattle.std.specs.Prelude.{◌≡◌, ℕ, Err, OnOk, OnErr, IfErr, take};
 ghost use Rattle.std.specs.Io.KnownBytes.{Appends};
 ghost use Rattle.lift_program.specs.Ends.{IsFileFault};
 ghost use Rattle.lift_program.specs.Output.{HasFailedOnce, IsAllPassedOn, IsFlushed};
-ghost use Rattle.lift_program.specs.Output.{IsPassedOnOrFailed, IsWrittenOrFailed, WriterHasFailed};
+ghost use Rattle.lift_program.specs.Output.{IsWrittenOrFailed, WasTaken, WriterHasFailed};
 ghost use Rattle.lift_program.specs.declared.fault.Role.TheVariants.{Output};
 
 use crate::fault::{Fault, Role};
@@ -20,7 +20,10 @@ pub fn write_out<W: Outflow>(writer: &mut W, bytes: &[u8]) -> Result<(), Fault>
     ensures front { OnErr result ((n : ℕ)
         × Appends (W.contents writer.old) (W.contents writer.new) (take n bytes.now)) }
     ensures fault { IfErr result (IsFileFault Output) }
-    ensures passed_on { IsPassedOnOrFailed W.gives W.flushes writer.old writer.new result }
+    ensures flushed { OnOk result (IsFlushed W.gives W.flushes writer.old writer.new) }
+    // Memory is the fault only where no call failed but a flush.
+    ensures out_of_memory { result ≡ Err (Fault.Memory tt)
+        → WasTaken W.gives W.flushes writer.old writer.new }
     ensures failed { OnErr result (WriterHasFailed W.gives W.flushes writer.old writer.new) }
 {
     if put_all(writer, bytes).is_err() {

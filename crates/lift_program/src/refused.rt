@@ -15,13 +15,12 @@ ghost use Rattle.lift_program.specs.declared.fault.Role.TheVariants.{Image as Of
 use crate::end::End;
 use crate::fault::{Fault, Role};
 use crate::grammar::grammar;
-use crate::leftover::{Leftover, Refused};
+use crate::leftover::Leftover;
 use crate::opening::TextOpener;
 use crate::output::Outflow;
-use crate::text::OpenedText;
 use clap::ArgMatches;
 use clap::error::ErrorKind as WordsFault;
-use lift_base::text::Watched;
+use lift_base::text::{Counted, Watched};
 use lift_disk::FileFault;
 use lift_serve::{Memory, ServeFault, ServingEnd};
 use std::alloc::Global;
@@ -120,20 +119,22 @@ fn told_as<F: Drop, O: Drop>(cause: &FileFault<F, O>) -> Fault
     }
 }
 
-/// An image that was refused: the fault that is reported, and what that comes from, which is used up.
-pub(crate) fn refused<F: Drop, O: Drop>(cause: FileFault<F, O>) -> Refused<F, O>
-    ensures fault { IsFileFault OfImage result.fault }
-    ensures told { IsImageFault cause result.fault }
-    ensures same { result.cause ≡ cause }
+/// Why an image was refused: the fault that is reported, and what that comes from, which is used up.
+pub(crate) fn refused<F: Drop, O: Drop>(
+    cause: FileFault<F, O>,
+) -> (Fault, Leftover<FileFault<F, O>>)
+    ensures fault { IsFileFault OfImage result.0 }
+    ensures told { IsImageFault cause result.0 }
+    ensures same { result.1 ≡ cause }
 {
-    Refused {
-        fault: told_as(&cause),
-        cause: Leftover::new(cause),
-    }
+    (told_as(&cause), Leftover::new(cause))
 }
 
-/// What reads the file of a building.
-pub(crate) fn text_in<B: TextOpener>(opener: B, path: &str) -> Result<OpenedText<B::Text>, Fault>
+/// The file of a building, of which nothing was read.
+pub(crate) fn text_in<B: TextOpener>(
+    opener: B,
+    path: &str,
+) -> Result<Leftover<Counted<B::Text>>, Fault>
     ensures opened { IfOk result (λ text. B.opens opener path.now (Ok text.reader)) }
     ensures uncalled { IfOk result IsUncalled }
     ensures refused { result ≡ Err (Fault.File OfBuilding) → IsTextRefused (B.opens opener path.now) }
@@ -143,7 +144,7 @@ pub(crate) fn text_in<B: TextOpener>(opener: B, path: &str) -> Result<OpenedText
         (IsRefusedBySystem OfBuilding (λ error. B.opens opener path.now (Err error))) }
 {
     match opener.open_text(path) {
-        Ok(text) => Ok(OpenedText::new(text)),
+        Ok(text) => Ok(Leftover::new(Counted::new(text))),
         Err(error) => Err(told(Role::Building, &error)),
     }
 }

@@ -1,18 +1,24 @@
-//! The serving of what is ready. Here alone the program waits.
+//! The serving of what the words ask to be served. Here alone the program waits.
 
-ghost use Rattle.std.specs.Prelude.{◌≡◌, false};
-ghost use Rattle.lift_program.specs.Ends.{TellsLine, line_at_once_in};
+ghost use Rattle.std.specs.Prelude.{◌≡◌, IfOk, IfErr, OnErr};
+ghost use Rattle.std.specs.Io.KnownBytes.{Appends};
+ghost use Rattle.lift_program.specs.Ends.{IsEndFor, IsReportOfFailure, TellsLine, line_at_once_in};
+ghost use Rattle.lift_program.specs.Ends.{serving_text};
 ghost use Rattle.lift_program.specs.Faults.{served_fault};
-ghost use Rattle.lift_program.specs.Serving.{IsServedOver};
+ghost use Rattle.lift_program.specs.Output.{IsFlushed, WriterHasFailed};
+ghost use Rattle.lift_program.specs.declared.end.End.TheVariants.{Served};
+ghost use Rattle.lift_program.specs.declared.words.Request.TheVariants.{Serve};
 
 use crate::at_once::{AtOnce, FAILED};
 use crate::fault::Fault;
+use crate::given::ToServe;
 use crate::keeping::left_served;
-use crate::leftover::Leftover;
-use crate::ready::Ready;
+use crate::leftover::{Failure, Leftover};
+use crate::opening::{FilesView, Listens, Openers, TextOpener};
+use crate::output::Outflow;
 use crate::refused::refused_in;
 use lift_base::text::Watched;
-use lift_disk::Disk;
+use lift_disk::{BufferedFile, FileOpener};
 use lift_serve::{ServingEnd, ServingOutcome};
 use std::alloc::Global;
 use std::io::Write;
@@ -43,24 +49,47 @@ pub struct Serving<D> {
     pub end: ServingEnd,
 }
 
-/// Serves what is ready, until so many connections have ended. The answer tells the fault that did
-/// not end it, if there was one. That the device failed is written to `errors` in the very turn in
+/// Serves what the words ask to be served, once all that it takes was had, until so many connections have
+/// ended, and answers how that ended. That the device failed is written to `errors` in the very turn in
 /// which it fails, and nothing else is.
 #[inline(never)]
-pub(crate) fn serve<R: Threads + Wait + Clock + Sync, D: Disk + Drop, E: Write + Drop>(
-    rt: &R,
+pub(crate) fn serve<
+    F: Threads + Wait + Clock + Sync,
+    B: TextOpener,
+    I: FileOpener,
+    L: Listens,
+    W: Outflow,
+    E: Write + Drop,
+>(
+    rt: &F,
+    asked: ToServe<'_, B, I, L, E>,
     alloc: Global,
-    ready: Ready<'_, '_, D, E>,
+    writer: &mut W,
     errors: Watched<E>,
-) -> (Serving<D>, Watched<E>)
-    requires { ready.group.flusher.writer.is_broken ≡ false }
-    ensures port { result.0.port ≡ ready.entry.port }
-    ensures served { IsServedOver D.state ready.entry.group.allocator ready.entry.group.flusher
-        ready.entry.group.bound result.0 }
-    // The line of a device that failed was written before the end, and no other.
-    ensures at_once { TellsLine E.contents (line_at_once_in result.0.fault) errors result.1 }
+) -> (
+    Result<Serving<BufferedFile<I::Told>>, Failure<BufferedFile<I::Told>, I::Told, I>>,
+    Watched<E>,
+)
+    ensures end { IsEndFor (⟦<Openers<B, I, L> as FilesView>⟧.view asked.entry.openers)
+        (Serve asked.entry.image asked.entry.building asked.entry.port asked.entry.sessions
+        asked.entry.policy) (W.contents writer.old) (W.contents writer.new) (Served result.0) }
+    // That its port is served was passed on, before it was,
+    ensures said { IfOk result.0 (λ serving. IsFlushed W.gives W.flushes writer.old writer.new
+        × Appends (W.contents writer.old) (W.contents writer.new) (serving_text serving.port)) }
+    ensures report { IfErr result.0 (λ failure. IsReportOfFailure
+        (WriterHasFailed W.gives W.flushes writer.old writer.new) failure (W.contents writer.old)
+        (W.contents writer.new)) }
+    // and the line of a device that failed before the end, and no other.
+    ensures at_once { IfOk result.0 (λ serving.
+        TellsLine E.contents (line_at_once_in serving.fault) errors result.1) }
+    ensures quiet { OnErr result.0 (result.1 ≡ errors) }
 {
-    let Ready { port, group } = ready;
+    let mut place = None;
+    let mut room = None;
+    let (port, group) = match asked.made_ready(alloc, &mut place, &mut room, writer) {
+        Ok(ready) => ready,
+        Err(failure) => return (Err(failure), errors),
+    };
     let told = AtOnce { errors };
     let served = lift_serve::serve(rt, alloc, group, told);
     let ServingOutcome {
@@ -76,5 +105,5 @@ pub(crate) fn serve<R: Threads + Wait + Clock + Sync, D: Disk + Drop, E: Write +
         left: left_served(flusher),
         end,
     };
-    (serving, errors)
+    (Ok(serving), errors)
 }

@@ -1,22 +1,20 @@
 //! The open calls of a group, begun again from its image.
 
-ghost use Rattle.std.specs.Prelude.{◌≡◌, ◌≢◌, ◌⊎◌, Ok, Err, IfOk, IfErr, OnOk};
-ghost use Rattle.std.specs.Prelude.{OnErr};
+ghost use Rattle.std.specs.Prelude.{◌≡◌, ◌≢◌, ◌⊎◌, Err, IfOk, IfErr, OnOk, OnErr};
 ghost use Rattle.std.specs.Io.KnownBytes.{Appends};
-ghost use Rattle.lift_keeper.specs.Reopening.{RefusesReopening};
-ghost use Rattle.lift_keeper.specs.declared.fault.KeeperFault.{KeeperFault as Refusal};
 ghost use Rattle.lift_replay.specs.Report.{register_text};
-ghost use Rattle.lift_program.specs.Ends.{IsFileFault, IsReportOfFailure, IsShowingFault};
-ghost use Rattle.lift_program.specs.Output.{WriterHasFailed, IsFlushed, IsPassedOnOrFailed};
-ghost use Rattle.lift_program.specs.Showing.{IsShown, ShowsRegister, ShowsPart, WritesFront};
+ghost use Rattle.lift_program.specs.Ends.{IsFileFault, IsReportOfFailure};
+ghost use Rattle.lift_program.specs.Output.{IsFlushed, WasTaken, WriterHasFailed};
+ghost use Rattle.lift_program.specs.Showing.{IsNotShown, IsShown, ShowsRegister, ShowsPart};
+ghost use Rattle.lift_program.specs.Showing.{WritesFront};
 ghost use Rattle.lift_program.specs.Stages.{IsShowingFailure, fault_in};
-ghost use Rattle.lift_program.specs.declared.fault.Fault.TheVariants.{Journal as OfJournal};
 ghost use Rattle.lift_program.specs.declared.fault.Role.TheVariants.{Output};
 
 use crate::fault::Fault;
 use crate::files::{building_in, image_to_show};
+use crate::given::ready::ForServing;
 use crate::leftover::{Failure, Leftover};
-use crate::opening::{Files, FilesView, TextOpener};
+use crate::opening::{FilesView, Listens, Openers, TextOpener};
 use crate::output::{Outflow, write_out};
 use crate::unwritten::ShownImage;
 use lift_building::Building;
@@ -33,7 +31,12 @@ fn write_rows<W: Outflow>(alloc: Global, register: &Register, writer: &mut W) ->
     ensures front { OnErr result (WritesFront (W.contents writer.old) (W.contents writer.new)
         (register_text register.now)) }
     ensures fault { IfErr result (IsFileFault Output) }
-    ensures passed_on { IsPassedOnOrFailed W.gives W.flushes writer.old writer.new result }
+    ensures flushed { OnOk result (IsFlushed W.gives W.flushes writer.old writer.new) }
+    ensures failed { result ≡ Err (Fault.File Output)
+        → WriterHasFailed W.gives W.flushes writer.old writer.new }
+    // Memory is the fault only where no call failed but a flush.
+    ensures out_of_memory { result ≡ Err (Fault.Memory tt)
+        → WasTaken W.gives W.flushes writer.old writer.new }
     ensures unwritten { OnErr result ((W.contents writer.new ≡ W.contents writer.old)
         ⊎ WriterHasFailed W.gives W.flushes writer.old writer.new) }
 {
@@ -54,21 +57,11 @@ fn show_on<D: Disk + Drop, W: Outflow>(
     ensures shown { OnOk result.1 (ShowsRegister building.now (D.state disk) (D.state result.0)
         (Appends (W.contents writer.old) (W.contents writer.new))) }
     ensures flushed { OnOk result.1 (IsFlushed W.gives W.flushes writer.old writer.new) }
-    // or a prefix of them, where they can't be written.
-    ensures front { IfErr result.1 (λ fault. IsFileFault Output fault
-        → ShowsRegister building.now (D.state disk) (D.state result.0)
-        (WritesFront (W.contents writer.old) (W.contents writer.new))) }
-    // Where the recovery is refused its cause is answered, and nothing is written.
-    ensures refused { (fault : Refusal) → result.1 ≡ Err (OfJournal fault)
-        → RefusesReopening building.now (D.state disk) (D.state result.0) fault }
-    // Nothing is, unless the output fails, or that for want of memory.
-    ensures unwritten { IfErr result.1 (λ fault. (W.contents writer.new ≡ W.contents writer.old)
-        ⊎ (WriterHasFailed W.gives W.flushes writer.old writer.new × IsFileFault Output fault)) }
-    ensures fault { IfErr result.1 IsShowingFault }
+    // or the recovery was refused, or the output failed, or that for want of memory.
+    ensures unshown { IfErr result.1 (IsNotShown building.now (D.state disk) (D.state result.0)
+        (WriterHasFailed W.gives W.flushes writer.old writer.new) (W.contents writer.old)
+        (W.contents writer.new)) }
     ensures writes { (D.state result.0).writes ≡ (D.state disk).writes }
-    // The standard output is the fault only where it failed.
-    ensures failed { result.1 ≡ Err (Fault.File Output)
-        → WriterHasFailed W.gives W.flushes writer.old writer.new }
 {
     match Keeper::open(disk, building) {
         Ok(keeper) => {
@@ -83,33 +76,33 @@ fn show_on<D: Disk + Drop, W: Outflow>(
 /// `building`.
 #[inline(never)]
 #[tactic(auto, using(crate::proofs::Stages::reads_building))]
-pub fn show<B: TextOpener, I: FileOpener, W: Outflow>(
-    files: Files<B, I>,
+pub(crate) fn show<B: TextOpener, I: FileOpener, L: Listens, W: Outflow>(
+    openers: Openers<B, I, ForServing<L>>,
     alloc: Global,
     image: &str,
     building: &str,
     writer: &mut W,
 ) -> Result<Leftover<ShownImage<I::Told>>, Failure<ShownImage<I::Told>, I::Told, I>>
-    ensures shown { IfOk result (λ disk. IsShown (⟦<Files<B, I> as FilesView>⟧.view files) image.now
-        building.now disk (W.contents writer.old) (W.contents writer.new)) }
+    ensures shown { IfOk result (λ disk. IsShown (⟦<Openers<B, I, L> as FilesView>⟧.view openers)
+        image.now building.now disk (W.contents writer.old) (W.contents writer.new)) }
     ensures flushed { OnOk result (IsFlushed W.gives W.flushes writer.old writer.new) }
-    ensures front { OnErr result (ShowsPart (⟦<Files<B, I> as FilesView>⟧.view files) image.now
-        building.now (W.contents writer.old) (W.contents writer.new)) }
+    ensures front { OnErr result (ShowsPart (⟦<Openers<B, I, L> as FilesView>⟧.view openers)
+        image.now building.now (W.contents writer.old) (W.contents writer.new)) }
     ensures failure { IfErr result
-        (IsShowingFailure (⟦<Files<B, I> as FilesView>⟧.view files) image.now building.now) }
+        (IsShowingFailure (⟦<Openers<B, I, L> as FilesView>⟧.view openers) image.now building.now) }
     ensures portless { IfErr result (λ failure. fault_in failure ≢ Fault.Network) }
     // Nothing is written but the calls, and of these no prefix unless the output fails.
     ensures report { IfErr result (λ failure. IsReportOfFailure
         (WriterHasFailed W.gives W.flushes writer.old writer.new) failure (W.contents writer.old)
         (W.contents writer.new)) }
 {
-    let building = match building_in(files.building, alloc, building) {
+    let building = match building_in(openers.building, alloc, building) {
         Ok(building) => building,
-        Err(fault) => return Err(Failure::NoBuilding(fault, Leftover::new(files.image))),
+        Err(fault) => return Err(Failure::NoBuilding(fault, Leftover::new(openers.image))),
     };
-    let disk = match image_to_show(files.image, image) {
+    let disk = match image_to_show(openers.image, image) {
         Ok(disk) => disk,
-        Err(refused) => return Err(Failure::NoImage(refused)),
+        Err((fault, cause)) => return Err(Failure::NoImage(fault, cause)),
     };
     let (disk, outcome) = show_on(alloc, disk, &building, writer);
     match outcome {

@@ -1,20 +1,14 @@
 //! From the program's words to its end.
 
-ghost use Rattle.std.specs.Prelude.{ℕ, List, [], Option, map};
+ghost use Rattle.std.specs.Prelude.{[], map};
 ghost use Rattle.lift_program.specs.Ends.{IsEndOf, IsInputLeft, IsOutputOf, IsScriptEnd};
-ghost use Rattle.lift_program.specs.Ends.{IsServingEnd, KeepsIfServed, TellsLine, line_at_once};
-ghost use Rattle.lift_program.specs.Ends.{line_of, uncalled};
-ghost use Rattle.lift_program.specs.Listening.{local};
+ghost use Rattle.lift_program.specs.Ends.{KeepsIfServed, TellsLine, line_of, uncalled};
 ghost use Rattle.lift_program.specs.Output.{IsFlushed, WriterHasFailed};
-ghost use Rattle.lift_program.specs.Words.{AskForRequest};
-ghost use Rattle.lift_program.specs.declared.words.Request.TheVariants.{Serve};
-ghost use Rattle.clap.specs.Words.{Text};
 
 use crate::end::{End, EndBy};
-use crate::given::{Given, ToServe};
+use crate::given::Given;
 use crate::leftover::Leftover;
-use crate::listening::Listens;
-use crate::opening::{Files, FilesView, TextOpener};
+use crate::opening::{FilesView, Listens, Openers, TextOpener};
 use crate::output::Outflow;
 use crate::serve::serve;
 use lift_base::text::{Counted, Watched};
@@ -25,46 +19,6 @@ use std::io::{Read, Write};
 use std::sync::Wait;
 use std::thread::Threads;
 use std::time::Clock;
-
-/// Serves what the words ask to be served, once all that it takes was had, and answers how that ended.
-#[inline(never)]
-fn served<
-    F: Threads + Wait + Clock + Sync,
-    B: TextOpener,
-    I: FileOpener,
-    L: Listens,
-    W: Outflow,
-    E: Write + Drop,
->(
-    rt: &F,
-    asked: ToServe<'_, B, I, L, E>,
-    alloc: Global,
-    writer: &mut W,
-    errors: Watched<E>,
-) -> (EndBy<I, I::Told>, Watched<E>)
-    ensures end { (words : List Text) → AskForRequest words (Serve asked.entry.image
-        asked.entry.building asked.entry.port asked.entry.sessions asked.entry.policy)
-        → IsEndOf (⟦<Files<B, I> as FilesView>⟧.view asked.entry.openers.files)
-        (L.gives asked.entry.openers.socket local) words (W.contents writer.old)
-        (W.contents writer.new) result.0 }
-    ensures output { (input : Option (List ℕ)) → (words : List Text)
-        → IsOutputOf (IsFlushed W.gives W.flushes writer.old writer.new)
-        (WriterHasFailed W.gives W.flushes writer.old writer.new) input words result.0
-        (W.contents writer.old) (W.contents writer.new) }
-    // The line of a device that failed was written before the end, and no other.
-    ensures at_once { TellsLine E.contents (line_at_once result.0) errors result.1 }
-    ensures of_serving { IsServingEnd result.0 }
-{
-    let mut place = None;
-    let mut room = None;
-    match asked.made_ready(alloc, &mut place, &mut room, writer) {
-        Ok(ready) => {
-            let (serving, errors) = serve(rt, alloc, ready, errors);
-            (End::Served(Ok(serving)), errors)
-        }
-        Err(failure) => (End::Served(Err(failure)), errors),
-    }
-}
 
 /// Does what the words after the program's name ask for, and answers how that ended, whose `status` is the
 /// program's: 0 where all was done, 1 for a bad script or a fault, 2 for other words. A fault writes its line
@@ -92,12 +46,11 @@ pub fn start<
     errors: Watched<E>,
 ) -> (EndBy<I, I::Told>, Watched<E>, Leftover<Counted<R>>)
     // It did what the words ask for, and nothing else.
-    ensures end { IsEndOf (⟦<Files<B, I> as FilesView>⟧.view given.entry.files)
-        (L.gives given.entry.socket local) (map S.text given.entry.words.now)
-        (W.contents writer.old) (W.contents writer.new) result.0 }
+    ensures end { IsEndOf (⟦<Openers<B, I, L> as FilesView>⟧.view given.entry.openers)
+        (map S.text given.entry.words.now) (W.contents writer.old) (W.contents writer.new) result.0 }
     // A group that was served has kept every letter over power cuts, if its file is an honest device.
-    ensures keeps { KeepsIfServed (⟦<Files<B, I> as FilesView>⟧.view given.entry.files)
-        (L.gives given.entry.socket local) (map S.text given.entry.words.now) result.0 }
+    ensures keeps { KeepsIfServed (⟦<Openers<B, I, L> as FilesView>⟧.view given.entry.openers)
+        (map S.text given.entry.words.now) result.0 }
     // What was written is its report, passed on where all was done; one that failed over an image has
     // written nothing, or the output has failed.
     ensures output { IsOutputOf (IsFlushed W.gives W.flushes writer.old writer.new)
@@ -114,7 +67,10 @@ pub fn start<
 {
     let (input, outcome) = given.prepare(alloc, writer);
     let (end, mut errors) = match outcome {
-        Ok(asked) => served(rt, asked, alloc, writer, errors),
+        Ok(asked) => {
+            let (outcome, errors) = serve(rt, asked, alloc, writer, errors);
+            (End::Served(outcome), errors)
+        }
         Err(end) => (end, errors),
     };
     end.tell(&mut errors);

@@ -4,7 +4,7 @@
 
 use lift_base::text::Watched;
 use lift_disk::SystemOpener;
-use lift_program::{Files, Given, Openers, SystemSocket, SystemTextOpener, not_given, start};
+use lift_program::{Given, Host, Openers, not_given, start};
 use std::process::ExitCode;
 use std::{env, io};
 
@@ -15,13 +15,11 @@ fn given(rt: &HostRuntime) -> io::Result<Vec<String>> {
 }
 
 /// What the program opens its building, its image and its socket by.
-fn openers(rt: &HostRuntime) -> Openers<SystemTextOpener<'_>, SystemOpener<'_>, SystemSocket<'_>> {
+fn openers(rt: &HostRuntime) -> Openers<Host<'_>, SystemOpener<'_>, Host<'_>> {
     Openers {
-        files: Files {
-            building: SystemTextOpener::new(rt),
-            image: SystemOpener::new(rt),
-        },
-        socket: SystemSocket::new(rt),
+        building: Host::new(rt),
+        image: SystemOpener::new(rt),
+        socket: Host::new(rt),
     }
 }
 

@@ -3,7 +3,7 @@ use Rattle.lift_disk.specs.lemmas.Starts.{holds_then}
 use Rattle.lift_disk.specs.Files.{sector_file_state_of}
 use Rattle.lift_disk.specs.Holding.{HoldsTheSame}
 use Rattle.lift_program.specs.Unwritten.{unwritten_file_of, unwritten_state_of}
-use Rattle.lift_program.proofs.Stages.{is_opened, unwritten_holds}
+use Rattle.lift_program.proofs.Stages.{has_no_image, is_opened, unwritten_holds}
 use Rattle.lift_program.proofs.files.image_to_show.Goals as goal
 
 pub returns-in-Ok-clause-opened : goal.returns-in-Ok-clause-opened
@@ -13,3 +13,7 @@ returns-in-Ok-clause-opened g c =
     c.in-Ok.ensures.calls c.in-Ok.ensures.measured
     (λ honest. c.over-in-Ok.ensures.honest (subst (λ f. (sector_file_state_of g.I.Told.ToldFile.holds f).is_honest) (sym c.over.ensures.file) honest))
     (holds_then _ _ _ (subst (λ f. HoldsTheSame (sector_file_state_of g.I.Told.ToldFile.holds f) (unwritten_state_of g.I.Told.ToldFile.holds c.over.result)) c.over.ensures.file (unwritten_holds g.I.Told.ToldFile.holds c.over.result)) c.over-in-Ok.ensures.held)
+
+pub returns-in-Err-clause-no_image : goal.returns-in-Err-clause-no_image
+returns-in-Err-clause-no_image g c =
+    has_no_image _ _ c.in-Err.cause _ c.refused.ensures.same c.refused.ensures.fault c.refused.ensures.told c.in-Err.ensures.refused

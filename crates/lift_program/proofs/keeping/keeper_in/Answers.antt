@@ -1,5 +1,5 @@
 use Rattle.std.proofs.Common.{◌∙◌, refl}
-use Rattle.lift_program.proofs.Stages.{has_keeper, has_no_keeper, is_opened}
+use Rattle.lift_program.proofs.Stages.{has_keeper, has_no_image, has_no_keeper, is_opened}
 use Rattle.lift_program.proofs.keeping.keeper_in.Goals as goal
 
 pub returns-in-Ok-open-clause-opened : goal.returns-in-Ok-open-clause-opened
@@ -7,6 +7,10 @@ returns-in-Ok-open-clause-opened g c =
     has_keeper _ c.args.path.now c.args.building.now c.over.result c.in-Ok-open.keeper _ refl
     (is_opened _ _ _ _ _ _ c.in-Ok.file _ c.args.path.now c.over.ensures.below c.over.ensures.calls (c.over.ensures.failures ∙ c.in-Ok.ensures.failures) c.in-Ok.ensures.calls c.in-Ok.ensures.measured c.over.ensures.honest c.over.ensures.held)
     c.in-Ok-open.ensures.opens.reopens c.in-Ok-open.ensures.state c.in-Ok-open.ensures.opens.whole.0 c.in-Ok-open.ensures.opens.whole.1 c.in-Ok-open.ensures.opens.plan
+
+pub returns-in-Err-clause-failure : goal.returns-in-Err-clause-failure
+returns-in-Err-clause-failure g c =
+    has_no_image _ _ c.in-Err.cause _ c.refused-fault.ensures.same c.refused-fault.ensures.fault c.refused-fault.ensures.told c.in-Err.ensures.refused
 
 pub returns-in-Err-open-clause-failure : goal.returns-in-Err-open-clause-failure
 returns-in-Err-open-clause-failure g c =

@@ -4,32 +4,17 @@ use Rattle.std.specs.Io.KnownBytes.{Appends}
 use Rattle.lift_program.proofs.Flushing.{put_failed, takes_put}
 use Rattle.lift_program.proofs.output.write_out.Goals as goal
 
-pub returns-then-is_err-clause-passed_on : goal.returns-then-is_err-clause-passed_on
-returns-then-is_err-clause-passed_on g c = record {
-  flushed = tt;
-  failed = λ same. put_failed g.W.Outflow.gives g.W.Outflow.flushes c.args.bytes.now _ _ c.put_all.result (sym c.is_err.ensures.value ∙ c.if-is_err.true) c.put_all.ensures.within c.put_all.ensures.each_so_far;
-  out_of_memory = λ same. absurd (cc same);
-}
+pub returns-in-Ok-clause-flushed : goal.returns-in-Ok-clause-flushed
+returns-in-Ok-clause-flushed g c = (
+  c.put_all.new.writer,
+  takes_put g.W.Outflow.gives c.args.bytes.now _ _ c.put_all.result (sym c.is_err.ensures.value ∙ c.if-is_err.false) c.put_all.ensures.each,
+  c.in-Ok.ensures.flushed,
+)
 
-pub returns-in-Ok-clause-passed_on : goal.returns-in-Ok-clause-passed_on
-returns-in-Ok-clause-passed_on g c = record {
-  flushed = (
-    c.put_all.new.writer,
-    takes_put g.W.Outflow.gives c.args.bytes.now _ _ c.put_all.result (sym c.is_err.ensures.value ∙ c.if-is_err.false) c.put_all.ensures.each,
-    c.in-Ok.ensures.flushed,
-  );
-  failed = λ same. absurd (cc same);
-  out_of_memory = λ same. absurd (cc same);
-}
-
-pub returns-in-Err-clause-passed_on : goal.returns-in-Err-clause-passed_on
-returns-in-Err-clause-passed_on g c =
+pub returns-in-Err-clause-out_of_memory : goal.returns-in-Err-clause-out_of_memory
+returns-in-Err-clause-out_of_memory g c =
     let taken = takes_put g.W.Outflow.gives c.args.bytes.now _ _ c.put_all.result (sym c.is_err.ensures.value ∙ c.if-is_err.false) c.put_all.ensures.each in
-    record {
-      flushed = tt;
-      failed = λ same. inr (c.put_all.new.writer, taken, c.in-Err.ensures.failed);
-      out_of_memory = λ same. (c.put_all.new.writer, taken, inr c.in-Err.ensures.failed);
-    }
+    λ same. (c.put_all.new.writer, taken, inr c.in-Err.ensures.failed)
 
 pub returns-in-Err-clause-front : goal.returns-in-Err-clause-front
 returns-in-Err-clause-front g c = (

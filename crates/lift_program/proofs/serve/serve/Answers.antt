@@ -1,11 +1,19 @@
-use Rattle.std.proofs.Common.{rules, sym}
+use Rattle.std.proofs.Common.{ℕ, rules, subst, sym}
+use Rattle.std.specs.Io.KnownBytes.{Appends}
+use Rattle.lift_program.specs.Ends.{serving_text}
+use Rattle.lift_program.proofs.Asked.{served_end}
+use Rattle.lift_program.proofs.Stages.{is_whole_yet}
 use Rattle.lift_program.proofs.Telling.{heard_errors, told_at_once}
 use Rattle.lift_program.proofs.serve.serve.Goals as goal
 
-pub returns-clause-served : goal.returns-clause-served
-returns-clause-served g c =
+pub returns-clause-end : goal.returns-clause-end
+returns-clause-end g c =
+    let a = c.args.asked in
+    let of = c.in-Ok.ready.1 in
     let served = c.serve-served.result in
-    record {
+    let before = g.W.Outflow.contents c.args.writer.now in
+    let after = g.W.Outflow.contents c.made_ready.new.writer in
+    served_end _ before after a.image a.building a.port a.sessions a.policy of.allocator of.flusher of.bound _ c.in-Ok.ensures.ready c.in-Ok.ensures.port (record {
       b = served.allocator;
       g = served.flusher;
       is_left = sym c.left_served.ensures;
@@ -13,13 +21,21 @@ returns-clause-served g c =
       keeps = c.serve-served.ensures.keeps;
       told = search rules;
       reports = c.serve-served.ensures.reports;
-    }
+    })
+
+pub returns-clause-said : goal.returns-clause-said
+returns-clause-said g c =
+    let written = Appends (g.W.Outflow.contents c.args.writer.now) (g.W.Outflow.contents c.made_ready.new.writer) in
+    (c.in-Ok.ensures.flushed, subst (λ (p : ℕ). written (serving_text p)) (sym c.in-Ok.ensures.port) c.in-Ok.ensures.said)
 
 pub returns-clause-at_once : goal.returns-clause-at_once
 returns-clause-at_once g c =
     let contents = g.E.Write.contents in
-    let was = c.args.ready.group.flusher.writer.is_broken in
+    let of = c.in-Ok.ready.1 in
+    let ready = c.in-Ok.ensures.ready in
+    let was = of.flusher.writer.is_broken in
     let served = c.serve-served.result in
     let is = served.flusher.writer.is_broken in
-    told_at_once contents c.args.errors served.witness.errors was is served.end.fault c.fault_of.result c.requires (search rules)
+    let whole = is_whole_yet _ c.args.asked.policy ready.keeper of.allocator of.flusher ready.group ready.is_kept.whole in
+    told_at_once contents c.args.errors served.witness.errors was is served.end.fault c.fault_of.result whole (search rules)
     (heard_errors contents was is (record { errors = c.args.errors }) served.witness c.serve-served.ensures.heard)
