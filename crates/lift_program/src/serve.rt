@@ -12,7 +12,7 @@ ghost use Rattle.lift_program.specs.declared.words.Request.TheVariants.{Serve};
 use crate::at_once::{AtOnce, FAILED};
 use crate::fault::Fault;
 use crate::given::ToServe;
-use crate::keeping::left_served;
+use crate::given::ready::keeping::left_served;
 use crate::leftover::{Failure, Leftover};
 use crate::opening::{FilesView, Listens, Openers, TextOpener};
 use crate::output::Outflow;

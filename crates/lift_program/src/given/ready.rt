@@ -10,16 +10,18 @@ ghost use Rattle.lift_program.specs.Showing.{WritesFront};
 ghost use Rattle.lift_program.specs.Stages.{IsServingFailure, fault_in};
 ghost use Rattle.lift_program.specs.declared.fault.Role.TheVariants.{Output};
 
+pub(crate) mod keeping;
+
 use crate::fault::Fault;
 use crate::files::building_in;
 use crate::given::ToServe;
-use crate::keeping::{ImageKey, keeper_in, left_by, left_unserved};
 use crate::leftover::{Failure, Leftover};
 use crate::opening::{FilesView, Listens, Openers, TextOpener};
 use crate::output::{Outflow, write_out};
 use crate::refused::unprepared;
 use arrayvec::ArrayString;
 use itoa::Buffer;
+use keeping::{ImageKey, keeper_in, left_by, left_unserved};
 use lift_building::Building;
 use lift_disk::{BufferedFile, FileOpener};
 use lift_policy::Shipped;
@@ -85,7 +87,7 @@ impl<'w, B: TextOpener, I: FileOpener, L: Listens, E: Write + Drop> ToServe<'w, 
     /// Has all that it takes to serve the building on a port of this machine, with the journal in the
     /// file of its image, until so many connections have ended, and answers the port with it. The building
     /// stands in `place`, and the desk in `room`. That the port is served is said after all that can be
-    /// refused here. The group can't be let go: it is served, or `left_unserved`.
+    /// refused here. The group can't be let go: it is served, or this file alone has it `left_unserved`.
     #[inline(never)]
     pub(crate) fn made_ready<'d, 'b: 'd, W: Outflow>(
         self,
