@@ -11,7 +11,6 @@ mod format;
 mod given;
 mod grammar;
 mod help;
-mod keeping;
 mod leftover;
 mod listening;
 mod opening;

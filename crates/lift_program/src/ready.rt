@@ -10,9 +10,10 @@ ghost use Rattle.lift_program.specs.Showing.{WritesFront};
 ghost use Rattle.lift_program.specs.Stages.{IsServingFailure, fault_in};
 ghost use Rattle.lift_program.specs.declared.fault.Role.TheVariants.{Output};
 
+pub(crate) mod keeping;
+
 use crate::fault::Fault;
 use crate::files::building_in;
-use crate::keeping::{ImageKey, keeper_in, left_by, left_unserved};
 use crate::leftover::{Failure, Leftover};
 use crate::listening::Listens;
 use crate::opening::{Files, FilesView, Openers, TextOpener};
@@ -20,6 +21,7 @@ use crate::output::{Outflow, write_out};
 use crate::refused::unprepared;
 use arrayvec::ArrayString;
 use itoa::Buffer;
+use keeping::{ImageKey, keeper_in, left_by, left_unserved};
 use lift_building::Building;
 use lift_disk::{BufferedFile, Disk, FileOpener};
 use lift_policy::{Dispatching, Shipped};
@@ -49,8 +51,9 @@ impl<L> ForServing<L> {
     }
 }
 
-/// A building that is to be served on a port. It can't be let go: `serve` takes it, and by its group, where the
-/// line of its port can't be written, `left_unserved`. Whoever serves it tells an `E` that the device failed.
+/// A building that is to be served on a port. It can't be let go: only `serve` takes it, and of its group, where
+/// the line of its port can't be written, this file alone `left_unserved`. Whoever serves it tells an `E` that the
+/// device failed.
 pub(crate) struct Ready<'d, 'b, D: Disk + Drop, E> {
     pub(crate) port: u16,
     pub(crate) group: ReadyGroup<'d, 'b, D, Shipped, ImageKey<E>>,

@@ -7,9 +7,9 @@ ghost use Rattle.lift_program.specs.Serving.{IsServedOver};
 
 use crate::at_once::{AtOnce, FAILED};
 use crate::fault::Fault;
-use crate::keeping::left_served;
 use crate::leftover::Leftover;
 use crate::ready::Ready;
+use crate::ready::keeping::left_served;
 use crate::refused::refused_in;
 use lift_base::text::Watched;
 use lift_disk::Disk;

@@ -1,6 +1,6 @@
 use Rattle.std.proofs.Common.{◌∙◌, refl}
 use Rattle.lift_program.proofs.Stages.{has_keeper, has_no_keeper, is_opened}
-use Rattle.lift_program.proofs.keeping.keeper_in.Goals as goal
+use Rattle.lift_program.proofs.ready.keeping.keeper_in.Goals as goal
 
 pub returns-in-Ok-open-clause-opened : goal.returns-in-Ok-open-clause-opened
 returns-in-Ok-open-clause-opened g c =

@@ -58,9 +58,10 @@ pub fn left_by<D: Disk + Drop>(keeper: Keeper<'_, D>) -> Leftover<D>
     Leftover::new(keeper.into_disk())
 }
 
-/// The image as a group leaves it that nobody serves.
+/// The image as a group leaves it that nobody serves. Only what makes one ready calls this: whoever waits
+/// with it can only serve it.
 #[inline(never)]
-pub fn left_unserved<D: Disk + Drop, E: Write + Drop>(
+pub(super) fn left_unserved<D: Disk + Drop, E: Write + Drop>(
     group: ReadyGroup<'_, '_, D, Shipped, ImageKey<E>>,
 ) -> Leftover<D>
     ensures { result ≡ group.entry.flusher.writer.device }
