@@ -13,7 +13,7 @@ use crate::ready::keeping::left_served;
 use crate::refused::refused_in;
 use lift_base::text::Watched;
 use lift_disk::Disk;
-use lift_serve::{ServingEnd, ServingOutcome};
+use lift_serve::{Parts, ServingEnd};
 use std::alloc::Global;
 use std::io::Write;
 use std::sync::Wait;
@@ -62,11 +62,10 @@ pub(crate) fn serve<R: Threads + Wait + Clock + Sync, D: Disk + Drop, E: Write +
 {
     let Ready { port, group } = ready;
     let told = AtOnce { errors };
-    let served = lift_serve::serve(rt, alloc, group, told);
-    let ServingOutcome {
+    let (served, end) = lift_serve::serve(rt, alloc, group, told);
+    let Parts {
         allocator: _,
         flusher,
-        end,
         witness,
     } = served;
     let AtOnce { errors } = witness;

@@ -4,7 +4,7 @@ use Rattle.lift_program.proofs.serve.serve.Goals as goal
 
 pub returns-clause-served : goal.returns-clause-served
 returns-clause-served g c =
-    let served = c.serve-served.result in
+    let served = c.serve-served.result.0 in
     record {
       b = served.allocator;
       g = served.flusher;
@@ -19,7 +19,7 @@ pub returns-clause-at_once : goal.returns-clause-at_once
 returns-clause-at_once g c =
     let contents = g.E.Write.contents in
     let was = c.args.ready.group.flusher.writer.is_broken in
-    let served = c.serve-served.result in
+    let served = c.serve-served.result.0 in
     let is = served.flusher.writer.is_broken in
-    told_at_once contents c.args.errors served.witness.errors was is served.end.fault c.fault_of.result c.requires (search rules)
+    told_at_once contents c.args.errors served.witness.errors was is c.serve-served.result.1.fault c.fault_of.result c.requires (search rules)
     (heard_errors contents was is (record { errors = c.args.errors }) served.witness c.serve-served.ensures.heard)
