@@ -19,7 +19,7 @@ use crate::output::Outflow;
 use crate::refused::refused_in;
 use lift_base::text::Watched;
 use lift_disk::{BufferedFile, FileOpener};
-use lift_serve::{ServingEnd, ServingOutcome};
+use lift_serve::{Parts, ServingEnd};
 use std::alloc::Global;
 use std::io::Write;
 use std::sync::Wait;
@@ -91,11 +91,10 @@ pub(crate) fn serve<
         Err(failure) => return (Err(failure), errors),
     };
     let told = AtOnce { errors };
-    let served = lift_serve::serve(rt, alloc, group, told);
-    let ServingOutcome {
+    let (served, end) = lift_serve::serve(rt, alloc, group, told);
+    let Parts {
         allocator: _,
         flusher,
-        end,
         witness,
     } = served;
     let AtOnce { errors } = witness;

@@ -1,5 +1,4 @@
 pub mod FirstLines
-pub mod Pagers
 pub mod Places
 pub mod Relayings
 pub mod Sessions

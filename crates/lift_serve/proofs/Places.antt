@@ -1,53 +1,66 @@
--- Places of which nobody's seat is taken.
-use Rattle.std.proofs.Common.{◌≡◌, ℕ, suc, zero, List, [], ◌∷◌, ◌++◌, ap, sym, refl, ◌∙◌, inl, inr, length, length-set, subst, arith}
-use Rattle.std.specs.Prelude.{Option, Some, None, slice_get, slice_set, ◌⊎◌, ◌+◌, ◌≤◌}
-use Rattle.std.proofs.lemmas.List.{append-nil}
+-- Pagers and seats that stand by terminal.
+use Rattle.std.proofs.Common.{◌≡◌, ◌<◌, ℕ, suc, zero, List, [], ◌∷◌, ◌++◌, ap, sym, refl, ◌∙◌, length, length-set, subst, arith, append_assoc, get_or}
+use Rattle.std.specs.Prelude.{Option, Some, None, IfSome, slice_get, slice_set, ◌+◌, ◌≤◌}
+use Rattle.std.proofs.lemmas.List.{append-nil, length-map, nil_from_length}
+use Rattle.std.proofs.lemmas.Option.{slice_get-get_or}
 use Rattle.atomic_table.specs.Seated.{TableId}
 use Rattle.lift_desk.specs.Rule.{no_asks}
 use Rattle.lift_desk.specs.Seats.{TerminalSeat, seats_from}
-use Rattle.lift_register.specs.Register.{RegisterState, last_of}
-use Rattle.lift_serve.specs.Lobby.{IsLobbyOf, found_seats, found_at}
-use Rattle.lift_serve.specs.Visits.{AreAsFound, AreAtTheirPlaces, HeldState, known_of}
+use Rattle.lift_register.specs.Register.{RegisterState}
+use Rattle.lift_serve.specs.Lobby.{AreAtTheirPlaces, AreInOrder, IsLobbyOf, StandEach, found_seats, found_at}
+use Rattle.lift_serve.specs.Visits.{HeldState}
 
--- what is found after a place's setting was there before, or is what was set
-found_in : (places : List (Option HeldState)) (at place : ℕ) (seat : Option HeldState) (held : HeldState) → slice_get (slice_set places at seat) place ≡ Some (Some held)
-    → (slice_get places place ≡ Some (Some held)) ⊎ ((place ≡ at) × (seat ≡ Some held))
-found_in [] zero place seat held is = inl is
-found_in [] (suc at) place seat held is = inl is
-found_in (first ∷ places) zero zero seat held is = inr (refl, cc)
-found_in (first ∷ places) zero (suc place) seat held is = inl is
-found_in (first ∷ places) (suc at) zero seat held is = inl is
-found_in (first ∷ places) (suc at) (suc place) seat held is = behind (found_in places at place seat held is)
-  where
-    behind : (slice_get places place ≡ Some (Some held)) ⊎ ((place ≡ at) × (seat ≡ Some held)) → (slice_get places place ≡ Some (Some held)) ⊎ ((suc place ≡ suc at) × (seat ≡ Some held))
-    behind (inl before) = inl before
-    behind (inr set) = inr (ap suc set.0, set.1)
+-- where each stands at its place, and one more is put there, at the end or in another's place
+set_each : {X : Type 0} (IsOf : X → ℕ → Type 0) (all : List X) (at : ℕ) (one : X) → StandEach IsOf all → IsOf one at → StandEach IsOf (slice_set all at one)
+set_each IsOf [] zero one each own place other is = each place other is
+set_each IsOf [] (suc at) one each own place other is = each place other is
+set_each {X} IsOf (first ∷ all) zero one each own zero other is = let same : one ≡ other = cc in subst (λ (x : X). IsOf x zero) same own
+set_each IsOf (first ∷ all) zero one each own (suc place) other is = each (suc place) other is
+set_each IsOf (first ∷ all) (suc at) one each own zero other is = each zero other is
+set_each {X} IsOf (first ∷ all) (suc at) one each own (suc place) other is =
+    set_each (λ (x : X) (n : ℕ). IsOf x (suc n)) all at one (λ n x. each (suc n) x) own place other is
 
-stays_own : (places : List (Option HeldState)) (at : ℕ) (held : HeldState) → AreAtTheirPlaces places → held.seat.terminal ≡ at → AreAtTheirPlaces (slice_set places at (Some held))
-stays_own places at held are own place other is = go (found_in places at place (Some held) other is)
-  where
-    go : (slice_get places place ≡ Some (Some other)) ⊎ ((place ≡ at) × (Some held ≡ Some other)) → other.seat.terminal ≡ place
-    go (inl before) = are place other before
-    go (inr set) = let same : held ≡ other = (let e = set.1 in cc) in sym (ap (λ (h : HeldState). h.seat.terminal) same) ∙ (own ∙ sym set.0)
+push_each : {X : Type 0} (IsOf : X → ℕ → Type 0) (all : List X) (one : X) → StandEach IsOf all → IsOf one (length all) → StandEach IsOf (all ++ one ∷ [])
+push_each {X} IsOf [] one each own zero other is = let same : one ≡ other = cc in subst (λ (x : X). IsOf x zero) same own
+push_each IsOf [] one each own (suc place) other is = absurd (cc)
+push_each IsOf (first ∷ all) one each own zero other is = each zero other is
+push_each {X} IsOf (first ∷ all) one each own (suc place) other is =
+    push_each (λ (x : X) (n : ℕ). IsOf x (suc n)) all one (λ n x. each (suc n) x) own place other is
 
-stays_vacant : (places : List (Option HeldState)) (at : ℕ) → AreAtTheirPlaces places → AreAtTheirPlaces (slice_set places at None)
-stays_vacant places at are place held is = go (found_in places at place None held is)
-  where
-    go : (slice_get places place ≡ Some (Some held)) ⊎ ((place ≡ at) × (None ≡ Some held)) → held.seat.terminal ≡ place
-    go (inl before) = are place held before
-    go (inr set) = absurd (let e = set.1 in cc)
+-- pagers that stand by terminal
+pub none_in_order : AreInOrder []
+none_in_order zero terminal is = absurd (cc)
+none_in_order (suc place) terminal is = absurd (cc)
+
+pub one_pager_more : (pagers : List ℕ) (last : ℕ) → AreInOrder pagers → last ≡ length pagers → AreInOrder (pagers ++ last ∷ [])
+one_pager_more pagers last are next = push_each (λ terminal place. terminal ≡ place) pagers last are next
+
+pub own_pager : (pagers : List ℕ) (terminal other : ℕ) → AreInOrder pagers → terminal < length pagers → get_or pagers terminal other ≡ terminal
+own_pager pagers terminal other are few = are terminal (get_or pagers terminal other) (slice_get-get_or pagers terminal other few)
+
+-- places of which nobody's seat is taken
+abbrev is_own : Option HeldState → ℕ → Type 0
+is_own seat place = IfSome seat (λ (held : HeldState). held.seat.terminal ≡ place)
+
+pub none_placed : AreAtTheirPlaces []
+none_placed zero seat is = absurd (cc)
+none_placed (suc place) seat is = absurd (cc)
+
+pub one_place_more : (places : List (Option HeldState)) (held : HeldState) → AreAtTheirPlaces places → held.seat.terminal ≡ length places
+    → AreAtTheirPlaces (places ++ Some held ∷ [])
+one_place_more places held are next = push_each is_own places (Some held) are next
 
 pub own_place : (desk : List TableId) (places : List (Option HeldState)) (at : ℕ) (held : HeldState) → IsLobbyOf desk places → held.seat.terminal ≡ at
     → IsLobbyOf desk (slice_set places at (Some held))
 own_place desk places at held lobby own =
-    record { own = stays_own places at held lobby.own own; all = length-set places at (Some held) ∙ lobby.all }
+    record { own = set_each is_own places at (Some held) lobby.own own; all = length-set places at (Some held) ∙ lobby.all }
 
 pub vacant_place : (desk : List TableId) (places : List (Option HeldState)) (at : ℕ) → IsLobbyOf desk places → IsLobbyOf desk (slice_set places at None)
-vacant_place desk places at lobby = record { own = stays_vacant places at lobby.own; all = length-set places at None ∙ lobby.all }
+vacant_place desk places at lobby = record { own = set_each is_own places at None lobby.own tt; all = length-set places at None ∙ lobby.all }
 
 pub is_at_its_place : (desk : List TableId) (places : List (Option HeldState)) (at : ℕ) (held : HeldState) → IsLobbyOf desk places → slice_get places at ≡ Some (Some held)
     → held.seat.terminal ≡ at
-is_at_its_place desk places at held lobby is = lobby.own at held is
+is_at_its_place desk places at held lobby is = lobby.own at (Some held) is
 
 past : (places : List (Option HeldState)) (at : ℕ) → slice_get places at ≡ None → length places ≤ at
 past [] at is = omega arith
@@ -76,95 +89,29 @@ next_terminal first (table ∷ desk) (one ∷ before) seat rest is =
     let behind : before ++ seat ∷ rest ≡ seats_from (suc first) desk = cc in
     next_terminal (suc first) desk before seat rest behind ∙ omega arith
 
-so_many : (register : RegisterState) (desk : List TableId) (seats : List TerminalSeat) → length (found_seats register desk seats) ≡ length seats
-so_many register desk [] = refl
-so_many register desk (seat ∷ seats) = ap suc (so_many register desk seats)
-
-one_later : (before : List TerminalSeat) (seat : TerminalSeat) (rest : List TerminalSeat) → (before ++ seat ∷ []) ++ rest ≡ before ++ seat ∷ rest
-one_later [] seat rest = refl
-one_later (one ∷ before) seat rest = ap (λ (l : List TerminalSeat). one ∷ l) (one_later before seat rest)
-
 -- a seat goes from those that are left to those that came
 pub one_taken_more : (desk : List TableId) (before : List TerminalSeat) (seat : TerminalSeat) (left rest : List TerminalSeat) → before ++ left ≡ seats_from 0 desk → left ≡ seat ∷ rest
     → (before ++ seat ∷ []) ++ rest ≡ seats_from 0 desk
 one_taken_more desk before seat left rest split first =
-    one_later before seat rest ∙ (ap (λ (l : List TerminalSeat). before ++ l) (sym first) ∙ split)
+    append_assoc before (seat ∷ []) rest ∙ (ap (λ (l : List TerminalSeat). before ++ l) (sym first) ∙ split)
 
 -- the next seat's place is after those that were received
 pub next_place : (register : RegisterState) (desk : List TableId) (before : List TerminalSeat) (seat : TerminalSeat) (left rest : List TerminalSeat) (held : HeldState) (places : List (Option HeldState))
     → before ++ left ≡ seats_from 0 desk → left ≡ seat ∷ rest → held ≡ found_at register desk seat → places ≡ found_seats register desk before
     → held.seat.terminal ≡ length places
 next_place register desk before seat left rest held places split first is are =
-    let many : length places ≡ length before = ap length are ∙ so_many register desk before in
+    let many : length places ≡ length before = ap length are ∙ length-map before _ in
     let at : seat.terminal ≡ 0 + length before = next_terminal 0 desk before seat rest (ap (λ (l : List TerminalSeat). before ++ l) (sym first) ∙ split) in
     let own : held.seat.terminal ≡ seat.terminal = ap (λ (h : HeldState). h.seat.terminal) is in
     own ∙ (at ∙ (omega arith ∙ sym many))
-
-found_each : (register : RegisterState) (desk tables : List TableId) (first : ℕ) (place : ℕ) (held : HeldState)
-    → slice_get (found_seats register desk (seats_from first tables)) place ≡ Some (Some held)
-    → (held.desk ≡ desk) × (held.found ≡ known_of (last_of register (first + place))) × (held.last ≡ held.found)
-found_each register desk [] first zero held is = absurd (cc)
-found_each register desk [] first (suc place) held is = absurd (cc)
-found_each register desk (table ∷ tables) first zero held is =
-    let same : record { desk = desk; seat = record { table = table; terminal = first; view = no_asks }; last = known_of (last_of register first); found = known_of (last_of register first) } ≡ held = cc in
-    let at : first ≡ first + 0 = omega arith in
-    subst (λ (h : HeldState). (h.desk ≡ desk) × (h.found ≡ known_of (last_of register (first + 0))) × (h.last ≡ h.found)) same
-    (refl, ap (λ (t : ℕ). known_of (last_of register t)) at, refl)
-found_each register desk (table ∷ tables) first (suc place) held is =
-    let there = found_each register desk tables (suc first) place held is in
-    let at : suc first + place ≡ first + suc place = omega arith in
-    (there.0, there.1 ∙ ap (λ (t : ℕ). known_of (last_of register t)) at, there.2)
-
-front_found : (register : RegisterState) (desk : List TableId) (before rest : List TerminalSeat) (place : ℕ) (held : HeldState)
-    → slice_get (found_seats register desk before) place ≡ Some (Some held) → slice_get (found_seats register desk (before ++ rest)) place ≡ Some (Some held)
-front_found register desk [] rest zero held is = absurd (cc)
-front_found register desk [] rest (suc place) held is = absurd (cc)
-front_found register desk (one ∷ before) rest zero held is = is
-front_found register desk (one ∷ before) rest (suc place) held is = front_found register desk before rest place held is
-
--- seats of a desk, from the first one on, with what a register knows of their terminals
-pub all_as_found : (register : RegisterState) (desk : List TableId) (before rest : List TerminalSeat) (places : List (Option HeldState)) → before ++ rest ≡ seats_from 0 desk
-    → places ≡ found_seats register desk before → AreAsFound register desk places
-all_as_found register desk before rest places split are place held is =
-    let here : slice_get (found_seats register desk before) place ≡ Some (Some held) = subst (λ (l : List (Option HeldState)). slice_get l place ≡ Some (Some held)) are is in
-    let whole = front_found register desk before rest place held here in
-    let there = found_each register desk desk 0 place held (subst (λ (seats : List TerminalSeat). slice_get (found_seats register desk seats) place ≡ Some (Some held)) split whole) in
-    let at : 0 + place ≡ place = omega arith in
-    (there.0, there.1 ∙ ap (λ (t : ℕ). known_of (last_of register t)) at, there.2)
-
-own_each : (register : RegisterState) (desk tables : List TableId) (first : ℕ) (place : ℕ) (held : HeldState)
-    → slice_get (found_seats register desk (seats_from first tables)) place ≡ Some (Some held) → held.seat.terminal ≡ first + place
-own_each register desk [] first zero held is = absurd (cc)
-own_each register desk [] first (suc place) held is = absurd (cc)
-own_each register desk (table ∷ tables) first zero held is =
-    let same : record { desk = desk; seat = record { table = table; terminal = first; view = no_asks }; last = known_of (last_of register first); found = known_of (last_of register first) } ≡ held = cc in
-    let at : first ≡ first + 0 = omega arith in
-    sym (ap (λ (h : HeldState). h.seat.terminal) same) ∙ at
-own_each register desk (table ∷ tables) first (suc place) held is =
-    let at : suc first + place ≡ first + suc place = omega arith in
-    own_each register desk tables (suc first) place held is ∙ at
 
 as_many : (first : ℕ) (desk : List TableId) → length (seats_from first desk) ≡ length desk
 as_many first [] = refl
 as_many first (table ∷ tables) = ap suc (as_many (suc first) tables)
 
--- the places of all seats of a desk are a lobby
-pub is_lobby : (register : RegisterState) (desk : List TableId) (seats : List TerminalSeat) (places : List (Option HeldState)) → places ≡ found_seats register desk seats
-    → seats ≡ seats_from 0 desk → IsLobbyOf desk places
-is_lobby register desk seats places are all =
-    let whole : places ≡ found_seats register desk (seats_from 0 desk) = are ∙ ap (found_seats register desk) all in
-    record {
-      own = λ place held is. own_each register desk desk 0 place held (subst (λ (l : List (Option HeldState)). slice_get l place ≡ Some (Some held)) whole is) ∙ omega arith;
-      all = ap length whole ∙ (so_many register desk (seats_from 0 desk) ∙ as_many 0 desk);
-    }
-
-no_more : (l : List TerminalSeat) → length l ≡ 0 → l ≡ []
-no_more [] is = refl
-no_more (seat ∷ l) is = absurd (omega (arith, is))
-
--- as far as nothing is left after those that came
+-- a lobby, as far as nothing is left after those that came
 pub is_lobby_after : (register : RegisterState) (desk : List TableId) (before rest : List TerminalSeat) (places : List (Option HeldState)) → before ++ rest ≡ seats_from 0 desk
-    → length rest ≡ 0 → places ≡ found_seats register desk before → IsLobbyOf desk places
-is_lobby_after register desk before rest places split none are =
-    let all : before ≡ seats_from 0 desk = sym (append-nil before) ∙ (ap (λ (l : List TerminalSeat). before ++ l) (sym (no_more rest none)) ∙ split) in
-    is_lobby register desk before places are all
+    → length rest ≡ 0 → places ≡ found_seats register desk before → AreAtTheirPlaces places → IsLobbyOf desk places
+is_lobby_after register desk before rest places split none are own =
+    let all : before ≡ seats_from 0 desk = sym (append-nil before) ∙ (ap (λ (l : List TerminalSeat). before ++ l) (sym (nil_from_length rest none)) ∙ split) in
+    record { own = own; all = ap length are ∙ (length-map before _ ∙ (ap length all ∙ as_many 0 desk)) }

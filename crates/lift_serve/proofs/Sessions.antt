@@ -33,10 +33,6 @@ car_visit terminal end before after near session =
     let car : nat_lt terminal 16 ≡ true = grind (arith, nat_tests) in
     subst (λ is_car. IsVisitAs is_car end before after) (sym car) session
 
--- a visit of the same terminal
-pub visit_of : (own terminal : ℕ) (end : End) (before after : Standing) → terminal ≡ own → IsVisit terminal end before after → IsVisit own end before after
-visit_of own terminal end before after same visit = subst (λ (t : ℕ). IsVisit t end before after) same visit
-
 one_more : (terminal : ℕ) (last : LastLetter) (port : PortView) (vs : List SessionVisit) (last' : LastLetter) (port' : PortView) → AreVisits terminal last port vs last' port'
     → (v : SessionVisit) → v.before.last ≡ last' → v.before.port ≡ port' → IsVisit terminal v.end v.before v.after
     → AreVisits terminal last port (vs ++ v ∷ []) v.after.last (unrested v.after.port)
@@ -63,14 +59,15 @@ served_on held held' end source source' sink sink' served visits seated =
     }
 
 -- A session over a new port, whose seat is kept.
-pub made_visit : (held : HeldState) (last' : LastLetter) (seat' : TerminalSeat) (end : End) (source source' : Source) (sink sink' : Sink) (first mid : DeskPortState)
+pub made_visit : (held : HeldState) (last' : LastLetter) (seat' : TerminalSeat) (end : End) (source source' : Source) (sink sink' : Sink) (first mid : DeskPortState) (terminal : ℕ)
     → first ≡ record { desk = held.desk; seat = held.seat; rests = 0 } → place_of mid ≡ place_of first → seat' ≡ mid.seat
-    → IsVisit held.seat.terminal end (standing held.last (port_view first.seat.view first.rests) source sink) (standing last' (port_view mid.seat.view mid.rests) source' sink')
+    → terminal ≡ held.seat.terminal → IsVisit terminal end (standing held.last (port_view first.seat.view first.rests) source sink) (standing last' (port_view mid.seat.view mid.rests) source' sink')
     → Visits held end (record { desk = held.desk; seat = seat'; last = last'; found = held.found }) source source' sink sink'
-made_visit held last' seat' end source source' sink sink' first mid new stays is visit =
+made_visit held last' seat' end source source' sink sink' first mid terminal new stays is same visit =
     let place : place_of mid ≡ place_of (record { desk = held.desk; seat = held.seat; rests = 0 }) = stays ∙ ap place_of new in
     let begins : IsVisit held.seat.terminal end (standing held.last (view_of held.seat) source sink) (standing last' (port_view mid.seat.view mid.rests) source' sink') =
-    subst (λ (p : DeskPortState). IsVisit held.seat.terminal end (standing held.last (port_view p.seat.view p.rests) source sink) (standing last' (port_view mid.seat.view mid.rests) source' sink')) new visit in
+    subst (λ (p : DeskPortState × ℕ). IsVisit p.1 end (standing held.last (port_view p.0.seat.view p.0.rests) source sink) (standing last' (port_view mid.seat.view mid.rests) source' sink'))
+    (λ i. (new i, same i)) visit in
     record {
       rests = mid.rests;
       visit = subst (λ (s : TerminalSeat). IsVisit held.seat.terminal end (standing held.last (view_of held.seat) source sink) (standing last' (port_view s.view mid.rests) source' sink')) (sym is) begins;

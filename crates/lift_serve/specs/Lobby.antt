@@ -1,9 +1,9 @@
 -- Where seats wait, and what is known of one that doesn't.
-use Rattle.std.specs.Prelude.{ℕ, ◌≡◌, Bool, List, map, Option, Some, length, slice_get}
+use Rattle.std.specs.Prelude.{ℕ, ◌≡◌, Bool, List, map, Option, Some, IfSome, length, slice_get}
 use Rattle.atomic_table.specs.Seated.{TableId}
 use Rattle.lift_desk.specs.Seats.{TerminalSeat}
 use Rattle.lift_register.specs.Register.{RegisterState, last_of}
-use Rattle.lift_serve.specs.Visits.{AreAtTheirPlaces, HeldState, known_of}
+use Rattle.lift_serve.specs.Visits.{HeldState, known_of}
 
 -- a lobby: its desk's tables, and the places of the desk's terminals, by terminal; the seat of a
 -- place may be out
@@ -18,19 +18,20 @@ pub record NoSeatState : Type 0 where
   pub terminal : ℕ
   pub is_out : Bool
 
+-- each of these is of its place
+abbrev pub StandEach : {X : Type 0} → (IsOf : X → ℕ → Type 0) → List X → Type 0
+StandEach {X} IsOf all = (place : ℕ) (one : X) → slice_get all place ≡ Some one → IsOf one place
+
+-- each seat that waits is that of its place's terminal
+abbrev pub AreAtTheirPlaces : List (Option HeldState) → Type 0
+AreAtTheirPlaces =
+    StandEach (λ seat place. IfSome seat (λ (held : HeldState). held.seat.terminal ≡ place))
+
 -- There is a place for each terminal of the desk, and each seat that waits is that of its place's
 -- terminal.
 pub record IsLobbyOf (desk : List TableId) (places : List (Option HeldState)) : Type 0 where
   pub own : AreAtTheirPlaces places
   pub all : length places ≡ length desk
-
--- The place that was taken out, whatever was said at its seat meanwhile: the same seat of the same
--- desk, and the same that the recovery found.
-pub record IsSamePlace (taken held : HeldState) : Type 0 where
-  pub desk : held.desk ≡ taken.desk
-  pub table : held.seat.table ≡ taken.seat.table
-  pub terminal : held.seat.terminal ≡ taken.seat.terminal
-  pub found : held.found ≡ taken.found
 
 -- a new seat's place, with what a register has of its terminal's last command
 abbrev pub found_at : RegisterState → List TableId → TerminalSeat → HeldState
@@ -49,4 +50,4 @@ found_seats register desk seats =
 
 -- each pager is that of its place's terminal
 abbrev pub AreInOrder : List ℕ → Type 0
-AreInOrder pagers = (place terminal : ℕ) → slice_get pagers place ≡ Some terminal → terminal ≡ place
+AreInOrder = StandEach (λ terminal place. terminal ≡ place)

@@ -16,7 +16,6 @@ use Rattle.lift_parts.specs.Flusher.{FlusherState, IsFlusher}
 use Rattle.lift_parts.specs.History.{group_after}
 use Rattle.lift_parts.specs.Parts.{AreParts}
 use Rattle.lift_serve.specs.Lobby.{LobbyState, found_seats}
-use Rattle.lift_serve.specs.Visits.{AreAsFound}
 
 -- Both parts of a clerk with this policy over this keeper, at a desk with a seat for each terminal that its
 -- building may have, 16 cars and its kiosks. It had taken and answered nothing there. A crash leaves what
@@ -40,4 +39,3 @@ pub record IsFullLobby (register : RegisterState) (desk : List TableId)
     (lobby : LobbyState) : Type 0 where
   pub desk_is : lobby.desk ≡ desk
   pub all : lobby.places ≡ found_seats register desk (seats_from 0 desk)
-  pub found : AreAsFound register desk lobby.places

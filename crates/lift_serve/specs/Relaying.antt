@@ -1,6 +1,6 @@
 -- What becomes of both parts of a clerk that two threads run.
 use Rattle.std.specs.Prelude.{◌≡◌, ◌≢◌, Bool, true, false, ◌||◌, List, Option}
-use Rattle.std.specs.Prelude.{Some, None}
+use Rattle.std.specs.Prelude.{Some}
 use Rattle.lift_base.specs.declared.history.Entry.{Entry}
 use Rattle.lift_disk.specs.Disk.{DiskState}
 use Rattle.lift_register.specs.Register.{RegisterState}

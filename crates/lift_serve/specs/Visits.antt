@@ -1,6 +1,5 @@
 -- A terminal's sessions, one after the other.
 use Rattle.std.specs.Prelude.{ℕ, ◌≡◌, Bool, true, false, nat_lt, List, [], ◌∷◌, Option, Some, None}
-use Rattle.std.specs.Prelude.{slice_get}
 use Rattle.lift_desk.specs.Rule.{no_asks}
 use Rattle.atomic_table.specs.Seated.{TableId}
 use Rattle.lift_base.specs.Output.{Sink}
@@ -17,7 +16,6 @@ use Rattle.lift_kiosk.specs.declared.terms.End.{End}
 use Rattle.lift_kiosk.specs.declared.terms.LastLetter.{LastLetter}
 use Rattle.lift_kiosk.specs.declared.terms.Limits.{Limits}
 use Rattle.lift_car.specs.Lines.{WantsMove, keeps_stop}
-use Rattle.lift_register.specs.Register.{RegisterState, last_of}
 
 -- nobody has asked at the seat
 abbrev pub IsNewSeat : TerminalSeat → Type 0
@@ -95,16 +93,3 @@ letter_in (Stopped floor dir) = None
 abbrev pub known_of : Option Last → LastLetter
 known_of None = record { number = 0; letter = None }
 known_of (Some last) = record { number = last.number; letter = letter_in last.content }
-
--- Each seat that waits is of this desk, and what is known of its terminal's last command is what
--- the register has of it.
-abbrev pub AreAsFound : RegisterState → List TableId → List (Option HeldState) → Type 0
-AreAsFound register desk places = (place : ℕ) (held : HeldState)
-    → slice_get places place ≡ Some (Some held)
-    → (held.desk ≡ desk) × (held.found ≡ known_of (last_of register place))
-    × (held.last ≡ held.found)
-
--- each seat that waits is that of its place's terminal
-abbrev pub AreAtTheirPlaces : List (Option HeldState) → Type 0
-AreAtTheirPlaces places = (place : ℕ) (held : HeldState) → slice_get places place ≡ Some (Some held)
-    → held.seat.terminal ≡ place

@@ -1,16 +1,14 @@
 //! One connection, from its first line to its end.
 
-ghost use Rattle.std.specs.Prelude.{◌≡◌, ℕ, List, IfOk, IfErr, IfSome, IfNone, length};
-ghost use Rattle.std.specs.Str.Lines.{strip_carriage_return};
+ghost use Rattle.std.specs.Prelude.{◌≡◌, ℕ, List, IfOk, IfErr, length};
 ghost use Rattle.lift_base.specs.Output.{sink_of};
 ghost use Rattle.lift_kiosk.specs.Lines.{GivesLine, Keeps65, Source, source_of};
 ghost use Rattle.lift_serve.specs.Connections.{Attends, CallsUpTo, EndsWithoutLine, IsSaid};
 ghost use Rattle.lift_serve.specs.Connections.{Names, first_reads};
-ghost use Rattle.lift_serve.specs.FirstLine.{SpeaksFor};
 
-use crate::connections::Ticket;
 use crate::first_line::terminal_of;
 use crate::pace::Pace;
+use crate::prepared::connections::Ticket;
 use crate::prepared::seating::{Lobby, NoSeat, SeatReturn};
 use crate::present::PresentCars;
 use lift_base::Terminal;
@@ -91,18 +89,6 @@ fn say<O: Write + Drop>(writer: &mut Watched<O>, bytes: &[u8])
     }
 }
 
-/// The terminal of the building that a first line names.
-fn terminal_in(building: &Building, line: &Line) -> Option<Terminal>
-    ensures some { (bytes : List ℕ) → Keeps65 bytes line.now.bytes.items line.now.is_longer
-        → IfSome result (λ terminal. SpeaksFor (length building.now.cars)
-        (length building.now.kiosks) (strip_carriage_return bytes) terminal) }
-    ensures none { (bytes : List ℕ) → Keeps65 bytes line.now.bytes.items line.now.is_longer
-        → IfNone result ((terminal : ℕ) → SpeaksFor (length building.now.cars)
-        (length building.now.kiosks) (strip_carriage_return bytes) terminal → ⊥) }
-{
-    terminal_of(line, building.cars(), building.kiosks())
-}
-
 /// What comes of a connection whose first line names this terminal.
 fn outcome_of<'d, R: Wait + Clock, I: Read + Drop, O: Write + Drop>(
     rt: &R,
@@ -120,8 +106,8 @@ fn outcome_of<'d, R: Wait + Clock, I: Read + Drop, O: Write + Drop>(
         (sink_of O.contents writer.old) (sink_of O.contents writer.new) }
 {
     let taken = lobby.lock(rt).take(ticket, terminal);
-    let (held, vacancy) = match taken {
-        Ok(taken) => taken,
+    let held = match taken {
+        Ok(held) => held,
         Err(no_seat) => {
             if no_seat.is_out() {
                 say(writer, b"BUSY\n");
@@ -132,7 +118,7 @@ fn outcome_of<'d, R: Wait + Clock, I: Read + Drop, O: Write + Drop>(
         }
     };
     let (held, end) = held.visit(rt, pace, present, reader, writer);
-    Outcome::Visited(lobby.lock(rt).put_back(held, vacancy), end)
+    Outcome::Visited(lobby.lock(rt).put_back(held), end)
 }
 
 /// Reads the first line, and serves the terminal that it names. Where the line names none of the
@@ -153,7 +139,7 @@ pub fn attend<'d, R: Wait + Clock, I: Read + Drop, O: Write + Drop>(
         (sink_of O.contents writer.old) (sink_of O.contents writer.new) }
 {
     let outcome = match read_first(reader) {
-        Ok(line) => match terminal_in(building, &line) {
+        Ok(line) => match terminal_of(&line, building) {
             Some(terminal) => {
                 outcome_of(rt, lobby, ticket, pace, present, terminal, reader, writer)
             }

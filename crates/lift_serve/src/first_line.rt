@@ -1,12 +1,13 @@
 //! The first line of a connection, which says for which terminal it speaks.
 
-ghost use Rattle.std.specs.Prelude.{◌≡◌, ◌∷◌, ◌≤◌, ℕ, List, map, codes, IfSome, IfNone};
+ghost use Rattle.std.specs.Prelude.{◌≡◌, ◌∷◌, ◌≤◌, ℕ, List, map, codes, length, IfSome, IfNone};
 ghost use Rattle.std.specs.Str.Lines.{strip_carriage_return};
 ghost use Rattle.lift_kiosk.specs.Lines.{Keeps65};
 ghost use Rattle.lift_serve.specs.FirstLine.{AreTerminalWords, IsCarWord, IsKioskWord, SpeaksFor};
 
 use lift_base::Terminal;
 use lift_base::text::{letter_of_word, number_up_to};
+use lift_building::Building;
 use lift_kiosk::{Line, without_return, words_in};
 
 /// The kiosk of a building with so many that a word names.
@@ -58,20 +59,20 @@ fn named_by(words: &[&str], cars: u8, kiosks: u8) -> Option<Terminal>
     }
 }
 
-/// The terminal, of a building with so many cars and kiosks, that a first line names; none where it
-/// is malformed, or where the building lacks it.
-pub fn terminal_of(line: &Line, cars: u8, kiosks: u8) -> Option<Terminal>
-    requires cars { cars ≤ 16 }
-    requires kiosks { kiosks ≤ 47 }
+/// The terminal of a building that a first line names; none where it is malformed, or where the building
+/// lacks it.
+pub fn terminal_of(line: &Line, building: &Building) -> Option<Terminal>
     ensures some { (bytes : List ℕ) → Keeps65 bytes line.now.bytes.items line.now.is_longer
-        → IfSome result (λ terminal. SpeaksFor cars kiosks (strip_carriage_return bytes) terminal) }
+        → IfSome result (λ terminal. SpeaksFor (length building.now.cars)
+        (length building.now.kiosks) (strip_carriage_return bytes) terminal) }
     ensures none { (bytes : List ℕ) → Keeps65 bytes line.now.bytes.items line.now.is_longer
-        → IfNone result ((terminal : ℕ)
-        → SpeaksFor cars kiosks (strip_carriage_return bytes) terminal → ⊥) }
+        → IfNone result ((terminal : ℕ) → SpeaksFor (length building.now.cars)
+        (length building.now.kiosks) (strip_carriage_return bytes) terminal → ⊥) }
 {
     if line.is_longer {
         return None;
     }
+    let (cars, kiosks) = (building.cars(), building.kiosks());
     match words_in(without_return(&line.bytes)) {
         Some(words) => named_by(words.as_slice(), cars, kiosks),
         None => None,

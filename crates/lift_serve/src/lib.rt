@@ -3,7 +3,6 @@
 #![tactic(auto)]
 
 mod attending;
-mod connections;
 mod first_line;
 mod keeping;
 mod over;
@@ -19,17 +18,16 @@ mod speaking;
 mod waking;
 
 pub use attending::{Attendance, Outcome, attend};
-pub use connections::Ticket;
 pub use first_line::terminal_of;
 pub use keeping::journals_keep;
 pub use lift_memory::Memory;
 pub use lift_relay::{Failed, Flusher, HeardBy, NoWitness, Witness};
 pub use pace::{Pace, PagedAsk, Pager, RingCount};
-pub use prepared::seating::{HeldSeat, Lobby, NoSeat, SeatReturn, Vacancy};
-pub use prepared::shortages::ServingEnd;
+pub use prepared::connections::{ServingEnd, Ticket};
+pub use prepared::seating::{HeldSeat, Lobby, NoSeat, SeatReturn};
 pub use prepared::{ReadyGroup, Room, prepare};
 pub use present::{PresentCars, ServedPolicy};
 pub use relaying::Parts;
-pub use serving::{ServeFault, ServingOutcome, serve};
+pub use serving::{ServeFault, serve};
 pub use sleep::Sleep;
 pub use socket::Listening;

@@ -5,8 +5,8 @@ ghost use Rattle.std.specs.Prelude.{IsSome, true, is_ok, ◌↔◌};
 ghost use Rattle.lift_relay.specs.declared.pair.RunFault.{RunFault as Fault};
 ghost use Rattle.lift_serve.specs.Open.{EndedState, IsEndAt};
 
-use crate::connections::Connections;
 use crate::prepared::ServingTerms;
+use crate::prepared::connections::Connections;
 use crate::prepared::hall::Hall;
 use crate::relaying::Parts;
 use lift_disk::Disk;

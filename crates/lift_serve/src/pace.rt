@@ -5,8 +5,8 @@ ghost use Rattle.lift_kiosk.specs.Desk.{asks_at};
 
 mod pager;
 
-use crate::connections::AllShut;
 use crate::over::Over;
+use crate::prepared::connections::AllShut;
 use lift_base::ProofCount;
 use lift_desk::Seat;
 use lift_relay::{BothRun, Gate, RunBegun};

@@ -7,16 +7,16 @@ ghost use Rattle.std.specs.Prelude.{◌≡◌, [], IfOk, IfErr};
 ghost use Rattle.lift_parts.specs.Parts.{AreOfOne};
 ghost use Rattle.lift_serve.specs.Ready.{IsFullLobby, IsNewGroup};
 
+pub(crate) mod connections;
 pub(crate) mod hall;
 pub(crate) mod seating;
-pub(crate) mod shortages;
 
-use crate::connections::Connections;
 use crate::over::Over;
 use crate::pace::{Pace, Pager};
 use crate::present::{PresentCars, ServedPolicy};
 use crate::relaying::Parts;
 use crate::socket::Listening;
+use connections::Connections;
 use hall::Hall;
 use lift_base::MOST_CARS;
 use lift_building::Building;
@@ -28,7 +28,6 @@ use lift_memory::Memory;
 use lift_policy::{Dispatching, Policy};
 use lift_relay::{Allocator, Flusher, Witness, split_for};
 use seating::{Lobby, lobby_at, new_pagers};
-use shortages::Shortages;
 use std::alloc::Global;
 use std::marker::Model;
 use std::sync::Mutex;
@@ -85,7 +84,7 @@ impl<'d, 'b, D: Disk + Drop, P: Policy + Drop, K: Drop> ReadyGroup<'d, 'b, D, P,
             lobby: Mutex::new(lobby),
             present: &room.present,
             pace: Pace::new(room.pagers.as_slice()),
-            connections: Mutex::new(Connections::new(alloc, Shortages::new())),
+            connections: Mutex::new(Connections::new(alloc)),
         };
         let parts = Parts {
             allocator,

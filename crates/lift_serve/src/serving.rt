@@ -8,11 +8,11 @@ ghost use Rattle.lift_relay.specs.declared.pair.RunFault.{RunFault as Fault};
 ghost use Rattle.lift_serve.specs.Open.{IsEndAt, IsReportOf};
 ghost use Rattle.lift_serve.specs.Relaying.{HaveRunOrNot, HaveServed, ServingKeeps};
 
-use crate::connections::CountedEnd;
 use crate::over::{Over, start_accepting};
 use crate::prepared::ReadyGroup;
+use crate::prepared::connections::shortages::start_session;
+use crate::prepared::connections::{CountedEnd, ServingEnd};
 use crate::prepared::hall::Hall;
-use crate::prepared::shortages::{ServingEnd, start_session};
 use crate::present::ServedPolicy;
 use crate::relaying::{Parts, unrun};
 use crate::socket::{Arrival, Connection};
@@ -35,20 +35,6 @@ pub enum ServeFault {
     Memory,
 }
 
-/// What came of the serving.
-#[derive(Drop)]
-pub struct ServingOutcome<'d, 'b, D: Disk + Drop, P: Policy + Drop, K: Drop, V: Witness + Drop> {
-    /// What decides, after its last turn.
-    pub allocator: Allocator<'d, 'b, ServedPolicy<'d, P>>,
-    /// What makes safe and answers, after its last turn. It is broken where a call of the device failed.
-    pub flusher: Flusher<'d, 'b, D, K>,
-    /// What was refused, and that so many connections have ended at the socket, unless all were given
-    /// up.
-    pub end: ServingEnd,
-    /// Who was notified where the device failed.
-    pub witness: V,
-}
-
 /// How long the accepting of connections rests where it failed, ms.
 const ACCEPT_REST_MS: u64 = 10;
 
@@ -63,7 +49,7 @@ fn attend_connection<R: Wait + Clock>(
     hall: &Hall<'_, '_>,
     connection: Connection,
 ) -> CountedEnd
-    ensures { result ≡ connection }
+    ensures { result.number ≡ connection.ticket }
 {
     let number = connection.number();
     let attended = connection.attended(rt, alloc, hall);
@@ -224,7 +210,7 @@ pub fn serve<'d, 'b, R, D, P, K, V>(
     alloc: Global,
     group: ReadyGroup<'d, 'b, D, P, K>,
     witness: V,
-) -> ServingOutcome<'d, 'b, D, P, K, V>
+) -> (Parts<'d, 'b, D, ServedPolicy<'d, P>, K, V>, ServingEnd)
 where
     R: Threads + Wait + Clock + Sync,
     D: Disk + Drop,
@@ -233,32 +219,21 @@ where
     V: Witness + Drop,
     // For the owner: what was safe and answered before is kept at each moment of each turn, and what the
     // turns gave from then on.
-    ensures keeps { ServingKeeps D.state group.entry.flusher result.flusher }
+    ensures keeps { ServingKeeps D.state group.entry.flusher result.0.flusher }
     // For who tests it: both parts ran, each by its turns alone, and all that was sent is received and
     // answered; or no thread could be had, they are as they were, and that is reported.
     ensures ran { HaveServed (IsDispatched any_cars P.chooses) D.state group.entry.allocator
-        result.allocator group.entry.flusher result.flusher result.end.fault }
+        result.0.allocator group.entry.flusher result.0.flusher result.1.fault }
     // The witness was notified that the device failed, once, where the flusher is broken that wasn't; else
     // it is as it was.
     ensures heard { FailureHeard V.hears group.entry.flusher.writer.is_broken
-        result.flusher.writer.is_broken witness result.witness }
+        result.0.flusher.writer.is_broken witness result.0.witness }
     // That connections have ended is reported only where as many have at this socket as were to;
     // and where that isn't reported a fault is.
-    ensures reports { IsReportOf group.entry.bound result.end }
+    ensures reports { IsReportOf group.entry.bound result.1 }
 {
     turns_keep_what_was_given::<D>();
     let (parts, hall) = group.begun(alloc, witness);
     let (ran, over) = run_beside(rt, alloc, &hall, parts);
-    let end = hall.into_end(over);
-    let Parts {
-        allocator,
-        flusher,
-        witness,
-    } = ran;
-    ServingOutcome {
-        allocator,
-        flusher,
-        end,
-        witness,
-    }
+    (ran, hall.into_end(over))
 }

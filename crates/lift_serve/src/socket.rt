@@ -2,15 +2,16 @@
 //! everything else has what keeps it, and what shuts it down.
 
 ghost use Rattle.std.specs.Prelude.{◌≡◌, IfOk, IfErr};
+ghost use Rattle.std.specs.Arc.{arc_value};
 ghost use Rattle.std.specs.Io.{ReadsAtMost};
 ghost use Rattle.std.specs.declared.net.tcp.TcpListener.{TcpListener as Listener};
 
 use crate::attending::Attendance;
-use crate::connections::Ticket;
 use crate::over::Over;
 use crate::prepared::ServingTerms;
+use crate::prepared::connections::Ticket;
+use crate::prepared::connections::shortages::{Shortage, read_ahead, share};
 use crate::prepared::hall::Hall;
-use crate::prepared::shortages::{Shortage, read_ahead, share};
 use crate::serving::ServeFault;
 use crate::speaking::speak;
 use lift_relay::BothRun;
@@ -83,25 +84,19 @@ impl Arrival {
         Ok(Arrival { stream })
     }
 
-    /// It is let in with this ticket: a connection, and what shuts that down.
+    /// It is let in with this ticket: a connection, and its other side, by which that is shut down.
     pub(crate) fn open(
         self,
         alloc: Global,
         ticket: Ticket,
-    ) -> Result<(Connection, Closer), Shortage>
-        ensures opened { IfOk result (λ came. (came.0 ≡ ticket) × (came.1 ≡ ticket)) }
+    ) -> Result<(Connection, Arc<Peer>), Shortage>
+        ensures opened { IfOk result (λ came. (came.0.ticket ≡ ticket)
+            × ((arc_value came.1).number ≡ ticket)) }
         ensures lack { IfErr result (λ shortage. shortage ≡ ServeFault.Memory) }
     {
         let Arrival { stream } = self;
-        let (peer, theirs) = share(alloc, Peer::new(stream))?;
-        let number = ticket.number();
-        Ok((
-            Connection { ticket, peer },
-            Closer {
-                number,
-                peer: theirs,
-            },
-        ))
+        let (peer, theirs) = share(alloc, Peer::new(ticket.number(), stream))?;
+        Ok((Connection { ticket, peer }, theirs))
     }
 
     /// It is closed, for no more are let in.
@@ -110,24 +105,52 @@ impl Arrival {
     }
 }
 
-/// A connection's stream, and whether its first line has come.
+/// A connection's other side: its number, its stream, and whether its first line has come. Whoever has it
+/// outside this file can shut the stream down, whatever waits for it, and no more.
 #[derive(Drop)]
 pub(crate) struct Peer {
+    number: u64,
     stream: TcpStream,
     stage: AtomicU64,
 }
 
 impl Peer {
     /// Its first line is still to come.
-    fn new(stream: TcpStream) -> Self {
+    fn new(number: u64, stream: TcpStream) -> Self
+        ensures { result.number ≡ number }
+    {
         Peer {
+            number,
             stream,
             stage: AtomicU64::new(AWAITED),
         }
     }
 
-    fn is_awaited(&self) -> bool {
+    /// The connection's number.
+    pub(crate) fn number(&self) -> u64
+        ensures { result ≡ self.now.number }
+    {
+        self.number
+    }
+
+    /// Shuts it down, that way.
+    pub(crate) fn shut(&self, how: Shutdown) {
+        let _closed = self.stream.shutdown(how);
+    }
+
+    /// Whether the first line is still to come.
+    pub(crate) fn is_awaited(&self) -> bool {
         self.stage.load(Ordering::SeqCst) == AWAITED
+    }
+
+    /// Shuts it down where the first line is still to come, which is read no more then. Whether that
+    /// is so.
+    pub(crate) fn send_away(&self) -> bool {
+        let is_sent = self.is_settled_as(SENT_AWAY);
+        if is_sent {
+            self.shut(Shutdown::Both);
+        }
+        is_sent
     }
 
     /// Whether it was still to be settled whether the first line comes, and is now.
@@ -208,70 +231,17 @@ impl<'s, R: Clock> Read for PeerReader<'s, R> {
     }
 }
 
-/// What shuts an open connection's socket down, whatever waits for it. Contracts see the connection's number.
-#[derive(Drop)]
-pub(crate) struct Closer {
-    number: u64,
-    peer: Arc<Peer>,
-}
-
-impl Model for Closer {
-    ghost use Rattle.std.specs.Prelude.{ℕ};
-
-    ghost Value = { ℕ };
-
-    ghost view = { λ c. c.number };
-}
-
-impl Closer {
-    /// The connection's number.
-    pub(crate) fn number(&self) -> u64
-        ensures { result ≡ self.now }
-    {
-        self.number
-    }
-
-    /// Shuts it down, that way.
-    pub(crate) fn shut(&self, how: Shutdown) {
-        let _closed = self.peer.stream.shutdown(how);
-    }
-
-    /// Whether the first line is still to come.
-    pub(crate) fn is_awaited(&self) -> bool {
-        self.peer.is_awaited()
-    }
-
-    /// Shuts it down where the first line is still to come, which is read no more then. Whether that
-    /// is so.
-    pub(crate) fn send_away(&self) -> bool {
-        let is_sent = self.peer.is_settled_as(SENT_AWAY);
-        if is_sent {
-            self.shut(Shutdown::Both);
-        }
-        is_sent
-    }
-}
-
 /// A connection that was let in, by the ticket that it was let in with: by it somebody is attended to once.
-/// Contracts see its number.
 #[derive(Drop)]
 pub(crate) struct Connection {
     ticket: Ticket,
     peer: Arc<Peer>,
 }
 
-impl Model for Connection {
-    ghost use Rattle.std.specs.Prelude.{ℕ};
-
-    ghost Value = { ℕ };
-
-    ghost view = { λ c. c.ticket };
-}
-
 impl Connection {
     /// Its number.
     pub(crate) fn number(&self) -> u64
-        ensures { result ≡ self.now }
+        ensures { result ≡ self.now.ticket }
     {
         self.ticket.number()
     }

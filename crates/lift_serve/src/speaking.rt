@@ -6,7 +6,7 @@ ghost use Rattle.lift_kiosk.specs.Lines.{source_of};
 ghost use Rattle.lift_serve.specs.Connections.{Attends, new_sink, new_source};
 
 use crate::attending::{Attendance, attend};
-use crate::connections::Ticket;
+use crate::prepared::connections::Ticket;
 use crate::prepared::hall::Hall;
 use crate::reading::OpenReader;
 use crate::waking::WakingWriter;

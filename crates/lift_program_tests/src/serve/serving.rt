@@ -64,8 +64,8 @@ fn served_at<'b, R: Threads + Wait + Clock + Sync, D: Disk + Drop, P: Policy + D
         Ok(group) => group,
         Err(_) => return None,
     };
-    let served = serve(rt, alloc, group, NoWitness);
-    if served.end.fault().is_some() {
+    let (served, end) = serve(rt, alloc, group, NoWitness);
+    if end.fault().is_some() {
         return None;
     }
     Some(served.flusher.into_writer(Own { made: () }))

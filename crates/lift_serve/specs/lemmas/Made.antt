@@ -1,5 +1,5 @@
 -- A group begins where nothing was answered: over whatever register a journal holds.
-use Rattle.std.proofs.Common.{ℕ, ◌≡◌, [], refl, sym, subst, arith}
+use Rattle.std.proofs.Common.{ℕ, [], refl, sym, subst, arith}
 use Rattle.std.specs.Prelude.{All}
 use Rattle.lift_base.specs.declared.history.Entry.{Entry}
 use Rattle.lift_building.specs.Plan.{Plan, IsBuilding, shape_of}

@@ -1,12 +1,11 @@
 -- What was safe and answered before a recovery is kept by it, and by the serving after it.
-use Rattle.std.proofs.Common.{◌≡◌, inl, inr, false, List, [], ◌++◌, refl, sym, ap}
+use Rattle.std.proofs.Common.{◌≡◌, false, List, [], ◌++◌, refl, sym, ap}
 use Rattle.std.proofs.Common.{subst, ◌∙◌, append_assoc}
 use Rattle.std.proofs.lemmas.List.{append-nil}
 use mathlib.Core.List.{IsPrefix}
 use Rattle.lift_base.specs.declared.history.Entry.{Entry}
 use Rattle.lift_building.specs.Plan.{Plan}
 use Rattle.lift_disk.specs.Disk.{DiskState, Image, LeavesNow, LeavesOnly, MayLeave}
-use Rattle.lift_disk.specs.Starts.{StartsAfter}
 use Rattle.lift_disk.specs.Holding.{HoldsTheSame}
 use Rattle.lift_disk.specs.lemmas.Moments.{changes_nothing, leaves_then, leaves_weaker}
 use Rattle.lift_disk.specs.lemmas.Starts.{leaves_from, same_leaves, starts_keep, starts_keep_now}
@@ -32,55 +31,27 @@ use Rattle.lift_serve.specs.Keeping.{EachTurnHandsOn, StartsFind, KeepsOver, Tur
 use Rattle.lift_serve.specs.Ready.{IsNewGroup}
 use Rattle.lift_serve.specs.Relaying.{ServingKeeps}
 
--- After these turns all that was given at the opening has been kept since.
-record Always {D : Type 0} (state : D → DiskState) (plan : Plan) (base : RegisterState) (first : DiskState)
-    (g : FlusherState D) (given now : List Taken) : Type 0 where
-  own : g.writer.plan ≡ plan
-  front : IsPrefix given now
-  always : LeavesOnly first (state g.writer.device) (KeepsAll D plan base given)
-
-always_on : {D : Type 0} (state : D → DiskState) (plan : Plan) (base : RegisterState)
-    (first last : DiskState)
-    (f : FlusherState D) (safe : List Entry) (given : List Taken) (g : FlusherState D)
-    (mid : List Entry) (now : List Taken) → f.writer.plan ≡ plan
-    → LeavesOnly first (state f.writer.device) (KeepsAll D plan base given)
-    → KeepingTurns state base last f safe given g mid now → Always state plan base first g given now
-always_on state plan base first last f safe given g mid now own before NoneYet =
-    record { own = own; front = ([], append-nil given); always = before }
-always_on {D} state plan base first last f safe given h end later own before
-    (OneKept {g = g} {mid = mid} {now = now} turns flush s kept) =
-    let k = always_on state plan base first last f safe given g mid now own before turns in
-    let told : List Taken = s.goes_on.told in
-    record {
-      own = flush.commits.same.0 ∙ k.own;
-      front = (
-        k.front.0 ++ told,
-        sym (append_assoc given k.front.0 told) ∙ ap (λ (l : List Taken). l ++ told) k.front.1,
-      );
-      always = leaves_then first (state g.writer.device) (state h.writer.device)
-          (KeepsAll D plan base given) k.always
-          (leaves_weaker (state g.writer.device) (state h.writer.device)
-          (KeepsEither D g.writer.plan base mid s.batch now) (KeepsAll D plan base given)
-          (λ honest left kept.
-          keeps_first plan g.writer.plan base mid s.batch given now left k.own k.front kept) s.stands);
-    }
-
--- Each of these turns leaves to a start what that takes.
-record Handed {D F : Type 0} (state : D → DiskState) (held : F → DiskState) (plan : Plan) {base : RegisterState} {last : DiskState} {f g : FlusherState D}
+-- What these turns have kept: they give letters and take none back, a start finds what it takes after
+-- each, and what all images kept of the letters before they keep.
+record Handed {D F : Type 0} (state : D → DiskState) (held : F → DiskState) (plan : Plan) (first : DiskState) {base : RegisterState} {last : DiskState} {f g : FlusherState D}
     {safe mid : List Entry} {given now : List Taken} (turns : KeepingTurns state base last f safe given g mid now) : Type 0 where
   own : g.writer.plan ≡ plan
   honest : (state g.writer.device).is_honest
   cuts : TurnsHandOn held plan turns
+  front : IsPrefix given now
+  always : LeavesOnly first (state f.writer.device) (KeepsAll D plan base given)
+      → LeavesOnly first (state g.writer.device) (KeepsAll D plan base given)
 
-handed_on : {D F : Type 0} (state : D → DiskState) (held : F → DiskState) (plan : Plan) (base : RegisterState) (last : DiskState)
+handed_on : {D F : Type 0} (state : D → DiskState) (held : F → DiskState) (plan : Plan) (base : RegisterState) (first last : DiskState)
     (f : FlusherState D) (safe : List Entry) (given : List Taken) (g : FlusherState D) (mid : List Entry) (now : List Taken) → f.writer.plan ≡ plan
     → (state f.writer.device).is_honest
-    → (turns : KeepingTurns state base last f safe given g mid now) → Handed state held plan turns
-handed_on state held plan base last f safe given g mid now own honest NoneYet =
-    record { own = own; honest = honest; cuts = tt }
-handed_on {D} state held plan base last f safe given h end later own honest
+    → (turns : KeepingTurns state base last f safe given g mid now) → Handed state held plan first turns
+handed_on state held plan base first last f safe given g mid now own honest NoneYet =
+    record { own = own; honest = honest; cuts = tt; front = ([], append-nil given); always = λ before. before }
+handed_on {D} state held plan base first last f safe given h end later own honest
     (OneKept {g = g} {mid = mid} {now = now} turns flush s kept) =
-    let k = handed_on state held plan base last f safe given g mid now own honest turns in
+    let k = handed_on state held plan base first last f safe given g mid now own honest turns in
+    let told : List Taken = s.goes_on.told in
     record {
       own = flush.commits.same.0 ∙ k.own;
       honest = s.stands.honest.1 k.honest;
@@ -94,11 +65,21 @@ handed_on {D} state held plan base last f safe given h end later own honest
             (λ was left kept. either_front plan base mid s.batch now left
             (subst (λ (p : Plan). KeepsEither D p base mid s.batch now left) k.own kept)) s.stands),
       );
+      front = (
+        k.front.0 ++ told,
+        sym (append_assoc given k.front.0 told) ∙ ap (λ (l : List Taken). l ++ told) k.front.1,
+      );
+      always = λ before. leaves_then first (state g.writer.device) (state h.writer.device)
+          (KeepsAll D plan base given) (k.always before)
+          (leaves_weaker (state g.writer.device) (state h.writer.device)
+          (KeepsEither D g.writer.plan base mid s.batch now) (KeepsAll D plan base given)
+          (λ was left kept.
+          keeps_first plan g.writer.plan base mid s.batch given now left k.own k.front kept) s.stands);
     }
 
 pub turns_hand_on : {D F : Type 0} (state : D → DiskState) (held : F → DiskState) → EachTurnHandsOn D F state held
 turns_hand_on state held base f g safe mid given now honest turns =
-    (handed_on state held f.writer.plan base (state g.writer.device) f safe given g mid now refl honest turns).cuts
+    (handed_on state held f.writer.plan base (state g.writer.device) (state g.writer.device) f safe given g mid now refl honest turns).cuts
 
 -- Keeper::open has opened this device, which holds what was found, and that keeps a prefix of what was
 -- accepted, and all that was given.
@@ -185,20 +166,14 @@ module _ {D F : Type 0} (state : D → DiskState) (held : F → DiskState) (plan
     begun : f.writer ≡ keeper.writer
     begun = group.parts.writer ∙ ap (λ (v : KeeperView D). v.writer) group.begins
 
-    turned : Always state plan base (state opened) g given kept.now_given
-    turned = always_on state plan base (state opened) (state g.writer.device) f safe
-        given g kept.now_safe kept.now_given
+    turned : Handed state held plan (state opened) kept.turns
+    turned = handed_on state held plan base (state opened) (state g.writer.device) f safe given g kept.now_safe kept.now_given
         (ap (λ (v : WriterView D). v.plan) begun ∙ own)
-        (subst (λ (v : WriterView D). LeavesOnly (state opened) (state v.device)
-        (KeepsAll D plan base given)) (sym begun) recovery_keeps) kept.turns
+        (subst (λ (v : WriterView D). (state v.device).is_honest) (sym begun) (reopens.moments.honest.1 honest)) kept.turns
 
-    cuts : TurnsHandOn held plan kept.turns
-    cuts = subst (λ (p : Plan). TurnsHandOn held p kept.turns)
-        (ap (λ (v : WriterView D). v.plan) begun ∙ own)
-        (turns_hand_on state held base f g safe kept.now_safe given
-        kept.now_given
-        (subst (λ (v : WriterView D). (state v.device).is_honest) (sym begun)
-        (reopens.moments.honest.1 honest)) kept.turns)
+    always : LeavesOnly (state opened) (state g.writer.device) (KeepsAll D plan base given)
+    always = turned.always (subst (λ (v : WriterView D). LeavesOnly (state opened) (state v.device)
+        (KeepsAll D plan base given)) (sym begun) recovery_keeps)
 
     leaves : LeavesSafe f.writer (state f.writer.device)
     leaves = subst (λ (v : WriterView D). LeavesSafe v (state v.device)) (sym begun) group.leaves
@@ -219,15 +194,6 @@ module _ {D F : Type 0} (state : D → DiskState) (held : F → DiskState) (plan
   recovery_from : LeavesOnly first new Keeps
   recovery_from = leaves_from first (state opened) new Keeps was_honest honest same_held recovery
 
-  always_from : (last : DiskState) → LeavesOnly (state opened) last All → LeavesOnly first last All
-  always_from last = leaves_from first (state opened) last All was_honest honest same_held
-
-  -- what the next start finds
-  next_from : (last : DiskState) (P : Image → Type 0) → LeavesOnly first last All → LeavesNow last P
-      → (after : F) → StartsAfter last (held after) → LeavesNow (held after) P
-  next_from last P always leaves after =
-      starts_keep_now last (held after) P (always.honest.1 was_honest) leaves
-
   cut : StartsFind D held plan base accepted given first new
   cut after = starts_keep first new (held after) Keeps was_honest recovery_from
 
@@ -236,7 +202,8 @@ module _ {D F : Type 0} (state : D → DiskState) (held : F → DiskState) (plan
   keeps_over policy a f g group serving =
       let k = kept policy a f g group serving in
       let same : keeper.writer ≡ f.writer = sym (begun policy a f g group serving) in
-      let every = always_from (state g.writer.device) (turned policy a f g group serving).always in
+      let last = state g.writer.device in
+      let every = leaves_from first (state opened) last All was_honest honest same_held (always policy a f g group serving) in
       let at_end = ends policy a f g group serving in
       record {
         recovery = subst (λ (v : WriterView D). LeavesOnly first (state v.device) Keeps) same recovery_from;
@@ -244,10 +211,10 @@ module _ {D F : Type 0} (state : D → DiskState) (held : F → DiskState) (plan
         is_front = found.1;
         register = subst (λ (v : WriterView D). v.register ≡ register_of base safe) same register;
         kept = k;
-        cuts = cuts policy a f g group serving;
+        cuts = (turned policy a f g group serving).cuts;
         now = at_end;
         always = every;
         cut = subst (λ (v : WriterView D). StartsFind D held plan base accepted given first (state v.device)) same cut;
-        next = next_from (state g.writer.device)
-            (KeepsPrefix D plan base (k.now_safe ++ g.writer.doubt) k.now_given) every at_end;
+        next = λ after. starts_keep_now last (held after)
+            (KeepsPrefix D plan base (k.now_safe ++ g.writer.doubt) k.now_given) (every.honest.1 was_honest) at_end;
       }

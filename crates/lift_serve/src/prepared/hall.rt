@@ -5,9 +5,8 @@ ghost use Rattle.lift_serve.specs.Open.{IsEndAt, ended_in, told_after};
 ghost use Rattle.lift_serve.specs.declared.serving.ServeFault.{ServeFault};
 
 use super::ServingTerms;
+use super::connections::{Connections, ServingEnd};
 use super::seating::Lobby;
-use super::shortages::ServingEnd;
-use crate::connections::Connections;
 use crate::over::Over;
 use crate::pace::Pace;
 use crate::present::PresentCars;

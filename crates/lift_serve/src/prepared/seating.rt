@@ -4,7 +4,7 @@ ghost use Rattle.std.specs.Prelude.{◌≡◌, ◌≤◌, ◌++◌, ◌∷◌, [
 ghost use Rattle.lift_desk.specs.Seats.{AreSeatsOf, IsSeatOf, seats_from};
 ghost use Rattle.lift_register.specs.Register.{last_of as last_in};
 ghost use Rattle.lift_serve.specs.Lobby.{AreInOrder, found_seats, found_at};
-ghost use Rattle.lift_serve.specs.Visits.{AreAsFound, IsNewSeat, known_of, letter_in as letter_of};
+ghost use Rattle.lift_serve.specs.Visits.{IsNewSeat, known_of, letter_in as letter_of};
 
 mod held;
 mod lobby;
@@ -17,7 +17,7 @@ use lift_desk::{Desk, Seat};
 use lift_kiosk::LastLetter;
 use lift_memory::{Memory, with_room};
 use lift_register::Register;
-pub use lobby::{Lobby, NoSeat, SeatReturn, Vacancy};
+pub use lobby::{Lobby, NoSeat, SeatReturn};
 use std::alloc::Global;
 
 /// The letter that a kiosk's last call got.
@@ -47,7 +47,7 @@ fn last_of(register: &Register, terminal: Terminal) -> LastLetter
 }
 
 /// A pager for each terminal that there can be.
-#[tactic(auto, using(crate::proofs::Pagers::none_in_order, crate::proofs::Pagers::one_pager_more))]
+#[tactic(auto, using(crate::proofs::Places::none_in_order, crate::proofs::Places::one_pager_more))]
 pub(super) fn new_pagers(alloc: Global) -> Result<Vec<Pager>, Memory>
     ensures count { IfOk result (λ pagers. length pagers.items ≡ 63) }
     ensures in_order { IfOk result (λ pagers. AreInOrder pagers.items) }
@@ -61,7 +61,7 @@ pub(super) fn new_pagers(alloc: Global) -> Result<Vec<Pager>, Memory>
 }
 
 /// A new seat's place, with what a register knows of its terminal.
-#[tactic(auto, using(crate::proofs::Pagers::own_pager))]
+#[tactic(auto, using(crate::proofs::Places::own_pager))]
 fn held_of<'d>(desk: &'d Desk, pagers: &'d [Pager], seat: Seat, register: &Register) -> HeldSeat<'d>
     requires pagers { 63 ≤ length pagers.now }
     requires in_order { AreInOrder pagers.now }
@@ -86,7 +86,7 @@ fn add<'d>(places: &mut ArrayVec<Option<HeldSeat<'d>>, MOST_TERMINALS>, held: He
 
 /// The lobby with all seats of a desk, each at its place, and what a register knows of their
 /// terminals.
-#[tactic(auto, using(crate::proofs::Places::one_taken_more))]
+#[tactic(auto, using(crate::proofs::Places::none_placed))]
 pub(super) fn lobby_at<'d>(
     desk: &'d Desk,
     pagers: &'d [Pager],
@@ -100,7 +100,6 @@ pub(super) fn lobby_at<'d>(
     requires all { seats.items ≡ seats_from 0 desk.now }
     ensures desk { result.desk ≡ desk.now }
     ensures all { result.places ≡ found_seats register.now desk.now seats.items }
-    ensures found { AreAsFound register.now desk.now result.places }
 {
     let mut places = ArrayVec::new();
     for seat in seats {

@@ -10,7 +10,7 @@ pub returns-clause-end : goal.returns-clause-end
 returns-clause-end g c =
     let a = c.args.asked in
     let of = c.in-Ok.ready.1 in
-    let served = c.serve-served.result in
+    let served = c.serve-served.result.0 in
     let before = g.W.Outflow.contents c.args.writer.now in
     let after = g.W.Outflow.contents c.made_ready.new.writer in
     served_end _ before after a.image a.building a.port a.sessions a.policy of.allocator of.flusher of.bound _ c.in-Ok.ensures.ready c.in-Ok.ensures.port (record {
@@ -34,8 +34,8 @@ returns-clause-at_once g c =
     let of = c.in-Ok.ready.1 in
     let ready = c.in-Ok.ensures.ready in
     let was = of.flusher.writer.is_broken in
-    let served = c.serve-served.result in
+    let served = c.serve-served.result.0 in
     let is = served.flusher.writer.is_broken in
     let whole = is_whole_yet _ c.args.asked.policy ready.keeper of.allocator of.flusher ready.group ready.is_kept.whole in
-    told_at_once contents c.args.errors served.witness.errors was is served.end.fault c.fault_of.result whole (search rules)
+    told_at_once contents c.args.errors served.witness.errors was is c.serve-served.result.1.fault c.fault_of.result whole (search rules)
     (heard_errors contents was is (record { errors = c.args.errors }) served.witness c.serve-served.ensures.heard)

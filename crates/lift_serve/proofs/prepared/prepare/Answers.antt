@@ -4,8 +4,7 @@ use Rattle.atomic_table.specs.Seated.{TableId}
 use Rattle.lift_clerk.specs.Clerk.{ClerkState}
 use Rattle.lift_desk.specs.Seats.{TerminalSeat, clerk_of, seats_from}
 use Rattle.lift_policy.specs.declared.dispatching.Dispatching.{Dispatching}
-use Rattle.lift_register.specs.Register.{RegisterState}
-use Rattle.lift_serve.specs.Visits.{IsNewSeat, AreAsFound}
+use Rattle.lift_serve.specs.Visits.{IsNewSeat}
 use Rattle.lift_serve.specs.Lobby.{found_seats}
 use Rattle.lift_serve.proofs.Relayings.{leaves_safe}
 use Rattle.lift_serve.proofs.Sessions.{are_new}
@@ -39,10 +38,7 @@ returns-in-Ok-split_for-clause-lobby g c =
     let at : c.lobby_at-lobby.result.desk ≡ c.in-Ok.parts.desk = search rules in
     let seats : c.in-Ok.parts.seats.items ≡ seats_from 0 c.in-Ok.parts.desk = c.in-Ok.ensures.seats in
     let all : c.lobby_at-lobby.result.places ≡ found_seats c.args.keeper.state.register c.in-Ok.parts.desk (seats_from 0 c.in-Ok.parts.desk) = search rules in
-    let found : AreAsFound c.args.keeper.state.register c.in-Ok.parts.desk c.lobby_at-lobby.result.places = subst (λ (p : RegisterState × List TableId). AreAsFound p.0 p.1 c.lobby_at-lobby.result.places)
-    (λ i. (c.register.ensures.value i, ap (λ r. r.desk) c.insert-room.ensures.value i)) c.lobby_at-lobby.ensures.found in
     record {
       desk_is = at ∙ sym desk;
       all = subst (λ (d : List TableId). c.lobby_at-lobby.result.places ≡ found_seats c.args.keeper.state.register d (seats_from 0 d)) (sym desk) all;
-      found = subst (λ (d : List TableId). AreAsFound c.args.keeper.state.register d c.lobby_at-lobby.result.places) (sym desk) found;
     }

@@ -17,7 +17,7 @@ returns-clause-ran g c =
     let ran = c.run_beside-ran in
     let begun = c.begun-parts in
     have_served (IsDispatched any_cars g.P.Policy.chooses) g.D.Disk.state c.args.group.allocator begun.result.0.allocator ran.result.0.allocator c.args.group.flusher begun.result.0.flusher ran.result.0.flusher
-    ran.ensures.ran.0 ran.result.1 _ _ begun.ensures.allocator begun.ensures.flusher ran.ensures.ran.1 ran.ensures.ran.2 c.into_end-end.ensures.fault.1
+    ran.ensures.ran.0 ran.result.1 _ _ begun.ensures.allocator begun.ensures.flusher ran.ensures.ran.1 ran.ensures.ran.2 c.into_end.ensures.fault.1
 
 pub returns-clause-heard : goal.returns-clause-heard
 returns-clause-heard g c =
@@ -29,4 +29,4 @@ returns-clause-heard g c =
 pub returns-clause-reports : goal.returns-clause-reports
 returns-clause-reports g c =
     let begun = c.begun-parts in
-    report_of c.run_beside-ran.result.1 _ c.args.group.bound begun.result.1.bound c.into_end-end.result begun.ensures.bound c.run_beside-ran.ensures.over c.into_end-end.ensures.fault.1 c.into_end-end.ensures.ended
+    report_of c.run_beside-ran.result.1 _ c.args.group.bound begun.result.1.bound c.into_end.result begun.ensures.bound c.run_beside-ran.ensures.over c.into_end.ensures.fault.1 c.into_end.ensures.ended

@@ -2,10 +2,10 @@
 
 ghost use Rattle.std.specs.Prelude.{◌≡◌, ◌≤◌, IfOk, IfErr, IfSome, IfNone, None, Some, true, false};
 ghost use Rattle.std.specs.Prelude.{length, slice_get, slice_set};
-ghost use Rattle.lift_serve.specs.Lobby.{IsLobbyOf, IsSamePlace};
+ghost use Rattle.lift_serve.specs.Lobby.{IsLobbyOf};
 
 use super::held::HeldSeat;
-use crate::connections::Ticket;
+use crate::prepared::connections::Ticket;
 use arrayvec::ArrayVec;
 use lift_base::{MOST_TERMINALS, Terminal};
 use lift_desk::Desk;
@@ -30,20 +30,6 @@ impl<'d> Model for Lobby<'d> {
     ghost invariant = { λ l. IsLobbyOf l.desk.now l.places.items };
 }
 
-/// Evidence that the seat of this place was taken out of a lobby. It can't be let go: only
-/// `put_back` ends it, so a seat that was taken out is put back. Only `take` makes one.
-pub struct Vacancy<'d> {
-    held: Snapshot<HeldSeat<'d>>,
-}
-
-impl<'d> Model for Vacancy<'d> {
-    ghost use Rattle.lift_serve.specs.Visits.{HeldState};
-
-    ghost Value = { HeldState };
-
-    ghost view = { λ v. v.held.value };
-}
-
 /// Evidence that a lobby was asked for a terminal's seat, which was taken out, or which its desk
 /// hasn't. Only `take` makes one.
 #[derive(Drop)]
@@ -62,20 +48,6 @@ impl<'d> Model for NoSeat<'d> {
 }
 
 impl<'d> NoSeat<'d> {
-    fn of(desk: &'d Desk, terminal: Terminal, is_out: bool) -> Self
-        ensures { result ≡ record {
-          desk = desk.now;
-          terminal = terminal;
-          is_out = is_out;
-        } }
-    {
-        NoSeat {
-            desk,
-            terminal,
-            is_out,
-        }
-    }
-
     /// Whether a session has the seat; else the desk hasn't the terminal.
     pub fn is_out(&self) -> bool
         ensures { result ≡ self.now.is_out }
@@ -130,15 +102,9 @@ impl<'d> Lobby<'d> {
     /// seat was taken out before, or where the desk hasn't the terminal. Each connection may ask
     /// once, by its ticket: so whoever is told that the seat is out didn't take it.
     #[tactic(auto, using(crate::proofs::Places::is_at_its_place, crate::proofs::Places::nothing_taken))]
-    pub fn take(
-        &mut self,
-        ticket: Ticket,
-        terminal: Terminal,
-    ) -> Result<(HeldSeat<'d>, Vacancy<'d>), NoSeat<'d>>
-        ensures own { IfOk result (λ taken. taken.0.seat.terminal ≡ terminal) }
-        ensures there { IfOk result (λ taken.
-            slice_get self.old.places terminal ≡ Some (Some taken.0)) }
-        ensures vacant { IfOk result (λ taken. taken.1 ≡ taken.0) }
+    pub fn take(&mut self, ticket: Ticket, terminal: Terminal) -> Result<HeldSeat<'d>, NoSeat<'d>>
+        ensures own { IfOk result (λ taken. taken.seat.terminal ≡ terminal) }
+        ensures there { IfOk result (λ taken. slice_get self.old.places terminal ≡ Some (Some taken)) }
         ensures taken { IfOk result (λ taken.
             self.new ≡ record self.old { places = slice_set self.old.places terminal None }) }
         ensures asked { IfErr result (λ no_seat. (no_seat.desk ≡ self.old.desk)
@@ -152,28 +118,29 @@ impl<'d> Lobby<'d> {
         let _used = ticket;
         let desk = self.desk;
         match self.vacate(terminal) {
-            Some(Some(held)) => {
-                let vacancy = Vacancy {
-                    held: Snapshot::of(&held),
-                };
-                Ok((held, vacancy))
-            }
-            Some(None) => Err(NoSeat::of(desk, terminal, true)),
-            None => Err(NoSeat::of(desk, terminal, false)),
+            Some(Some(held)) => Ok(held),
+            Some(None) => Err(NoSeat {
+                desk,
+                terminal,
+                is_out: true,
+            }),
+            None => Err(NoSeat {
+                desk,
+                terminal,
+                is_out: false,
+            }),
         }
     }
 
     /// Its next session may have the seat that was taken out.
     #[tactic(auto, using(crate::proofs::Places::own_place))]
-    pub fn put_back(&mut self, held: HeldSeat<'d>, vacancy: Vacancy<'d>) -> SeatReturn<'d>
-        requires same { IsSamePlace vacancy held }
+    pub fn put_back(&mut self, held: HeldSeat<'d>) -> SeatReturn<'d>
         ensures put { self.new ≡ record self.old {
           places = slice_set self.old.places
               held.entry.seat.terminal (Some held.entry);
         } }
         ensures returned { result ≡ held.entry }
     {
-        let Vacancy { held: _ } = vacancy;
         let terminal = held.terminal();
         let at = usize::from(terminal.get());
         let returned = SeatReturn {

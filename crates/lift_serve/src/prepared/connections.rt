@@ -7,15 +7,18 @@ ghost use Rattle.std.specs.Prelude.{not, ◌==◌, ◌≢◌, filter, true, fals
 ghost use Rattle.std.specs.Result.{result_err};
 ghost use Rattle.lift_serve.specs.Open.{AreOver, IsEndAt, ended_in, first_told, one_more, told_after};
 
+pub(crate) mod shortages;
+
+use super::ServingTerms;
 use crate::attending::Attendance;
 use crate::over::Over;
-use crate::prepared::ServingTerms;
-use crate::prepared::shortages::{ServingEnd, Shortage, Shortages, push};
 use crate::serving::ServeFault;
-use crate::socket::{Arrival, Closer, Connection};
+use crate::socket::{Arrival, Connection, Peer};
+use shortages::{Shortage, push};
 use std::alloc::Global;
 use std::marker::Model;
 use std::net::Shutdown;
+use std::sync::Arc;
 use std::thread::JoinHandle;
 
 /// So many connections may be open whose first line is still to come.
@@ -51,18 +54,10 @@ pub(crate) struct DueEnd {
     number: u64,
 }
 
-impl Model for DueEnd {
-    ghost use Rattle.std.specs.Prelude.{ℕ};
-
-    ghost Value = { ℕ };
-
-    ghost view = { λ a. a.number };
-}
-
 impl DueEnd {
     /// The connection's number.
     pub(crate) fn number(&self) -> u64
-        ensures { result ≡ self.now }
+        ensures { result ≡ self.now.number }
     {
         self.number
     }
@@ -75,7 +70,7 @@ impl DueEnd {
 
     /// The end was counted.
     pub(crate) fn counted(self, left: CountedEnd)
-        requires { left ≡ self }
+        requires { left.number ≡ self.number }
     {
         let DueEnd { number: _ } = self;
         let _used = left;
@@ -88,54 +83,76 @@ pub(crate) struct CountedEnd {
     number: u64,
 }
 
-impl Model for CountedEnd {
-    ghost use Rattle.std.specs.Prelude.{ℕ};
-
-    ghost Value = { ℕ };
-
-    ghost view = { λ l. l.number };
-}
-
 /// Evidence that all connections were shut down. Only `close` makes one.
 #[derive(Drop)]
 pub(crate) struct AllShut {
     made: (),
 }
 
+/// How a serving ended: what it was refused, if anything was, and how the accepting was over. Only its
+/// `Connections` make one, which end by it: so nobody hides what was refused it, or tells more.
+#[derive(Drop)]
+pub struct ServingEnd {
+    fault: Option<ServeFault>,
+    over: Over,
+}
+
+impl Model for ServingEnd {
+    ghost use Rattle.lift_serve.specs.Open.{ServingEndState, ended_in};
+
+    ghost Value = { ServingEndState };
+
+    ghost view = { λ e. record { fault = e.fault; ended = ended_in e.over } };
+}
+
+impl ServingEnd {
+    /// Its fault: that no thread could be had for the serving itself, and else the first that was
+    /// refused to the rest.
+    pub fn fault(&self) -> Option<ServeFault>
+        ensures { result ≡ self.now.fault }
+    {
+        self.fault
+    }
+}
+
 /// The connections that are open, how many have ended, and the first shortage. Contracts see the
 /// numbers of those that are open, the next number, how many have ended, whether all were given up,
 /// and the first shortage. They can't be let go: what comes of the serving tells it.
-pub struct Connections {
-    open: Vec<Closer>,
+pub(crate) struct Connections {
+    open: Vec<Arc<Peer>>,
     next: u64,
     ended: u32,
     given_up: bool,
-    shortages: Shortages,
+    first: Option<ServeFault>,
 }
 
 impl Model for Connections {
+    ghost use Rattle.std.specs.Prelude.{map};
+    ghost use Rattle.std.specs.Arc.{arc_value};
     ghost use Rattle.lift_serve.specs.Open.{OpenState};
+    ghost use Rattle.lift_serve.specs.declared.socket.Peer.{Peer};
 
     ghost Value = { OpenState };
 
     ghost view = { λ c. record {
-      numbers = c.open.items;
+      numbers = map (λ p. (arc_value {X = Peer} p).number) c.open.items;
       next = c.next;
       ended = c.ended;
       given_up = c.given_up;
-      shortage = c.shortages;
+      shortage = c.first;
     } };
 }
 
 impl Connections {
-    /// None is open, and none has ended: those of one serving.
-    pub(crate) fn new(alloc: Global, shortages: Shortages) -> Self
+    /// None is open, none has ended, and nothing was refused. Only `ReadyGroup::begun` calls this: each
+    /// serving has one.
+    pub(super) fn new(alloc: Global) -> Self
         ensures { result ≡ record {
           numbers = [];
           next = 0;
           ended = 0;
           given_up = false;
-          shortage = shortages;
+          shortage = None;
         } }
     {
         Connections {
@@ -143,7 +160,7 @@ impl Connections {
             next: 0,
             ended: 0,
             given_up: false,
-            shortages,
+            first: None,
         }
     }
 
@@ -162,7 +179,7 @@ impl Connections {
     }
 
     /// Whether none is open.
-    pub fn is_empty(&self) -> bool
+    pub(crate) fn is_empty(&self) -> bool
         ensures { IsTrue result ↔ (self.now.numbers ≡ []) }
     {
         self.open.is_empty()
@@ -181,9 +198,10 @@ impl Connections {
         ensures over { IsErr result ↔ AreOver bound.now.sessions self.old }
         ensures left_out { OnErr result (self.new ≡ self.old) }
         ensures ended { IfErr result (IsEndAt bound.now) }
-        ensures let_in { IfOk result (λ entered. IfSome entered (λ came. (came.0 ≡ self.old.next)
-            × (came.1 ≡ came.0) × (self.new ≡ record self.old {
-              numbers = self.old.numbers ++ came.0 ∷ [];
+        ensures let_in { IfOk result (λ entered. IfSome entered (λ came.
+            (came.0.ticket ≡ self.old.next) × (came.1.number ≡ self.old.next)
+            × (self.new ≡ record self.old {
+              numbers = self.old.numbers ++ self.old.next ∷ [];
               next = (self.old.next + 1) % 2 ^ 64;
             }))) }
         ensures refused { IfOk result (λ entered. IfNone entered (self.new ≡ record self.old {
@@ -201,7 +219,7 @@ impl Connections {
                 Ok(Some(entered))
             }
             Err(shortage) => {
-                self.shortages.note(shortage);
+                self.note(Err(shortage));
                 self.ended(bound);
                 Ok(None)
             }
@@ -210,24 +228,22 @@ impl Connections {
 
     /// Whoever came has a connection from now on.
     fn admit(&mut self, alloc: Global, arrival: Arrival) -> Result<(Connection, DueEnd), Shortage>
-        ensures let_in { IfOk result (λ came. (came.0 ≡ self.old.next)
-            × (self.new ≡ record self.old {
-              numbers = self.old.numbers ++ came.0 ∷ [];
+        ensures let_in { IfOk result (λ came. (came.0.ticket ≡ self.old.next)
+            × (came.1.number ≡ self.old.next) × (self.new ≡ record self.old {
+              numbers = self.old.numbers ++ self.old.next ∷ [];
               next = (self.old.next + 1) % 2 ^ 64;
             })) }
-        ensures awaited { IfOk result (λ came. came.1 ≡ came.0) }
         ensures unchanged { OnErr result (self.new ≡ self.old) }
         ensures lack { IfErr result (λ shortage. shortage ≡ ServeFault.Memory) }
     {
         let number = self.next;
-        let (connection, closer) = arrival.open(alloc, Ticket { number })?;
-        push(&mut self.open, closer)?;
+        let (connection, peer) = arrival.open(alloc, Ticket { number })?;
+        push(&mut self.open, peer)?;
         self.next = number.wrapping_add(1);
         Ok((connection, DueEnd { number }))
     }
 
     /// The connection of this number has ended, which was attended to, or wasn't because of this shortage.
-    #[tactic(auto, using(crate::proofs::Relayings::none_behind))]
     pub(crate) fn leave(
         &mut self,
         bound: &ServingTerms,
@@ -240,27 +256,30 @@ impl Connections {
           ended = one_more bound.now.sessions self.old.ended;
           shortage = first_told self.old.shortage (result_err attended.entry);
         } }
-        ensures number { result ≡ number }
+        ensures number { result.number ≡ number }
+    {
+        self.open.retain(|open| open.number() != number);
+        self.note(attended);
+        self.ended(bound);
+        CountedEnd { number }
+    }
+
+    /// Keeps the first shortage in mind.
+    #[tactic(auto, using(crate::proofs::Relayings::none_behind))]
+    fn note(&mut self, attended: Result<Attendance<'_>, Shortage>)
+        ensures { self.new ≡ record self.old {
+          shortage = first_told self.old.shortage (result_err attended.entry);
+        } }
     {
         match attended {
             Ok(_attended) => {}
-            Err(shortage) => self.shortages.note(shortage),
+            Err(shortage) => {
+                let fault = shortage.told();
+                if self.first.is_none() {
+                    self.first = Some(fault);
+                }
+            }
         }
-        self.remove(bound, number)
-    }
-
-    /// The connection of this number is open no more, and its end is counted.
-    fn remove(&mut self, bound: &ServingTerms, number: u64) -> CountedEnd
-        ensures left { self.new ≡ record self.old {
-          numbers = filter (λ n.
-              not (n == number)) self.old.numbers;
-          ended = one_more bound.now.sessions self.old.ended;
-        } }
-        ensures number { result ≡ number }
-    {
-        self.open.retain(|open| open.number() != number);
-        self.ended(bound);
-        CountedEnd { number }
     }
 
     /// One connection more has ended. After the last one that is to end no more are accepted, and
@@ -338,6 +357,7 @@ impl Connections {
 
     /// How the serving ended whose accepting was over so. Told is that all were given up, and else the
     /// first shortage.
+    #[tactic(auto, using(crate::proofs::Relayings::told_at_last, crate::proofs::Relayings::told_given_up))]
     pub(crate) fn into_end(self, over: Over) -> ServingEnd
         ensures fault { result.fault ≡ told_after over self.shortage }
         ensures ended { result.ended ≡ ended_in over }
@@ -347,8 +367,13 @@ impl Connections {
             next: _,
             ended: _,
             given_up: _,
-            shortages,
+            first,
         } = self;
-        shortages.after(over)
+        let fault = if over.have_ended() {
+            first
+        } else {
+            Some(ServeFault::Thread)
+        };
+        ServingEnd { fault, over }
     }
 }
