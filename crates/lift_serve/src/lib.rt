@@ -23,7 +23,7 @@ pub use connections::Ticket;
 pub use first_line::terminal_of;
 pub use keeping::journals_keep;
 pub use lift_memory::Memory;
-pub use lift_relay::{Failed, Flusher, HeardBy, NoWitness, Witness};
+pub use lift_relay::{Failed, Flusher, HeardBy, Witness};
 pub use pace::{Pace, PagedAsk, Pager, RingCount};
 pub use prepared::seating::{HeldSeat, Lobby, NoSeat, SeatReturn, Vacancy};
 pub use prepared::shortages::ServingEnd;
