@@ -1,5 +1,5 @@
 //! A gate that a count closes, and a witness that counts.
-use lift_relay::{Failed, Gate, Witness};
+use lift_relay::{BothRun, Failed, Gate, Witness};
 use std::sync::Wait;
 use std::sync::atomic::{AtomicU64, Ordering};
 use std::thread;
@@ -50,6 +50,8 @@ impl Gate for Below {
     fn go_on(&self) -> bool {
         self.count.load(Ordering::SeqCst) < self.limit
     }
+
+    fn both_run(&self, _both: BothRun) {}
 
     fn allocator_idles<R: Wait>(&self, _rt: &R) {
         thread::yield_now();

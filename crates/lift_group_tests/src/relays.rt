@@ -4,11 +4,12 @@ ghost use Rattle.lift_parts.specs.Parts.{AreOfOne};
 
 use crate::device::Device;
 use crate::gate::{Below, Counter};
+use core::mem::replace_with;
 use lift_clerk::{Clerk, Counts};
 use lift_disk::Disk;
 use lift_keeper::KeeperFault;
 use lift_policy::{Etd, Policy};
-use lift_relay::{Allocator, FlushCounts, Flusher, NoWitness, RunFault, rejoin, run, split};
+use lift_relay::{Allocator, FlushCounts, Flusher, RunFault, rejoin, run, split};
 use std::alloc::Global;
 use std::process::Abort;
 use std::sync::Wait;
@@ -39,7 +40,7 @@ impl<'d, 'b, D: Disk + Drop, P: Policy + Drop> Relay<'d, 'b, D, P> {
     }
 
     pub(crate) fn flush<R: Wait>(&mut self, rt: &R) -> Result<FlushCounts, KeeperFault> {
-        self.flusher.turn(rt, &mut NoWitness)
+        self.flusher.turn(rt, &mut ())
     }
 
     /// Whether this many batches were sent and received, and whether one is in hand just where one
@@ -56,9 +57,17 @@ impl<'d, 'b, D: Disk + Drop, P: Policy + Drop> Relay<'d, 'b, D, P> {
         P: Send,
         ensures { self.new.allocator.desk ≡ self.old.allocator.desk }
     {
-        let witness = Counter { gate };
-        let (_, fault) = run(rt, &mut self.allocator, &mut self.flusher, gate, witness);
-        fault
+        replace_with(
+            self,
+            Counter { gate },
+            |relay: Self, witness: Counter| -> (Self, Option<RunFault>)
+                ensures { result.0.allocator.desk ≡ relay.entry.allocator.desk }
+            {
+                let Relay { allocator, flusher } = relay;
+                let (allocator, flusher, _, fault) = run(rt, allocator, flusher, gate, witness);
+                (Relay { allocator, flusher }, fault)
+            },
+        )
     }
 
     /// The parts, which may not join, as they are handed back.

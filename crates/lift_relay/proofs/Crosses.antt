@@ -40,8 +40,7 @@ use Rattle.lift_relay.specs.contracts.basis.Basis.TheInside as basis_inside
 use Rattle.lift_relay.specs.contracts.batch.Batch as Batch
 use Rattle.lift_relay.specs.contracts.batch.Batch.TheInside as batch_inside
 use Rattle.lift_relay.specs.contracts.line.EndView as EndView
-use Rattle.lift_relay.specs.contracts.line.InOrder as InOrder
-use Rattle.lift_relay.specs.contracts.line.InOrderProtocolBatchEndView.TheImpl as order
+use Rattle.lift_relay.specs.contracts.line.EndViewProtocolBatch.TheImpl as order
 use Rattle.lift_relay.specs.contracts.line.SendEnd as SendEnd
 use Rattle.lift_relay.specs.contracts.line.SendEnd.TheInside as end_inside
 use Rattle.lift_relay.specs.contracts.side.Side as Side
@@ -53,8 +52,7 @@ use Rattle.lift_relay.specs.contracts.allocator.Allocator as Allocator
 use Rattle.lift_relay.specs.contracts.allocator.Allocator.TheInside as allocator_inside
 use Rattle.lift_relay.specs.contracts.gate.AskingAllocator as Asking
 use Rattle.lift_relay.specs.contracts.gate.AskingAllocator.TheInside as asking_inside
-use Rattle.lift_relay.specs.contracts.gate.Closed as Closed
-use Rattle.lift_relay.specs.contracts.gate.Closed.TheInside as closed_inside
+use Rattle.lift_relay.specs.contracts.gate.GatedAllocator as Gated
 
 unit_send : IsSend unit
 unit_send = search sendable depth 6
@@ -84,8 +82,8 @@ abbrev doing : RattleType
 doing = Doing.the_row Batch.the_row EndView.the_row
 
 abbrev queue : RattleType
-queue = Slotted.the_row (Option.the_row Batch.the_row) doing (Turns.the_row InOrder.the_row) Global.the_row
-    (turns.ghosts Batch.the_row EndView.the_row InOrder.the_row order.ghosts turns.no_dict) heap.ghosts
+queue = Slotted.the_row (Option.the_row Batch.the_row) doing (Turns.the_row EndView.the_row) Global.the_row
+    (turns.ghosts Batch.the_row EndView.the_row EndView.the_row order.ghosts turns.no_dict) heap.ghosts
 
 queue_send : IsSend queue
 queue_send = search (sendable, crosses, queues.the_send, option_send, batch_send) depth 12
@@ -123,8 +121,8 @@ allocator_send d b P h s = view_send _ _ _ _ _ (declared_send (allocator_inside.
 pub asking_send : (d b : NamedLft) (P : RattleType) (h : Ghosts P.Denot) → IsSend P → IsSend (Asking.the_row d b P h)
 asking_send d b P h s = view_send _ _ _ _ _ (declared_send (asking_inside.the_type d b P h) (as_row_send (Allocator.the_field d b P h) (allocator_send d b P h s), tt))
 
-closed_send : (d b : NamedLft) (P : RattleType) (h : Ghosts P.Denot) → IsSend P → IsSend (Closed.the_row d b P h)
-closed_send d b P h s = view_send _ _ _ _ _ (declared_send (closed_inside.the_type d b P h) (as_row_send (Allocator.the_field d b P h) (allocator_send d b P h s), tt))
+gated_send : (d b : NamedLft) (P : RattleType) (h : Ghosts P.Denot) → IsSend P → IsSend (Gated.the_row d b P h)
+gated_send d b P h s = declared_send (Gated.the_type d b P h) (as_row_send (Allocator.the_field d b P h) (allocator_send d b P h s), (as_row_send bool-field (search sendable depth 6), tt))
 
-pub allocating_send : (d b : NamedLft) (P : RattleType) (h : Ghosts P.Denot) → IsSend P → IsSend (RS.the_row (Closed.the_row d b P h) (Asking.the_row d b P h))
-allocating_send d b P h s = search (sendable, crosses, closed_send, asking_send) depth 12
+pub allocating_send : (d b : NamedLft) (P : RattleType) (h : Ghosts P.Denot) → IsSend P → IsSend (RS.the_row (Gated.the_row d b P h) (Asking.the_row d b P h))
+allocating_send d b P h s = search (sendable, crosses, gated_send, asking_send) depth 12

@@ -1,6 +1,8 @@
 -- What a run leaves, of both parts.
-use Rattle.std.proofs.Common.{◌≡◌, true, List, [], length, Option, Some, None, ap, subst, inl, inr, sym, ◌∙◌}
-use Rattle.std.specs.Prelude.{option_map}
+use Rattle.std.proofs.Common.{◌≡◌, true, List, [], length, Option, Some, None, refl, ap, subst, inl, inr, sym, ◌∙◌}
+use Rattle.std.specs.Prelude.{option_map, Result, Ok, Err}
+use Rattle.std.specs.Option.{option_or}
+use Rattle.std.specs.Result.{result_err}
 use Rattle.lift_base.specs.declared.history.Entry.{Entry}
 use Rattle.lift_world.specs.declared.event.Taken.{Taken}
 use Rattle.lift_disk.specs.Disk.{DiskState}
@@ -11,12 +13,23 @@ use Rattle.lift_relay.specs.declared.pair.RunFault.{RunFault}
 use Rattle.lift_relay.specs.declared.pair.RunFault.TheVariants.{Keeper, Spawn}
 use Rattle.lift_parts.specs.Allocator.{AllocatorState}
 use Rattle.lift_parts.specs.Flusher.{FlusherState}
-use Rattle.lift_parts.specs.Turns.{AllocatorTurns, FlusherTurns, NoMore, NoFlush}
+use Rattle.lift_parts.specs.declared.counts.FlushCounts.{FlushCounts}
+use Rattle.lift_parts.specs.Turns.{AllocatorTurns, FlusherTurns, IsFlush, NoMore, NoFlush, OneFlush, first_of}
 use Rattle.lift_parts.specs.Parts.{AreOfOne}
 use Rattle.lift_relay.specs.Pair.{HaveRun, IsRun, AreSameParts, TurnsKeepParts}
 use Rattle.lift_clerk.specs.History.{History}
 use Rattle.lift_parts.specs.History.{GoesOnTo, TurnsGoOn, group_after}
 use Rattle.lift_parts.specs.lemmas.Paired.{turns_joined, flushes_joined, same_allocator, same_flusher, still_of_one, faults_broken}
+
+first_is : (first : Option KeeperFault) (answer : Result FlushCounts KeeperFault) → option_or first (result_err answer) ≡ first_of first answer
+first_is None (Ok counts) = refl
+first_is None (Err fault) = refl
+first_is (Some of) answer = refl
+
+-- one turn more, which told its fault if there was none before
+pub one_flush : {D : Type 0} (state : D → DiskState) (f g h : FlusherState D) (before first of last : Option KeeperFault) (answer : Result FlushCounts KeeperFault)
+    → FlusherTurns state f before g first → IsFlush state g h answer → of ≡ result_err answer → last ≡ option_or first of → FlusherTurns state f before h last
+one_flush state f g h before first of last answer turns flush is told = OneFlush turns flush (told ∙ ap (option_or first) is ∙ first_is first answer)
 
 abbrev pub fault_of : Option KeeperFault → Option RunFault
 fault_of first = option_map (λ (of : KeeperFault). Keeper of) first
@@ -71,14 +84,24 @@ goes_on {D} choice state a b f g fault law (inl refused) base safe given h =
 goes_on choice state a b f g fault law (inr run) base safe given h = law f g None run.0.first run.0.flusher base safe given h
 
 -- a drain after the turns of both parts
-pub have_run : {D P : Type 0} (chooses : P → Choice) (state : D → DiskState) (a b c : AllocatorState P) (f g h : FlusherState D) (first last : Option KeeperFault) (fault : Option RunFault)
-    → AllocatorTurns (chooses a.policy) a b → FlusherTurns state f None g first → AllocatorTurns (chooses b.policy) b c → FlusherTurns state g first h last
-    → c.hand ≡ [] → fault ≡ fault_of last → HaveRun (chooses a.policy) state a c f h fault
-have_run {D} {P} chooses state a b c f g h first last fault turns flushes rest drain none is = record {
-  first = last;
-  is_first = is;
-  allocator = turns_joined (chooses a.policy) a b c turns
-      (subst (λ (p : P). AllocatorTurns (chooses p) b c) (same_allocator (chooses a.policy) a b turns).policy rest);
-  flusher = flushes_joined state f g h None first last flushes drain;
-  nothing_in_hand = none;
-}
+pub run_of : {D P : Type 0} (chooses : P → Choice) (state : D → DiskState) (a b c : AllocatorState P) (f g h : FlusherState D) (first : Option KeeperFault) (fault : Option RunFault)
+    → AllocatorTurns (chooses a.policy) a b → FlusherTurns state f None g first → AllocatorTurns (chooses b.policy) b c
+    → ((last : Option KeeperFault) × FlusherTurns state g first h last × (fault ≡ fault_of last)) → c.hand ≡ [] → length c.end.sent ≡ length h.end.received
+    → IsRun (chooses a.policy) state a c f h fault
+run_of {D} {P} chooses state a b c f g h first fault turns flushes rest drain none all = inr (
+  record {
+    first = drain.0;
+    is_first = drain.2;
+    allocator = turns_joined (chooses a.policy) a b c turns
+        (subst (λ (p : P). AllocatorTurns (chooses p) b c) (same_allocator (chooses a.policy) a b turns).policy rest);
+    flusher = flushes_joined state f g h None first drain.0 flushes drain.1;
+    nothing_in_hand = none;
+  },
+  all,
+)
+
+-- a run of the same parts, as they stand now
+pub run_is : {D P : Type 0} (chooses : P → Choice) (state : D → DiskState) (o a b c : AllocatorState P) (f g h : FlusherState D) (fault : Option RunFault) → o ≡ a → c ≡ b → h ≡ g
+    → IsRun (chooses o.policy) state o b f g fault → IsRun (chooses a.policy) state a c f h fault
+run_is {D} {P} chooses state o a b c f g h fault asks same_a same_f run =
+    subst (λ (p : AllocatorState P × AllocatorState P × FlusherState D). IsRun (chooses p.0.policy) state p.0 p.1 f p.2 fault) (λ i. (asks i, sym same_a i, sym same_f i)) run

@@ -1,9 +1,10 @@
 -- What both parts do in a run, each on its own thread.
-use Rattle.std.specs.Prelude.{◌≡◌, ◌⊎◌, [], length, Option, Some, None, option_map}
+use Rattle.std.specs.Prelude.{◌≡◌, ◌⊎◌, [], length, false, Option, Some, None, option_map}
 use Rattle.std.specs.Prelude.{Result, Ok, Err}
 use Rattle.lift_disk.specs.Disk.{DiskState}
 use Rattle.lift_policy.specs.Eligible.{Choice}
 use Rattle.lift_keeper.specs.declared.fault.KeeperFault.{KeeperFault}
+use Rattle.lift_relay.specs.declared.gate.GatedAllocator.{GatedAllocator}
 use Rattle.lift_relay.specs.declared.pair.RunFault.{RunFault}
 use Rattle.lift_relay.specs.declared.pair.RunFault.TheVariants.{Keeper, Spawn}
 use Rattle.lift_parts.specs.Turns.{AllocatorTurns, FlusherTurns, IsSameAllocator, IsSameFlusher}
@@ -11,20 +12,11 @@ use Rattle.lift_parts.specs.Allocator.{AllocatorState}
 use Rattle.lift_parts.specs.Flusher.{FlusherState}
 use Rattle.lift_parts.specs.Parts.{AreOfOne}
 
--- the part after its turns, or as it was
+-- the part after its turns, whose gate has said not to go on, or as it was
 abbrev pub ComesFrom : {P : Type 0} → Choice → AllocatorState P
-    → Result (AllocatorState P) (AllocatorState P) → Type 0
-ComesFrom choice old (Ok now) = AllocatorTurns choice old now
-ComesFrom choice old (Err now) = now ≡ old
-
--- each part has had its turns; or no thread could be made, and both are as they were
-abbrev pub HaveTurned : {D P : Type 0} → Choice → (D → DiskState) → AllocatorState P
-    → FlusherState D
-    → Result (AllocatorState P × Option KeeperFault) (AllocatorState P × Unit {0})
-    → FlusherState D → Type 0
-HaveTurned choice state a f (Ok ran) g = AllocatorTurns choice a ran.0
-    × FlusherTurns state f None g ran.1
-HaveTurned choice state a f (Err idle) g = (idle.0 ≡ a) × (g ≡ f)
+    → Result (GatedAllocator P) (AllocatorState P) → Type 0
+ComesFrom choice old (Ok ran) = AllocatorTurns choice old ran.allocator × (ran.goes_on ≡ false)
+ComesFrom choice old (Err idle) = idle ≡ old
 
 -- Each part had its turns, and what was in hand then was sent. The fault is the flusher's first, if
 -- it had one.

@@ -127,32 +127,29 @@ impl<'d, 'b, P: Policy + Drop> Allocator<'d, 'b, P> {
         self.scanner.tell_terminal(seat)
     }
 
-    /// It and the other end of its line, once they were compared. Both are as they were.
-    pub(crate) fn compared(mut self, receiver: ReceiveEnd) -> (Self, ReceiveEnd, ())
-        requires line { receiver.line ≡ self.end.line }
-        requires building { receiver.building ≡ self.plan }
-        requires desk { receiver.desk ≡ self.desk }
-        ensures allocator { result.0 ≡ self.entry }
-        ensures receiver { result.1 ≡ receiver }
-        ensures queued { Queued result.0.end result.1 }
+    /// Compares it with the other end of its line. Both stay as they are.
+    pub(crate) fn compare(&mut self, receiver: ReceiveEnd) -> ReceiveEnd
+        requires line { receiver.line ≡ self.old.end.line }
+        requires building { receiver.building ≡ self.old.plan }
+        requires desk { receiver.desk ≡ self.old.desk }
+        ensures allocator { self.new ≡ self.old }
+        ensures receiver { result ≡ receiver }
+        ensures queued { Queued self.new.end result }
     {
-        let receiver = self.end.compare(receiver);
-        (self, receiver, ())
+        self.end.compare(receiver)
     }
 
-    /// It and the other end of its line, once they were told how much was sent and how much was
-    /// received.
-    pub(crate) fn told(mut self, receiver: ReceiveEnd) -> (Self, ReceiveEnd, ())
-        requires line { receiver.line ≡ self.end.line }
-        requires building { receiver.building ≡ self.plan }
-        requires desk { receiver.desk ≡ self.desk }
-        ensures allocator { result.0
-            ≡ record self.entry { end = record self.entry.end { gone = receiver.received } } }
-        ensures receiver { result.1 ≡ record receiver { known = self.entry.end.sent } }
-        ensures queued { Queued result.0.end result.1 }
+    /// Tells it how much was received, and the other end of its line how much was sent.
+    pub(crate) fn tell(&mut self, receiver: ReceiveEnd) -> ReceiveEnd
+        requires line { receiver.line ≡ self.old.end.line }
+        requires building { receiver.building ≡ self.old.plan }
+        requires desk { receiver.desk ≡ self.old.desk }
+        ensures allocator { self.new
+            ≡ record self.old { end = record self.old.end { gone = receiver.received } } }
+        ensures receiver { result ≡ record receiver { known = self.old.end.sent } }
+        ensures queued { Queued self.new.end result }
     {
-        let receiver = self.end.tell(receiver);
-        (self, receiver, ())
+        self.end.tell(receiver)
     }
 
     /// The clerk of this part and of the half of the other that answers, for the key.

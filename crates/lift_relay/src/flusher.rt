@@ -15,7 +15,6 @@ ghost use Rattle.lift_relay.specs.Heard.{FailureHeard};
 
 use crate::allocator::Allocator;
 use crate::line::ReceiveEnd;
-use crate::places::with_both;
 use crate::relay::Key;
 use crate::settling::Settler;
 use crate::witness::{HeardBy, Witness};
@@ -124,25 +123,29 @@ impl<'d, 'b, D: Disk, K> Flusher<'d, 'b, D, K> {
     }
 
     /// Compares it with the other part, at the other end of its line. Both stay as they are.
-    pub(crate) fn compare<P: Policy + Drop>(&mut self, allocator: &mut Allocator<'_, '_, P>)
-        requires of_one { AreOfOne allocator.old self.old }
-        ensures flusher { self.new ≡ self.old }
+    pub(crate) fn compare<P: Policy + Drop>(self, allocator: &mut Allocator<'_, '_, P>) -> Self
+        requires of_one { AreOfOne allocator.old self }
+        ensures flusher { result ≡ self.entry }
         ensures allocator { allocator.new ≡ allocator.old }
-        ensures queued { Queued allocator.new.end self.new.end }
+        ensures queued { Queued allocator.new.end result.end }
     {
-        with_both(allocator, &mut self.end, Allocator::compared)
+        let Flusher { settler, end } = self;
+        let end = allocator.compare(end);
+        Flusher { settler, end }
     }
 
     /// Tells it and the other part, at the other end of its line, how much was sent and how much
     /// was received.
-    pub(crate) fn tell<P: Policy + Drop>(&mut self, allocator: &mut Allocator<'_, '_, P>)
-        requires of_one { AreOfOne allocator.old self.old }
-        ensures flusher { self.new
-            ≡ record self.old { end = record self.old.end { known = allocator.old.end.sent } } }
-        ensures allocator { allocator.new ≡ record allocator.old { end = record allocator.old.end { gone = self.old.end.received } } }
-        ensures queued { Queued allocator.new.end self.new.end }
+    pub(crate) fn tell<P: Policy + Drop>(self, allocator: &mut Allocator<'_, '_, P>) -> Self
+        requires of_one { AreOfOne allocator.old self }
+        ensures flusher { result
+            ≡ record self.entry { end = record self.entry.end { known = allocator.old.end.sent } } }
+        ensures allocator { allocator.new ≡ record allocator.old { end = record allocator.old.end { gone = self.entry.end.received } } }
+        ensures queued { Queued allocator.new.end result.end }
     {
-        with_both(allocator, &mut self.end, Allocator::told)
+        let Flusher { settler, end } = self;
+        let end = allocator.tell(end);
+        Flusher { settler, end }
     }
 
     /// Tells it what a terminal has asked so far, and the terminal what was answered there so far. By

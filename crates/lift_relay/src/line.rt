@@ -41,10 +41,8 @@ pub struct EndView {
     pub next_turns: LinkedList<u64>,
 }
 
-/// What holds of the line between the two parts: batches come in the order in which they were sent.
-pub struct InOrder;
-
-impl Protocol<Batch, EndView> for InOrder {
+// What holds of the line between the two parts: batches come in the order in which they were sent.
+impl Protocol<Batch, EndView> for EndView {
     ghost use Rattle.lift_relay.specs.Rule.{IsLineKept, opening_view};
 
     ghost holds = { IsLineKept };
@@ -53,7 +51,7 @@ impl Protocol<Batch, EndView> for InOrder {
 }
 
 // A batch without commands, which names the building, the desk and the first state, goes through.
-impl Outcome<Batch, EndView> for InOrder {
+impl Outcome<Batch, EndView> for EndView {
     ghost use Rattle.lift_relay.specs.Rule.{Opened};
 
     ghost then = { Opened };
@@ -61,7 +59,7 @@ impl Outcome<Batch, EndView> for InOrder {
 
 // The first pass sends, and the new one receives. Before they part, the first learns what the queue
 // holds.
-impl Split<EndView> for InOrder {
+impl Split<EndView> for EndView {
     ghost use Rattle.lift_relay.specs.Rule.{sending, receiving};
 
     ghost left = { sending };
@@ -69,14 +67,14 @@ impl Split<EndView> for InOrder {
     ghost right = { receiving };
 }
 
-impl Lesson<Batch, EndView> for InOrder {
+impl Lesson<Batch, EndView> for EndView {
     ghost use Rattle.lift_relay.specs.Rule.{HoldsUnreceived};
 
     ghost fact = { HoldsUnreceived };
 }
 
 // The sending pass takes in the receiving one.
-impl Join<EndView> for InOrder {
+impl Join<EndView> for EndView {
     ghost use Rattle.lift_relay.specs.Rule.{with_both_passes, spent_pass};
 
     ghost both = { with_both_passes };
@@ -84,7 +82,7 @@ impl Join<EndView> for InOrder {
     ghost spent = { spent_pass };
 }
 
-type LineSide = Side<RuledArrayQueue<Batch, EndView, InOrder>, Pass<Batch, EndView>>;
+type LineSide = Side<RuledArrayQueue<Batch, EndView, EndView>, Pass<Batch, EndView>>;
 
 /// The allocator's end. Contracts see which line it is of, what was sent, and where that leads.
 #[derive(Drop)]
@@ -165,12 +163,12 @@ impl Lesson<Batch, EndView> for ReceiveEnd {
 pub fn new_line(alloc: Global, first: Batch) -> Result<(SendEnd, ReceiveEnd), Memory>
     ensures { IfOk result (λ ends. IsLine first ends.0 ends.1) }
 {
-    let (queue, mut pass) = passed_queue::<Batch, EndView, InOrder, InOrder, InOrder>(
+    let (queue, mut pass) = passed_queue::<Batch, EndView, EndView, EndView, EndView>(
         alloc,
         MOST_BATCHES,
         first,
     )?;
-    let other = queue.another::<InOrder>(&mut pass);
+    let other = queue.another::<EndView>(&mut pass);
     let (line, theirs) = two_owners(alloc, queue)?;
     Ok((
         SendEnd {
@@ -216,7 +214,7 @@ impl SendEnd {
         ensures queued { Queued self.new result }
     {
         let ReceiveEnd { side, count } = receiver;
-        let met = self.side.meet::<InOrder, InOrder>(side);
+        let met = self.side.meet::<EndView, EndView>(side);
         ReceiveEnd { side: met, count }
     }
 
@@ -233,7 +231,7 @@ impl SendEnd {
             side: theirs,
             count,
         } = receiver;
-        let told = self.side.meet::<SendEnd, InOrder>(theirs);
+        let told = self.side.meet::<SendEnd, EndView>(theirs);
         ReceiveEnd { side: told, count }
     }
 }

@@ -1,25 +1,22 @@
 //! Both parts on two threads.
 
-ghost use Rattle.std.specs.Prelude.{◌≡◌, ◌≢◌, ◌<◌, ◌≤◌, List, [], length, true, false, Some, None};
-ghost use Rattle.std.specs.Prelude.{Result, IfOk};
+ghost use Rattle.std.specs.Prelude.{◌≡◌, ◌≢◌, ◌<◌, ◌≤◌, List, [], length, true, false, Option, Some, None};
+ghost use Rattle.std.specs.Prelude.{IfOk, option_map};
 ghost use Rattle.lift_base.specs.declared.history.Entry.{Entry};
 ghost use Rattle.lift_register.specs.Register.{RegisterState};
 ghost use Rattle.lift_keeper.specs.declared.fault.KeeperFault.{KeeperFault};
 ghost use Rattle.lift_world.specs.declared.event.Taken.{Taken};
-ghost use Rattle.lift_parts.specs.declared.counts.FlushCounts.{FlushCounts};
 ghost use Rattle.lift_parts.specs.Queued.{Queued};
 ghost use Rattle.lift_parts.specs.Parts.{AreOfOne};
-ghost use Rattle.lift_parts.specs.Turns.{AllocatorTurns, FlusherTurns, IsFlush, IsSending};
-ghost use Rattle.lift_parts.specs.Turns.{first_of};
-ghost use Rattle.lift_relay.specs.Pair.{ComesFrom, HaveTurned, IsRun, HaveRun, AreSameParts};
+ghost use Rattle.lift_parts.specs.Turns.{AllocatorTurns, FlusherTurns, IsSending};
+ghost use Rattle.lift_relay.specs.Pair.{ComesFrom, IsRun, HaveRun, AreSameParts};
 ghost use Rattle.lift_relay.specs.Heard.{FailureHeard};
 ghost use Rattle.lift_clerk.specs.History.{History};
 ghost use Rattle.lift_parts.specs.History.{GoesOnTo, group_after};
 
 use crate::allocator::Allocator;
 use crate::flusher::Flusher;
-use crate::gate::{AskingAllocator, Closed, Gate};
-use crate::places::with_both;
+use crate::gate::{AskingAllocator, Gate, GatedAllocator};
 use crate::refused::{NoThread, spawn};
 use crate::tie::turns_keep_parts;
 use crate::witness::{HeardBy, Witness};
@@ -47,18 +44,18 @@ fn allocate<'d, 'b, R: Wait, G: Gate, P: Policy + Drop>(
     rt: &R,
     allocator: AskingAllocator<'d, 'b, P>,
     gate: &G,
-) -> Closed<'d, 'b, P>
-    ensures turns { AllocatorTurns (P.chooses allocator.entry.policy) allocator.entry result }
+) -> GatedAllocator<'d, 'b, P>
+    ensures turns { AllocatorTurns
+        (P.chooses allocator.entry.policy) allocator.entry result.allocator }
+    ensures stopped { result.goes_on ≡ false }
     ensures closed { G.closed gate.now }
 {
-    let (mut turning, mut answer) = allocator.begin(gate);
+    let mut gated = allocator.begin(gate);
     for _ in rt.forever() {
-        let yes = match answer {
-            Ok(yes) => yes,
-            Err(no) => return turning.closed(no),
-        };
-        let turn = turning.turn(rt, yes);
-        answer = turning.tell(rt, turn, gate);
+        if !gated.goes_on() {
+            return gated;
+        }
+        gated.turn(rt, gate);
     }
     unreachable!()
 }
@@ -84,25 +81,6 @@ fn tell_of_flusher<R: Wait, G: Gate, D: Disk, K>(
     }
 }
 
-/// One turn. Keeps the first fault of all.
-fn flush_once<R: Wait, D: Disk, K: HeardBy<V>, V: Witness>(
-    rt: &R,
-    flusher: &mut Flusher<'_, '_, D, K>,
-    first: &mut Option<KeeperFault>,
-    witness: &mut V,
-)
-    ensures turns { (answer : Result FlushCounts KeeperFault)
-        × IsFlush D.state flusher.old flusher.new answer × (first.new ≡ first_of first.old answer) }
-    ensures heard { FailureHeard V.hears
-        flusher.old.writer.is_broken flusher.new.writer.is_broken witness.old witness.new }
-{
-    if let Err(fault) = flusher.turn(rt, witness) {
-        if first.is_none() {
-            *first = Some(fault);
-        }
-    }
-}
-
 /// Turns while the gate goes on. The first fault, if there was one.
 fn flush<R: Wait, G: Gate, D: Disk, K: HeardBy<V>, V: Witness>(
     rt: &R,
@@ -121,43 +99,60 @@ fn flush<R: Wait, G: Gate, D: Disk, K: HeardBy<V>, V: Witness>(
             break;
         }
         let received = flusher.received();
-        flush_once(rt, flusher, &mut first, witness);
+        first = first.or(flusher.turn(rt, witness).err());
         tell_of_flusher(rt, flusher, received, gate);
     }
     first
 }
 
-/// Sends the batch in hand and receives all that was sent, by turns of the flusher. The first fault
-/// of all turns, of which one may be there already.
-fn drain<R: Wait, D: Disk, P: Policy + Drop, K: HeardBy<V>, V: Witness>(
+/// Both parts after a run, with its witness, and why the run was not all it should be.
+type Ran<'d, 'b, D, P, K, V> = (
+    Allocator<'d, 'b, P>,
+    Flusher<'d, 'b, D, K>,
+    V,
+    Option<RunFault>,
+);
+
+/// Sends the batch in hand and receives all that was sent, by turns of the flusher. Tells the first
+/// fault of all turns, of which one may be there already.
+fn drain<'a, 'c, 'd, 'b, R: Wait, D: Disk, P: Policy + Drop, K: HeardBy<V>, V: Witness>(
     rt: &R,
-    allocator: &mut Closed<'_, '_, P>,
-    flusher: &mut Flusher<'_, '_, D, K>,
+    mut allocator: GatedAllocator<'a, 'c, P>,
+    mut flusher: Flusher<'d, 'b, D, K>,
     mut first: Option<KeeperFault>,
-    witness: &mut V,
-) -> Option<KeeperFault>
-    ensures allocator { AllocatorTurns
-        (P.chooses allocator.old.policy) allocator.old allocator.new }
-    ensures flusher { FlusherTurns D.state flusher.old first flusher.new result }
+    mut witness: V,
+) -> (
+    Allocator<'a, 'c, P>,
+    Flusher<'d, 'b, D, K>,
+    V,
+    Option<RunFault>,
+)
+    requires closed { allocator.goes_on ≡ false }
+    ensures allocator { AllocatorTurns (P.chooses allocator.entry.allocator.policy)
+        allocator.entry.allocator result.0 }
+    ensures flusher { (last : Option KeeperFault)
+        × FlusherTurns D.state flusher.entry first result.1 last
+        × (result.3 ≡ option_map (λ (fault : KeeperFault). RunFault.Keeper fault) last) }
     ensures heard { FailureHeard V.hears
-        flusher.old.writer.is_broken flusher.new.writer.is_broken witness.old witness.new }
+        flusher.entry.writer.is_broken result.1.writer.is_broken witness result.2 }
     // It takes nothing.
-    ensures sends { IsSending allocator.old allocator.new }
-    ensures nothing_in_hand { allocator.new.hand ≡ [] }
-    ensures all_received { length allocator.new.end.sent ≡ length flusher.new.end.received }
+    ensures sends { IsSending allocator.entry.allocator result.0 }
+    ensures nothing_in_hand { result.0.hand ≡ [] }
+    ensures all_received { length result.0.end.sent ≡ length result.1.end.received }
 {
     for _ in rt.forever() {
         let is_sent = allocator.send_hand(rt);
         if is_sent && allocator.sent() == flusher.received() {
-            break;
+            let fault = first.map(RunFault::Keeper);
+            return (allocator.drained(&flusher), flusher, witness, fault);
         }
-        flush_once(rt, flusher, &mut first, witness);
+        first = first.or(flusher.turn(rt, &mut witness).err());
     }
-    first
+    unreachable!()
 }
 
 /// What the allocating thread gives back: the part after its turns, or as it was.
-type Allocating<'d, 'b, P> = Result<Closed<'d, 'b, P>, AskingAllocator<'d, 'b, P>>;
+type Allocating<'d, 'b, P> = Result<GatedAllocator<'d, 'b, P>, AskingAllocator<'d, 'b, P>>;
 
 #[derive(Drop)]
 struct OfPart<'d, 'b, P: Policy + Drop>(Snapshot<AskingAllocator<'d, 'b, P>>);
@@ -168,22 +163,15 @@ impl<'d, 'b, P: Policy + Drop> Promise<Allocating<'d, 'b, P>> for OfPart<'d, 'b,
     ghost kept_by = { λ p r. ComesFrom (P.chooses p.0.value.policy) p.0.value r };
 }
 
-/// The allocator after the turns of both parts, with the flusher's first fault; or as it was, where no
-/// thread could be made.
-type Turned<'d, 'b, P> = Result<
-    (Closed<'d, 'b, P>, Option<KeeperFault>),
-    (AskingAllocator<'d, 'b, P>, NoThread),
->;
-
-/// Both parts after their turns on two threads. Where no thread could be made, they are as they
-/// were.
-fn turn_both<'d, 'b, R, G, D, P, K, V>(
+/// Both parts after their turns on two threads, once what was in hand is sent and all that was sent is
+/// received. Where no thread could be made, they are as they were.
+fn run_both<'d, 'b, R, G, D, P, K, V>(
     rt: &R,
     allocator: AskingAllocator<'d, 'b, P>,
     mut flusher: Flusher<'d, 'b, D, K>,
     gate: &G,
     mut witness: V,
-) -> (Turned<'d, 'b, P>, Flusher<'d, 'b, D, K>, V)
+) -> Ran<'d, 'b, D, P, K, V>
 where
     R: Threads + Wait + Sync,
     G: Gate + Sync,
@@ -191,23 +179,23 @@ where
     P: Policy + Drop + Send,
     K: HeardBy<V> + Drop,
     V: Witness + Drop,
-    ensures turned { HaveTurned (P.chooses allocator.entry.policy) D.state allocator.entry
-        flusher.entry result.0 result.1 }
+    ensures ran { IsRun (P.chooses allocator.entry.policy) D.state allocator.entry result.0
+        flusher.entry result.1 result.3 }
     ensures heard { FailureHeard V.hears
         flusher.entry.writer.is_broken result.1.writer.is_broken witness result.2 }
-    ensures closed { IfOk result.0 (λ _. G.closed gate.now) }
+    ensures closed { result.3 ≢ Some (RunFault.Spawn tt) → G.closed gate.now }
 {
     let may_run = AtomicBool::new(true);
     let flag = &may_run;
     thread::scope(
         thread::scope_env(),
         rt,
-        move |scope| -> (Turned<P>, Flusher<D, K>, V)
-            ensures turned { HaveTurned (P.chooses allocator.entry.policy) D.state
-                allocator.entry flusher.entry result.0 result.1 }
+        move |scope| -> (Allocator<P>, Flusher<D, K>, V, Option<RunFault>)
+            ensures ran { IsRun (P.chooses allocator.entry.policy) D.state allocator.entry
+                result.0 flusher.entry result.1 result.3 }
             ensures heard { FailureHeard V.hears
                 flusher.entry.writer.is_broken result.1.writer.is_broken witness result.2 }
-            ensures closed { IfOk result.0 (λ _. G.closed gate.entry.now) }
+            ensures closed { result.3 ≢ Some (RunFault.Spawn tt) → G.closed gate.entry.now }
         {
             let promise = OfPart(Snapshot::of(&allocator));
             let work = move || -> Allocating<P>
@@ -220,71 +208,30 @@ where
                     Err(allocator)
                 }
             };
-            match spawn(scope, promise, work) {
-                Ok((child, begun)) => {
-                    gate.both_run(begun);
+            match spawn(scope, promise, work, gate) {
+                Ok(child) => {
                     let first = flush(rt, &mut flusher, gate, &mut witness);
-                    match child.join(rt) {
-                        Ok(ran) => (Ok((ran, first)), flusher, witness),
-                        Err(idle) => {
-                            let ran = allocate(rt, idle, gate);
-                            (Ok((ran, first)), flusher, witness)
-                        }
-                    }
+                    let ran = match child.join(rt) {
+                        Ok(ran) => ran,
+                        Err(idle) => allocate(rt, idle, gate),
+                    };
+                    drain(rt, ran, flusher, first, witness)
                 }
                 Err((unmade, no_thread)) => {
                     // The closure alone has the allocator, and hands it back unturned.
                     flag.store(false, Ordering::SeqCst);
                     match unmade() {
                         // (never: the flag is down, so it has not run; its gate was told nothing)
-                        Ok(ran) => (Ok((ran, None)), flusher, witness),
-                        Err(idle) => (Err((idle, no_thread)), flusher, witness),
+                        Ok(ran) => drain(rt, ran, flusher, None, witness),
+                        Err(idle) => {
+                            let fault = Some(RunFault::Spawn(no_thread));
+                            (idle.back(no_thread), flusher, witness, fault)
+                        }
                     }
                 }
             }
         },
     )
-}
-
-/// As `run`, on parts by value.
-fn run_owned<'d, 'b, R, G, D, P, K, V>(
-    rt: &R,
-    allocator: AskingAllocator<'d, 'b, P>,
-    flusher: Flusher<'d, 'b, D, K>,
-    gate: &G,
-    witness: V,
-) -> (
-    Allocator<'d, 'b, P>,
-    Flusher<'d, 'b, D, K>,
-    (V, Option<RunFault>),
-)
-where
-    R: Threads + Wait + Sync,
-    G: Gate + Sync,
-    D: Disk + Drop,
-    P: Policy + Drop + Send,
-    K: HeardBy<V> + Drop,
-    V: Witness + Drop,
-    ensures ran { IsRun (P.chooses allocator.entry.policy) D.state allocator.entry result.0
-        flusher.entry result.1 result.2.1 }
-    ensures heard { FailureHeard V.hears
-        flusher.entry.writer.is_broken result.1.writer.is_broken witness result.2.0 }
-    ensures closed { result.2.1 ≢ Some (RunFault.Spawn tt) → G.closed gate.now }
-{
-    let (turned, mut flusher, mut witness) = turn_both(rt, allocator, flusher, gate, witness);
-    match turned {
-        Err((allocator, no_thread)) => {
-            let fault = Some(RunFault::Spawn(no_thread));
-            (allocator.back(no_thread), flusher, (witness, fault))
-        }
-        Ok((mut allocator, first)) => {
-            let fault = match drain(rt, &mut allocator, &mut flusher, first, &mut witness) {
-                Some(fault) => Some(RunFault::Keeper(fault)),
-                None => None,
-            };
-            (allocator.drained(&flusher), flusher, (witness, fault))
-        }
-    }
 }
 
 /// Runs both parts of one `split` while the gate goes on: the allocator's turns on a thread of its
@@ -297,14 +244,15 @@ where
 ///
 /// A device fault doesn't end it: the flusher's first is the answer, of which the witness is
 /// notified in the very turn, and what was received from then on was answered Unknown. `Spawn`
-/// where the thread couldn't be started; then it returns at once. The witness is given back.
+/// where the thread couldn't be started; then it returns at once. The parts and the witness are given
+/// back.
 pub fn run<'d, 'b, R, G, D, P, K, V>(
     rt: &R,
-    allocator: &mut Allocator<'d, 'b, P>,
-    flusher: &mut Flusher<'d, 'b, D, K>,
+    allocator: Allocator<'d, 'b, P>,
+    flusher: Flusher<'d, 'b, D, K>,
     gate: &G,
     witness: V,
-) -> (V, Option<RunFault>)
+) -> Ran<'d, 'b, D, P, K, V>
 where
     R: Threads + Wait + Sync,
     G: Gate + Sync,
@@ -312,50 +260,37 @@ where
     P: Policy + Drop + Send,
     K: HeardBy<V> + Drop,
     V: Witness + Drop,
-    requires of_one { AreOfOne allocator.old flusher.old }
-    ensures refused { result.1 ≡ Some (RunFault.Spawn tt)
-        → (allocator.new ≡ allocator.old) × (flusher.new ≡ flusher.old) }
-    ensures ran { result.1 ≢ Some (RunFault.Spawn tt)
-        → HaveRun (P.chooses allocator.old.policy) D.state allocator.old allocator.new flusher.old
-        flusher.new result.1 }
+    requires of_one { AreOfOne allocator flusher }
+    ensures refused { result.3 ≡ Some (RunFault.Spawn tt)
+        → (result.0 ≡ allocator.entry) × (result.1 ≡ flusher.entry) }
+    ensures ran { result.3 ≢ Some (RunFault.Spawn tt)
+        → HaveRun (P.chooses allocator.entry.policy) D.state allocator.entry result.0 flusher.entry
+        result.1 result.3 }
     // The witness was notified that the device failed, once, where it did first in the run; else it
     // is as it was.
     ensures heard { FailureHeard V.hears
-        flusher.old.writer.is_broken flusher.new.writer.is_broken witness result.0 }
+        flusher.entry.writer.is_broken result.1.writer.is_broken witness result.2 }
     // It ends only once the gate has said not to go on, or where no thread could be made.
-    ensures closed { result.1 ≢ Some (RunFault.Spawn tt) → G.closed gate.now }
-    ensures broken { (fault : KeeperFault) → result.1 ≡ Some (RunFault.Keeper fault)
-        → flusher.new.writer.is_broken ≡ true }
+    ensures closed { result.3 ≢ Some (RunFault.Spawn tt) → G.closed gate.now }
+    ensures broken { (fault : KeeperFault) → result.3 ≡ Some (RunFault.Keeper fault)
+        → result.1.writer.is_broken ≡ true }
     // They can be joined, or run again.
-    ensures stay { AreSameParts allocator.old allocator.new flusher.old flusher.new }
+    ensures stay { AreSameParts allocator.entry result.0 flusher.entry result.1 }
     // What was received, and then what the line holds, is what was sent; after a run it holds
     // nothing.
-    ensures queued { Queued allocator.new.end flusher.new.end }
-    ensures received { result.1 ≢ Some (RunFault.Spawn tt)
-        → allocator.new.end.sent ≡ flusher.new.end.received }
+    ensures queued { Queued result.0.end result.1.end }
+    ensures received { result.3 ≢ Some (RunFault.Spawn tt)
+        → result.0.end.sent ≡ result.1.end.received }
     // Whatever has happened before, the group's history goes on by just the batches that the run
     // received.
     ensures history { (base : RegisterState) (safe : List Entry) (given : List Taken)
-        → History base (group_after flusher.old) safe given
-        → GoesOnTo flusher.old flusher.new base safe given }
+        → History base (group_after flusher.entry) safe given
+        → GoesOnTo flusher.entry result.1 base safe given }
 {
     flushes_are_steps::<D>();
     turns_keep_parts::<D, P>();
-    let told = with_both(
-        allocator,
-        flusher,
-        |allocator: Allocator<P>, flusher: Flusher<D, K>| -> (
-            Allocator<P>,
-            Flusher<D, K>,
-            (V, Option<RunFault>),
-        )
-            ensures ran { IsRun (P.chooses allocator.entry.policy) D.state allocator.entry result.0
-                flusher.entry result.1 result.2.1 }
-            ensures heard { FailureHeard V.hears
-                flusher.entry.writer.is_broken result.1.writer.is_broken witness result.2.0 }
-            ensures closed { result.2.1 ≢ Some (RunFault.Spawn tt) → G.closed gate.entry.now }
-        { run_owned(rt, AskingAllocator::new(allocator), flusher, gate, witness) },
-    );
-    flusher.compare(allocator);
-    told
+    let asking = AskingAllocator::new(allocator);
+    let (mut allocator, flusher, witness, fault) = run_both(rt, asking, flusher, gate, witness);
+    let flusher = flusher.compare(&mut allocator);
+    (allocator, flusher, witness, fault)
 }

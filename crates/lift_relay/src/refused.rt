@@ -2,6 +2,7 @@
 
 ghost use Rattle.std.specs.Prelude.{◌≡◌, IfOk, IfErr};
 
+use crate::gate::Gate;
 use std::marker::Model;
 use std::thread::{Promise, PromisedHandle, Scope, SpawnError};
 
@@ -27,43 +28,29 @@ pub struct BothRun {
     made: (),
 }
 
-/// What the gate of a run is told by that both parts have a thread. It can't be let go: it ends by `told`
-/// alone. Only `spawn` below makes one, where it got the thread.
-pub struct RunBegun {
-    both: BothRun,
-}
-
-impl RunBegun {
-    /// The gate was told.
-    pub fn told(self) -> BothRun {
-        let RunBegun { both } = self;
-        both
-    }
-}
-
-/// A thread of a scope, for this work, whose result keeps the promise. The work comes back where no
-/// thread could be made.
-pub(crate) fn spawn<'s, E, P, F, T>(
+/// A thread of a scope, for this work, whose result keeps the promise: the gate is told that both parts
+/// have one. The work comes back where no thread could be made.
+pub(crate) fn spawn<'s, E, P, F, T, G: Gate>(
     scope: &Scope<'s, E>,
     promise: P,
     work: F,
-) -> Result<(PromisedHandle<T, P>, RunBegun), (F, NoThread)>
+    gate: &G,
+) -> Result<PromisedHandle<T, P>, (F, NoThread)>
 where
     P: Promise<T> + Drop,
     F: FnOnce() -> T + Send + 's,
     T: Send + Drop + 's,
     requires runs { F.pre work }
     requires keeps { (made : T) → F.post work made → P.kept_by promise made }
-    ensures promised { IfOk result (λ begun. begun.0.promise ≡ promise) }
+    ensures promised { IfOk result (λ child. child.promise ≡ promise) }
+    ensures told { IfOk result (λ _. G.knows_both_run gate.now) }
     ensures back { IfErr result (λ refused. refused.0 ≡ work) }
 {
     match scope.spawn_with(promise, work) {
-        Ok(child) => Ok((
-            child,
-            RunBegun {
-                both: BothRun { made: () },
-            },
-        )),
+        Ok(child) => {
+            gate.both_run(BothRun { made: () });
+            Ok(child)
+        }
         Err(SpawnError { value }) => Err((value, NoThread { made: () })),
     }
 }

@@ -24,11 +24,8 @@ pub trait Witness {
 /// other: so whatever it waits for, no device fails there that this one isn't notified of.
 pub trait HeardBy<V: Witness> {}
 
-/// Takes no notice.
-#[derive(Clone, Copy)]
-pub struct NoWitness;
-
-impl Witness for NoWitness {
+// Takes no notice.
+impl Witness for () {
     fn has_failed(&mut self, _failed: Failed) {}
 }
 

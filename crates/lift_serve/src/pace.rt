@@ -9,7 +9,7 @@ use crate::over::Over;
 use crate::prepared::connections::AllShut;
 use lift_base::ProofCount;
 use lift_desk::Seat;
-use lift_relay::{BothRun, Gate, RunBegun};
+use lift_relay::{BothRun, Gate};
 pub use pager::{PagedAsk, Pager};
 use std::marker::Model;
 use std::snapshot::Snapshot;
@@ -231,8 +231,8 @@ impl<'s> Gate for Pace<'s> {
         !self.is_over.load(Ordering::SeqCst)
     }
 
-    fn both_run(&self, begun: RunBegun) {
-        let _first = self.both.try_set(begun.told());
+    fn both_run(&self, both: BothRun) {
+        let _first = self.both.try_set(both);
         self.doors.unpark();
     }
 

@@ -171,11 +171,12 @@ where
                 Err(over) => return (unrun(parts), over),
             };
             let Parts {
-                mut allocator,
-                mut flusher,
+                allocator,
+                flusher,
                 witness,
             } = parts;
-            let (witness, fault) = run(rt, &mut allocator, &mut flusher, &hall.pace, witness);
+            let pace = &hall.pace;
+            let (allocator, flusher, witness, fault) = run(rt, allocator, flusher, pace, witness);
             let over = match Over::by(&hall.bound, fault) {
                 Some(given_up) => {
                     hall.give_up(rt, &given_up);

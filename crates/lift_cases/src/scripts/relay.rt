@@ -6,7 +6,7 @@ use lift_clerk::{Clerk, Counts};
 use lift_disk::{FuseDisk, MemDisk, Outcome};
 use lift_keeper::{Keeper, KeeperFault};
 use lift_policy::Etd;
-use lift_relay::{Allocator, Flusher, NoWitness, rejoin, split};
+use lift_relay::{Allocator, Flusher, rejoin, split};
 use lift_replay::{DeviceAction, Query};
 use std::alloc::Global;
 use std::sync::Wait;
@@ -59,7 +59,7 @@ impl<'d, 'b> Relay<'d, 'b> {
     /// A turn of the flusher. Whether it found nothing, or has a fault.
     fn flush<R: Wait>(&mut self, rt: &R) -> Result<Result<bool, KeeperFault>, Trouble> {
         match &mut self.parts {
-            Some(parts) => match parts.flusher.turn(rt, &mut NoWitness) {
+            Some(parts) => match parts.flusher.turn(rt, &mut ()) {
                 Ok(flushed) => Ok(Ok(flushed.batches == 0 && flushed.answers == 0)),
                 Err(fault) => Ok(Err(fault)),
             },

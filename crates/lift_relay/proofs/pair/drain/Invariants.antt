@@ -1,4 +1,4 @@
-use Rattle.std.proofs.Common.{◌⊎◌}
+use Rattle.std.proofs.Common.{◌≡◌, ◌⊎◌, false}
 use Rattle.lift_parts.specs.Turns.{AllocatorTurns, FlusherTurns, IsSending}
 use Rattle.lift_relay.specs.Heard.{FailureHeard}
 use Rattle.lift_relay.proofs.Draining.{Waits}
@@ -6,8 +6,9 @@ use Rattle.lift_relay.proofs.pair.drain.Given as goal
 
 abbrev pub invariant-loop : goal.invariant-loop
 invariant-loop g l = record {
-  allocator : AllocatorTurns (g.P.Policy.chooses l.fn.allocator.policy) l.fn.allocator l.allocator;
-  sends : Waits l.fn.allocator l.allocator ⊎ IsSending l.fn.allocator l.allocator;
+  closed : l.allocator.goes_on ≡ false;
+  allocator : AllocatorTurns (g.P.Policy.chooses l.fn.allocator.allocator.policy) l.fn.allocator.allocator l.allocator.allocator;
+  sends : Waits l.fn.allocator.allocator l.allocator.allocator ⊎ IsSending l.fn.allocator.allocator l.allocator.allocator;
   heard : FailureHeard g.V.Witness.hears l.fn.flusher.writer.is_broken l.flusher.writer.is_broken l.fn.witness l.witness;
   flusher : FlusherTurns g.D.Disk.state l.fn.flusher l.fn.first l.flusher l.first;
 }

@@ -1,4 +1,5 @@
-use Rattle.lift_parts.specs.Turns.{NoFlush, OneFlush}
+use Rattle.lift_parts.specs.Turns.{NoFlush}
+use Rattle.lift_relay.proofs.Ran.{one_flush}
 use Rattle.lift_relay.specs.lemmas.Heard.{flush_stays, heard_none, heard_on, turns_stay}
 use Rattle.lift_relay.proofs.pair.flush.Goals as goal
 
@@ -8,9 +9,9 @@ loop-init g c = record { turns = NoFlush; heard = heard_none g.V.Witness.hears c
 pub loop-preserved : goal.loop-preserved
 loop-preserved g c =
     let i = c.loop.invariant in
-    let e = c.flush_once.ensures in
+    let e = c.turn.ensures in
     record {
-      turns = OneFlush i.turns e.turns.1 e.turns.2;
-      heard = heard_on g.V.Witness.hears _ _ _ c.args.witness.now c.loop.witness c.flush_once.new.witness
-          (turns_stay g.D.Disk.state _ _ _ _ i.turns) (flush_stays g.D.Disk.state _ _ _ e.turns.1) i.heard e.heard;
+      turns = one_flush g.D.Disk.state _ _ _ _ _ _ _ _ i.turns e.turn c.err.ensures.value c.or-first.ensures;
+      heard = heard_on g.V.Witness.hears _ _ _ c.args.witness.now c.loop.witness c.turn.new.witness
+          (turns_stay g.D.Disk.state _ _ _ _ i.turns) (flush_stays g.D.Disk.state _ _ _ e.turn) i.heard e.heard;
     }
