@@ -1,17 +1,11 @@
-//! Many calls and many commands, and whether each car's schedule is then as it is made from
-//! nothing.
-ghost use Rattle.std.specs.Prelude.{◌<◌};
-ghost use Rattle.lift_policy.specs.View.{IsViewIn};
-
-use crate::changes::is_as_from_nothing;
+//! Many calls; and many commands, and whether each car's schedule is then as it is made from nothing.
 use crate::group::ask;
 use crate::numbers::{floor, letter, next, next_dir, party};
+use crate::trip::schedule_with;
 use lift_base::{Body, Letter, Number, Party, Position, Reply, Row, Stop, Terminal};
-use lift_building::Building;
-use lift_cost::{NewCall, total_cost, waiting_row};
 use lift_decider::Decider;
-use lift_policy::{Etd, FewestOpen, View};
-use lift_stops::next_stop;
+use lift_policy::{Etd, FewestOpen};
+use lift_stops::{Schedule, next_stop, stop_list};
 
 fn kiosk(index: u32) -> Terminal {
     Terminal::of_kiosk((index % 47) as u8).unwrap_or_default()
@@ -44,67 +38,6 @@ pub(crate) fn call(decider: &mut Decider, from: u32, to: u32) -> u32 {
         }
     }
     taken
-}
-
-/// What a call would cost a car, its stop lists made from nothing.
-fn plain_cost(building: &Building, view: &View, call: &NewCall, car: Letter) -> Option<u64>
-    requires possible { IsViewIn building.now view.now }
-    requires from { call.now.from < building.now.floors }
-    requires to { call.now.to < building.now.floors }
-{
-    let _lawful = building.floors();
-    match view.position(car) {
-        Some(position) => Some(total_cost(building, position, view.open_rows(car), *call)),
-        None => None,
-    }
-}
-
-/// Whether a car with this many calls has the halts and the cost of a new call that are made from
-/// nothing.
-fn is_car_as_from_nothing(
-    building: &Building,
-    view: &View,
-    call: &NewCall,
-    car: Letter,
-    count: usize,
-) -> bool
-    requires possible { IsViewIn building.now view.now }
-    requires from { call.now.from < building.now.floors }
-    requires to { call.now.to < building.now.floors }
-{
-    let rows = view.open_rows(car);
-    let Some(schedule) = view.schedule(car) else {
-        return false;
-    };
-    let plain = plain_cost(building, view, call, car);
-    (rows.len() == count)
-        & is_as_from_nothing(schedule, rows, &waiting_row(call))
-        & plain.is_some()
-        & (Etd::cost(building, view, call, car) == plain)
-}
-
-/// The same of 16 cars, for calls to and from the ends and the middle of ten floors.
-pub(crate) fn are_as_from_nothing(decider: &Decider, count: usize) -> bool {
-    let building = decider.building();
-    let _possible = decider.register();
-    let view = &decider.view();
-    let floors = building.floors();
-    for (from, to) in [(0, 9), (9, 0), (5, 4), (4, 5)] {
-        let call = NewCall {
-            from: floor(from),
-            to: floor(to),
-            party: Party::default(),
-        };
-        if call.from.get() >= floors || call.to.get() >= floors {
-            return false;
-        }
-        for index in 0..16 {
-            if !is_car_as_from_nothing(building, view, &call, letter(index), count) {
-                return false;
-            }
-        }
-    }
-    true
 }
 
 /// Half are calls of the two kiosks; the others tell of the first three cars: of two each a
@@ -152,6 +85,33 @@ fn told(reply: &Reply, body: &Body) -> Option<Position> {
         },
         _ => None,
     }
+}
+
+/// Whether a schedule is that of these calls, its halts are those that are made from nothing and
+/// call by call, and so also with one call more.
+fn is_as_from_nothing(schedule: &Schedule, rows: &[Row], more: &Row) -> bool {
+    if rows.len() > 32 || schedule.rows().len() > 32 {
+        return false;
+    }
+    let position = &schedule.position();
+    let halts = stop_list(rows, *position);
+    let Some(mut anew) = schedule_with(*position, rows) else {
+        return false;
+    };
+    let are_same = (schedule.rows() == rows)
+        & (schedule.halts() == halts)
+        & (anew.halts() == halts)
+        & (schedule.next_stop() == next_stop(rows, *position));
+    if anew.rows().len() > 32 {
+        return false;
+    }
+    let halts = schedule.halts_with(more);
+    let is_same_anew = anew.halts_with(more) == halts;
+    anew.insert(*more);
+    are_same
+        & is_same_anew
+        & (anew.halts() == halts)
+        & (stop_list(anew.rows(), *position).as_slice() == halts.as_slice())
 }
 
 /// Whether a car that told its position has the schedule of its open calls there; another has none,

@@ -1,10 +1,10 @@
 //! What the lines of a case are put to: a car's trip, registers, the calls of a group, and a run of
 //! events.
 use crate::cases::Came;
+use crate::events;
 use crate::group::Calls;
 use crate::registers::Registers;
 use crate::trip::Trip;
-use crate::{changes, events};
 use lift_base::Position;
 use lift_building::Building;
 use lift_world::World;
@@ -42,7 +42,6 @@ impl<'b> Figures<'b> {
             "group" => self.calls.answer(behind, came),
             "event" => events::happen(&mut self.world, behind, came),
             "run" => events::asked(&self.world, behind, came),
-            "changes" => changes::asked(self.building, behind, came),
             _ => None,
         }
     }

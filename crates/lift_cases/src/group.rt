@@ -166,8 +166,7 @@ impl<'b> Calls<'b> {
         Some(())
     }
 
-    /// What is asked of the group: `group same 31` is whether each of 16 cars has this many calls,
-    /// and halts and costs as from nothing.
+    /// What is asked of the group.
     fn asked(&self, words: &[&str], came: &mut Came) -> Option<()> {
         match words {
             ["picks", "highest", call @ ..] => {
@@ -179,10 +178,6 @@ impl<'b> Calls<'b> {
             ["costs", call @ ..] => push_costs(&self.decider, &call_of(call)?, came)?,
             ["wait", car, call @ ..] => self.wait(letter_of_word(car)?, &call_of(call)?, came)?,
             ["position", car] => self.position(letter_of_word(car)?, came),
-            ["same", count] => {
-                let count = number_up_to(count, 32)? as usize;
-                came.yes_or_no(crowd::are_as_from_nothing(&self.decider, count));
-            }
             ["batch"] => came.word(self.batch),
             _ => return registers::asked(self.decider.register(), words, came),
         }

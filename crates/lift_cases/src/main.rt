@@ -4,7 +4,6 @@
 
 mod buildings;
 mod cases;
-mod changes;
 mod crowd;
 mod events;
 mod figures;

@@ -1,5 +1,4 @@
-//! A fixed list of numbers, which the changes and the commands of a case are made of, and what
-//! numbers stand for there.
+//! A fixed list of numbers, which the commands of a case are made of, and what numbers stand for there.
 use lift_base::{Dir, Floor, Letter, Party};
 
 /// The next number of the list, below 65,536.
