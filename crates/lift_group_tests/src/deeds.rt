@@ -3,7 +3,7 @@ use crate::device::{Device, armed_for};
 use crate::faults::case::Case;
 use crate::faults::images::begin;
 use crate::faults::showing::has;
-use crate::faults::stops::{arms, go_on, recovers_here, turns};
+use crate::faults::stops::{arms, flushes, go_on, recovers_here, turns};
 use crate::relay::turns::{Drain, comes_through, is_whole, takes};
 use crate::relays::Parts;
 use crate::tally::Tally;
@@ -31,19 +31,25 @@ pub(crate) enum Deed<'w> {
     Drain(&'w Drain),
 }
 
-/// The clerk of both parts, by which batches that wait came through.
-fn drained<'a, R: Threads + Wait + Abort + Sync>(
+/// Both parts do it.
+fn by_parts<'a, R: Threads + Wait + Abort + Sync>(
     rt: &R,
     alloc: Global,
     tally: &mut Tally,
     terminals: &mut Terminals,
     clerk: Clerk<'a, 'a, Device, Etd>,
-    drain: &Drain,
+    deed: Deed,
 ) -> Clerk<'a, 'a, Device, Etd> {
     let mut relay = Parts::of(rt, alloc, clerk);
-    takes(rt, tally, terminals, &mut relay, 0);
-    relay = relay.handed_back(rt);
-    comes_through(rt, tally, terminals, &mut relay, drain);
+    match deed {
+        Deed::Work(case) => flushes(rt, tally, terminals, &mut relay, case),
+        Deed::Drain(drain) => {
+            takes(rt, tally, terminals, &mut relay, 0);
+            relay = relay.handed_back(rt);
+            comes_through(rt, tally, terminals, &mut relay, drain);
+        }
+        _ => {}
+    }
     relay.joined(rt)
 }
 
@@ -61,7 +67,11 @@ fn carried_out<'a, R: Threads + Wait + Abort + Sync>(
         Deed::Begin(stops) => begin(tally, terminals, &mut clerk, stops),
         Deed::Work(case) => {
             arms(tally, terminals, &mut clerk, case);
-            turns(tally, terminals, &mut clerk, case);
+            if case.by_parts {
+                clerk = by_parts(rt, alloc, tally, terminals, clerk, deed);
+            } else {
+                turns(tally, terminals, &mut clerk, case);
+            }
             recovers_here(tally, terminals, &mut clerk, case);
         }
         Deed::GoOn(case) => go_on(tally, terminals, &mut clerk, case),
@@ -70,7 +80,7 @@ fn carried_out<'a, R: Threads + Wait + Abort + Sync>(
         }
         Deed::Drain(drain) => {
             clerk.arm(armed_for(drain.failing_call, true));
-            clerk = drained(rt, alloc, tally, terminals, clerk, drain);
+            clerk = by_parts(rt, alloc, tally, terminals, clerk, deed);
             is_whole(tally, &mut clerk, drain);
         }
     }

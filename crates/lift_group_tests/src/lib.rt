@@ -1,5 +1,6 @@
-//! Tests of what serves a group: `relay` has both parts of a clerk, by turns and on threads; `faults` turns that
-//! are stopped at each call of the device.
+//! Tests of what serves a group: `relay` has both parts of a clerk, by turns and on threads; `sessions`
+//! a kiosk and a car whose clerk turns while they wait; `faults` turns and lines of batches that are
+//! stopped at each call of the device.
 #![tactic(auto)]
 
 #[cfg(test)]
@@ -16,6 +17,8 @@ mod groups;
 mod relay;
 #[cfg(test)]
 mod relays;
+#[cfg(test)]
+mod sessions;
 #[cfg(test)]
 mod tally;
 #[cfg(test)]

@@ -9,7 +9,7 @@ use lift_clerk::{Clerk, Counts};
 use lift_disk::Disk;
 use lift_keeper::KeeperFault;
 use lift_policy::{Etd, Policy};
-use lift_relay::{Allocator, FlushCounts, Flusher, RunFault, rejoin, run, split};
+use lift_relay::{Allocator, FlushCounts, Flusher, RunFault, rejoin, run, split, tell};
 use std::alloc::Global;
 use std::process::Abort;
 use std::sync::Wait;
@@ -41,6 +41,17 @@ impl<'d, 'b, D: Disk + Drop, P: Policy + Drop> Relay<'d, 'b, D, P> {
 
     pub(crate) fn flush<R: Wait>(&mut self, rt: &R) -> Result<FlushCounts, KeeperFault> {
         self.flusher.turn(rt, &mut ())
+    }
+
+    pub(crate) fn tell(&mut self) {
+        replace_with(self, (), |relay: Self, _: ()| -> (Self, ()) {
+            let Relay {
+                mut allocator,
+                flusher,
+            } = relay;
+            let flusher = tell(&mut allocator, flusher);
+            (Relay { allocator, flusher }, ())
+        })
     }
 
     /// Whether this many batches were sent and received, and whether one is in hand just where one

@@ -88,6 +88,18 @@ impl<'d> Terminals<'d> {
     {
         self.seats.pop().expect(rt, "no seat")
     }
+
+    /// The seat of car A.
+    pub(crate) fn into_first(self, rt: &impl Abort) -> Seat
+        ensures { IsSeatOf self.entry.desk.now result }
+    {
+        let mut group = self;
+        let mut seat = group.take_last(rt);
+        for _ in 0..18u8 {
+            seat = group.take_last(rt);
+        }
+        seat
+    }
 }
 
 /// The clerk of a device that begins as it is.

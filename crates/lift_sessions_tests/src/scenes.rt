@@ -1,8 +1,9 @@
 //! Scripts of sessions and drives at one terminal, and what has to come of them.
-use crate::cases::cases;
 use crate::recorder::Recorder;
-use crate::served::{Served, only_seat, open};
+use crate::served::{Served, only_seat, open, use_turns};
+use crate::streams::{Narrow, Slow};
 use crate::words::{ask_of, bytes_of, index_of, last_of, reply_word_of, stop_of};
+use crate::{cars, drives, faults, kiosks};
 use lift_base::text::{Counted, Watched, number_up_to, words_of};
 use lift_base::{Floor, Number};
 use lift_car::{Ending, drive};
@@ -20,6 +21,16 @@ struct Came {
     index: Option<u8>,
 }
 
+/// How the streams of a session go.
+#[derive(Clone, Copy)]
+struct Streams {
+    filled: usize,
+    is_endless: bool,
+    gives: u64,
+    takes: usize,
+    fails: bool,
+}
+
 /// A terminal, what the lines of its script set, and what came of the last session or drive.
 #[derive(Drop)]
 struct Scene<'d> {
@@ -27,14 +38,33 @@ struct Scene<'d> {
     port: Served<'d>,
     car: Recorder<'d>,
     limits: Limits,
+    streams: Streams,
     begins: LastLetter,
     wrote: Vec<u8>,
     /// None before the first one, and once its end was compared.
     came: Option<Came>,
+    /// What `#` stands for.
+    each: u32,
     /// How many asks were compared, and how many halts.
     asked: usize,
     halted: usize,
 }
+
+/// More than any session uses.
+pub(crate) const AMPLE: Limits = Limits {
+    lines: 1000,
+    looks: 10,
+    reads: 1_000_000,
+};
+
+/// No stream fails.
+const PLAIN: Streams = Streams {
+    filled: 0,
+    is_endless: false,
+    gives: u64::MAX,
+    takes: usize::MAX,
+    fails: false,
+};
 
 fn name_of(end: End) -> &'static str {
     match end {
@@ -59,13 +89,13 @@ fn came_of(ending: Ending, last: u32) -> Came {
 }
 
 fn talk_of_kiosk(
-    input: &[u8],
-    writer: &mut Watched<Vec<u8>>,
+    reader: Slow,
+    writer: &mut Watched<Narrow>,
     port: &mut Served,
     last: LastLetter,
     limits: Limits,
 ) -> Came {
-    let end = lift_kiosk::session(&mut Counted::new(input), writer, port, last, limits);
+    let end = lift_kiosk::session(&mut Counted::new(reader), writer, port, last, limits);
     let index = match end.last.letter {
         Some(letter) => Some(letter.get()),
         None => None,
@@ -78,13 +108,13 @@ fn talk_of_kiosk(
 }
 
 fn talk_of_car(
-    input: &[u8],
-    writer: &mut Watched<Vec<u8>>,
+    reader: Slow,
+    writer: &mut Watched<Narrow>,
     port: &mut Served,
     last: Number,
     limits: Limits,
 ) -> Came {
-    let end = lift_car::session(&mut Counted::new(input), writer, port, last, limits);
+    let end = lift_car::session(&mut Counted::new(reader), writer, port, last, limits);
     Came {
         end: name_of(end.end),
         last: end.last.get(),
@@ -95,29 +125,53 @@ fn talk_of_car(
 impl Scene<'_> {
     /// A session whose reader has this text.
     fn talk(&mut self, is_of_car: bool, text: &[u8]) {
-        let mut writer = Watched::new(Vec::new(self.alloc));
+        let streams = self.streams;
+        let reader = Slow {
+            filled: streams.filled,
+            text,
+            given: 0,
+            is_endless: streams.is_endless,
+            calls: streams.gives,
+        };
+        let mut writer = Watched::new(Narrow {
+            taken: Vec::new(self.alloc),
+            room: streams.takes,
+            fails: streams.fails,
+        });
         let (last, limits) = (self.begins, self.limits);
         self.came = Some(if is_of_car {
-            talk_of_car(text, &mut writer, &mut self.port, last.number, limits)
+            talk_of_car(reader, &mut writer, &mut self.port, last.number, limits)
         } else {
-            talk_of_kiosk(text, &mut writer, &mut self.port, last, limits)
+            talk_of_kiosk(reader, &mut writer, &mut self.port, last, limits)
         });
-        self.wrote = writer.into_inner();
+        let Narrow { taken, .. } = writer.into_inner();
+        self.wrote = taken;
     }
 
-    /// `kiosk TEXT` and `car TEXT` are sessions; `wrote TEXT` is all that came of one.
+    /// `kiosk TEXT` and `car TEXT` are sessions; `wrote TEXT` is all that came of one, or of it as much
+    /// as its writer took.
     fn follows_text(&mut self, key: &str, text: &str) -> bool {
         match bytes_of(self.alloc, text) {
             Some(bytes) => {
                 let bytes = bytes.as_slice();
                 if key == "wrote" {
-                    return self.wrote.as_slice() == bytes;
+                    let most = self.streams.takes.min(bytes.len());
+                    return self.wrote.as_slice() == &bytes[..most];
                 }
                 let is_first = self.came.is_none();
                 self.talk(key == "car", bytes);
                 is_first
             }
             None => false,
+        }
+    }
+
+    /// A number, or `#`.
+    fn number_of(&self, word: &str) -> Option<u32> {
+        if word == "#" {
+            Some(self.each)
+        } else {
+            number_up_to(word, u32::MAX)
         }
     }
 
@@ -164,14 +218,18 @@ impl Scene<'_> {
         }
     }
 
-    /// What numbers set: of the clerk and the limits what their names say. `put 3` has the car at that
-    /// floor, and `stands 3` asks that.
+    /// What numbers set: of the clerk, the limits and the streams what their names say. `put 3` has the
+    /// car at that floor, and `stands 3` asks that.
     fn sets(&mut self, key: &str, number: u32) -> bool {
         match key {
             "idle" => self.port.idle = number,
             "lines" => self.limits.lines = number,
             "looks" => self.limits.looks = number,
             "reads" => self.limits.reads = number,
+            "filled" => self.streams.filled = number as usize,
+            "gives" => self.streams.gives = u64::from(number),
+            "takes" => self.streams.takes = number as usize,
+            "used" => return use_turns(&mut self.port, number),
             "put" if number <= 63 => {
                 self.car.car.position.floor = Floor::new(number as u8).unwrap_or_default()
             }
@@ -181,10 +239,12 @@ impl Scene<'_> {
         true
     }
 
-    /// Steps of one word.
+    /// Lines of one word.
     fn does(&mut self, key: &str) -> bool {
         match key {
             "turn" => self.port.turn(),
+            "endless" => self.streams.is_endless = true,
+            "fails" => self.streams.fails = true,
             "drive" if self.came.is_none() => {
                 let end = drive(
                     &mut self.car,
@@ -212,7 +272,7 @@ impl Scene<'_> {
 
     fn follows_number(&mut self, key: &str, words: &[&str]) -> bool {
         match words {
-            [word] => match number_up_to(word, u32::MAX) {
+            [word] => match self.number_of(word) {
                 Some(number) => self.sets(key, number),
                 None => false,
             },
@@ -241,10 +301,10 @@ impl Scene<'_> {
         }
     }
 
-    /// Carries out a step. Whether it is one, and all is as it says.
-    fn follows_step(&mut self, step: &str) -> bool {
-        match step.split_once(' ') {
-            None => self.does(step),
+    /// Carries out a line. Whether it is one, and all is as it says.
+    fn follows_line(&mut self, line: &str) -> bool {
+        match line.split_once(' ') {
+            None => self.does(line),
             Some((key, rest)) => {
                 if key == "kiosk" || key == "car" || key == "wrote" {
                     return self.follows_text(key, rest);
@@ -255,15 +315,6 @@ impl Scene<'_> {
                 }
             }
         }
-    }
-
-    fn follows_line(&mut self, line: &str) -> bool {
-        for step in line.split("; ") {
-            if !self.follows_step(step) {
-                return false;
-            }
-        }
-        true
     }
 
     fn follows(&mut self, lines: &str) -> bool {
@@ -278,7 +329,7 @@ impl Scene<'_> {
 
 /// Whether a case comes out, with the end of each session and drive. Where memory is refused for its
 /// desk it doesn't.
-fn comes_out(alloc: Global, lines: &str) -> bool {
+fn comes_out(alloc: Global, front: &str, lines: &str, each: u32) -> bool {
     let Ok(
         DeskParts {
             desk,
@@ -295,30 +346,39 @@ fn comes_out(alloc: Global, lines: &str) -> bool {
         alloc,
         port: Served::new(alloc, &desk, seat, clerk, &asks),
         car: Recorder::new(alloc, &asks),
-        limits: Limits {
-            lines: 9,
-            looks: 2,
-            reads: 1_000,
-        },
+        limits: AMPLE,
+        streams: PLAIN,
         begins: LastLetter {
             number: Number::default(),
             letter: None,
         },
         wrote: Vec::new(alloc),
         came: None,
+        each,
         asked: 0,
         halted: 0,
     };
-    scene.follows(lines) && scene.came.is_none()
+    scene.follows(front) && scene.follows(lines) && scene.came.is_none()
 }
 
-/// How many cases come out before the first one that doesn't, and whether all do. Each begins with a
-/// line `case NAME` and is of one terminal at a desk of its own.
-fn successes(alloc: Global, text: &str) -> (u32, bool) {
+/// A case's lines behind `each 0 9`, which has it carried out for 0 to 8 in turn; `#` stands for that.
+fn span_of(lines: &str) -> Option<(u32, u32, &str)> {
+    let (span, behind) = lines.strip_prefix("each ")?.split_once('\n')?;
+    let (from, to) = span.split_once(' ')?;
+    Some((
+        number_up_to(from, u32::MAX)?,
+        number_up_to(to, u32::MAX)?,
+        behind,
+    ))
+}
+
+/// How often a case comes out before it doesn't, and whether it always does.
+fn comes_out_each(alloc: Global, front: &str, case: &str) -> (u32, bool) {
+    let (_name, lines) = case.split_once('\n').unwrap_or((case, ""));
+    let (from, to, lines) = span_of(lines).unwrap_or((0, 1, lines));
     let mut count = 0u32;
-    for case in text.split("\ncase ").skip(1) {
-        let (_name, lines) = case.split_once('\n').unwrap_or((case, ""));
-        if !comes_out(alloc, lines) {
+    for each in from..to {
+        if !comes_out(alloc, front, lines, each) {
             return (count, false);
         }
         count = count.saturating_add(1);
@@ -326,8 +386,34 @@ fn successes(alloc: Global, text: &str) -> (u32, bool) {
     (count, true)
 }
 
+/// How many cases of a text come out before the first one that doesn't, and whether all do. Each begins
+/// with a line `case NAME` and is of one terminal at a desk of its own; `front` stands before its lines.
+fn successes(alloc: Global, front: &str, text: &str) -> (u32, bool) {
+    let mut count = 0u32;
+    for case in text.split("\ncase ").skip(1) {
+        let (times, is_right) = comes_out_each(alloc, front, case);
+        count = count.saturating_add(times);
+        if !is_right {
+            return (count, false);
+        }
+    }
+    (count, true)
+}
+
+/// Each text with the lines before each of its cases, and how many cases it has.
 #[test]
 fn cases_come_out(rt: HostRuntime) {
-    let (right, are_all) = successes(rt.alloc(), cases());
-    assert!(rt; are_all && right == 16, "{right}");
+    for (name, front, text, count) in [
+        ("kiosks", "", kiosks::lines(), 10),
+        ("cars", "", cars::lines(), 4),
+        ("drives", "looks 2\nreads 0\nlines 9", drives::trips(), 10),
+        ("reads", "", faults::reads(), 65),
+        ("writes", "", faults::writes(), 102),
+        ("limits", "looks 2", faults::limits(), 14),
+        ("endless", "endless", faults::endless(), 5),
+        ("long", "", faults::long(), 2),
+    ] {
+        let (right, are_all) = successes(rt.alloc(), front, text);
+        assert!(rt; are_all && right == count, "{name}: {right}");
+    }
 }

@@ -2,7 +2,7 @@
 ghost use Rattle.std.specs.Prelude.{◌≡◌, ◌<◌, length, vec_len, IfOk};
 ghost use Rattle.lift_desk.specs.Seats.{IsSeatOf, IsClerkOf, AreSeatsOf};
 
-use lift_base::{Body, Number, Reply, Terminal};
+use lift_base::{Body, Floor, Number, Party, Reply, Terminal};
 use lift_desk::{AskRefusal, ClerkSeat, Desk, DeskParts, Seat, ask_word, read_reply};
 use lift_kiosk::{DeskPort, Port, Yield};
 use std::alloc::{AllocError, Global};
@@ -111,6 +111,19 @@ impl<'d> Port for Served<'d> {
             self.turn();
         }
     }
+}
+
+/// Asks and hears so often. Whether each ask was answered.
+pub(crate) fn use_turns(port: &mut Served, times: u32) -> bool {
+    for _ in 0..times {
+        let body = Body::Call(Floor::default(), Party::default());
+        let is_stored = port.ask(Number::default(), body).is_ok();
+        port.turn();
+        if port.hear().is_none() || !is_stored {
+            return false;
+        }
+    }
+    true
 }
 
 /// A desk of one terminal.

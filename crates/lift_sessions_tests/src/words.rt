@@ -89,11 +89,17 @@ pub(crate) fn index_of(word: &str) -> Option<u8> {
     }
 }
 
-/// The bytes that a text stands for: `|` is the end of a line. None where memory is refused.
+/// The bytes that a text stands for: `|` is the end of a line, `~` and `^` are FF and C3, which begin
+/// no character and one that needs more. None where memory is refused.
 pub(crate) fn bytes_of(alloc: Global, text: &str) -> Option<Vec<u8>> {
     let mut bytes = Vec::new(alloc);
     for byte in text.as_bytes() {
-        let plain = if *byte == b'|' { b'\n' } else { *byte };
+        let plain = match *byte {
+            b'|' => b'\n',
+            b'~' => 0xFF,
+            b'^' => 0xC3,
+            other => other,
+        };
         bytes.push(plain).ok()?;
     }
     Some(bytes)

@@ -48,8 +48,16 @@ pub(crate) const APPENDED: Work = Work {
     calls_of_checkpoint: 0,
 };
 
-/// The 32nd batch, after a checkpoint: body, gate, closing gate, sync, pick, sync. It moves 31 batches of
-/// version 1 to version 2.
+/// The 32nd batch, after a checkpoint: body, gate, closing gate, sync, pick, sync.
+pub(crate) const CHECKPOINTED: Work = Work {
+    stops: 30,
+    is_old: false,
+    batches: 1,
+    calls: 11,
+    calls_of_checkpoint: 6,
+};
+
+/// The same, where the checkpoint moves 31 batches of version 1 to version 2.
 pub(crate) const MOVED: Work = Work {
     stops: 30,
     is_old: true,
@@ -58,11 +66,22 @@ pub(crate) const MOVED: Work = Work {
     calls_of_checkpoint: 6,
 };
 
+/// Work, by whom it is done on which device.
+#[derive(Clone, Copy)]
+pub(crate) struct Way<'w> {
+    pub(crate) work: &'w Work,
+    /// Whether both parts of a clerk do it, or its turns.
+    pub(crate) by_parts: bool,
+    /// Whether the device fails once, or from then on.
+    pub(crate) is_once: bool,
+}
+
 /// Work, the calls of the device that are the first to fail in it and in the recovery, counted from
-/// 1, by a device that fails once or from then on, and how the power is cut after each of these failures, if it is.
+/// 1, and how the power is cut after each of these failures, if it is.
 #[derive(Clone, Copy)]
 pub(crate) struct Case<'w> {
     pub(crate) work: &'w Work,
+    pub(crate) by_parts: bool,
     pub(crate) is_once: bool,
     pub(crate) failing: u32,
     pub(crate) cut: Option<Outcome>,
@@ -85,10 +104,11 @@ impl Case<'_> {
     /// The case at a place in the list of each call of the work with each way in which loose sectors
     /// end, and at one in the list of the recovery's calls: after the first of them, the sync, loose
     /// sectors end in each way.
-    pub(crate) fn at(work: &Work, is_once: bool, place: u32, again: u32) -> Case<'_> {
+    pub(crate) fn at(way: Way<'_>, place: u32, again: u32) -> Case<'_> {
         Case {
-            work,
-            is_once,
+            work: way.work,
+            by_parts: way.by_parts,
+            is_once: way.is_once,
             failing: (place / 6).wrapping_add(1),
             cut: CUTS[place as usize % 6],
             recovery: again.saturating_sub(5).wrapping_add(1),

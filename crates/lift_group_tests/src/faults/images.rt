@@ -87,3 +87,23 @@ pub(crate) fn copy(rt: &impl Abort, alloc: Global, image: &mut MemDisk) -> Devic
     let _synced = disk.sync();
     Device::new(disk)
 }
+
+/// A sector's first three bytes, where it is read.
+fn head(disk: &mut MemDisk, sector: u32) -> [u8; 3] {
+    let mut bytes = [0; 512];
+    if sector >= disk.sectors() || disk.read(sector, &mut bytes).is_err() {
+        return [0; 3];
+    }
+    [bytes[0], bytes[1], bytes[2]]
+}
+
+/// Whether the second half is picked, and has so many batches, at most three, all of version 2.
+pub(crate) fn is_new(disk: &mut MemDisk, batches: u32) -> bool {
+    let mut is_new = head(disk, 0)[0] == 0xA5;
+    for batch in 0..4u32 {
+        let is_open = head(disk, 2 * batch + 66)[0] == 0xA5;
+        is_new = is_new && is_open == (batch < batches);
+        is_new = is_new && (!is_open || head(disk, 2 * batch + 67) == [0x4C, 0x42, 2]);
+    }
+    is_new
+}

@@ -1,12 +1,14 @@
-//! A clerk's turns that are stopped, and the recoveries after them: by reopening at the same desk, or after
-//! a power cut at a new one.
+//! Work that is stopped, by a clerk's turns and by those of its two parts, and the recoveries after
+//! it: by reopening at the same desk, or after a power cut at a new one.
 use crate::deeds::{Deed, at_desk};
 use crate::device::{Device, NEVER, armed_for, cut};
 use crate::faults::asking::{ask, ask_again, calls_first, commands_of, hear, stands};
-use crate::faults::case::{APPENDED, Case, MOVED, Work, counts};
-use crate::faults::images::{copy, image_of};
+use crate::faults::case::{APPENDED, CHECKPOINTED, Case, MOVED, Way, Work, counts};
+use crate::faults::images::{copy, image_of, is_new};
 use crate::faults::showing::shows;
 use crate::groups::group;
+use crate::relay::turns::allocates;
+use crate::relays::Parts;
 use crate::tally::Tally;
 use crate::terminals::{Terminals, turn};
 use lift_building::Building;
@@ -50,6 +52,34 @@ pub(crate) fn turns(
     for batch in 0..case.work.batches {
         tally.want(ask(group, batch, case.work.stops));
         turns_to(tally, clerk, case.comes_to(batch, commands_of(batch)));
+        hear(tally, group, case, batch);
+    }
+}
+
+/// What a turn of the flusher comes to, as one of a clerk would.
+fn flush<R: Wait>(rt: &R, parts: &mut Parts) -> Result<Counts, KeeperFault> {
+    match parts.flush(rt) {
+        Ok(flushed) if flushed.batches == 1 => Ok(counts(flushed.answers)),
+        Ok(_) => Ok(counts(0)),
+        Err(fault) => Err(fault),
+    }
+}
+
+/// All batches are sent, and then flushed and answered as far as the device lets them be.
+pub(crate) fn flushes<R: Wait>(
+    rt: &R,
+    tally: &mut Tally,
+    group: &mut Terminals,
+    parts: &mut Parts,
+    case: &Case,
+) {
+    for batch in 0..case.work.batches {
+        tally.want(ask(group, batch, case.work.stops));
+        let taken = commands_of(batch);
+        allocates(rt, tally, parts, taken, taken);
+    }
+    for batch in 0..case.work.batches {
+        tally.want(flush(rt, parts) == case.comes_to(batch, commands_of(batch)));
         hear(tally, group, case, batch);
     }
 }
@@ -160,7 +190,8 @@ fn device_after<R: Threads + Wait + Abort + Sync>(
     at_desk(rt, alloc, tally, device, building, Deed::GoOn(case))
 }
 
-/// All of the work is there after another power cut.
+/// All of the work is there after another power cut, and all batches are of version 2 where the
+/// checkpoint moved them.
 fn ends<R: Threads + Wait + Abort + Sync>(
     rt: &R,
     alloc: Global,
@@ -170,24 +201,21 @@ fn ends<R: Threads + Wait + Abort + Sync>(
     case: &Case,
 ) {
     let device = cut(device, Some(Outcome::Lose));
-    let _left = at_desk(rt, alloc, tally, device, building, Deed::Show(case));
+    let device = at_desk(rt, alloc, tally, device, building, Deed::Show(case));
+    if case.work.is_old {
+        let batches = if case.batches_in() > 0 { 2 } else { 3 };
+        tally.want(is_new(&mut device.into_inner(), batches));
+    }
 }
 
 /// Each call of the work fails in turn, and none where it is one after the last; after it each call
 /// of the recovery, and none where it is one after the last. Loose sectors end in each way.
-fn stop_each<R: Threads + Wait + Abort + Sync>(
-    rt: &R,
-    alloc: Global,
-    tally: &mut Tally,
-    work: &Work,
-    is_once: bool,
-) {
+fn stop_each<R: Threads + Wait + Abort + Sync>(rt: &R, alloc: Global, tally: &mut Tally, way: Way) {
     let building = group(rt, alloc);
-    let mut image = image_of(rt, alloc, tally, &building, work);
-    for place in 0..work.places() {
-        let first = Case::at(work, is_once, place, 0);
-        for again in 0..first.calls_of_opening().saturating_add(6) {
-            let case = Case::at(work, is_once, place, again);
+    let mut image = image_of(rt, alloc, tally, &building, way.work);
+    for place in 0..way.work.places() {
+        for again in 0..Case::at(way, place, 0).calls_of_opening().saturating_add(6) {
+            let case = Case::at(way, place, again);
             let device = copy(rt, alloc, &mut image);
             let device = device_after(rt, alloc, tally, device, &building, &case);
             ends(rt, alloc, tally, device, &building, &case);
@@ -195,17 +223,39 @@ fn stop_each<R: Threads + Wait + Abort + Sync>(
     }
 }
 
-/// All of this work on both devices, and how many answers were looked at.
-fn stop_all<R: Threads + Wait + Abort + Sync>(rt: &R, alloc: Global, work: &Work, answers: u32) {
+/// All of this work on both devices, and what its answers came to.
+fn stop_all<R: Threads + Wait + Abort + Sync>(
+    rt: &R,
+    alloc: Global,
+    work: &Work,
+    by_parts: bool,
+    answers: u32,
+) {
     let mut tally = Tally::new();
-    for is_once in [false, true] {
-        stop_each(rt, alloc, &mut tally, work, is_once);
+    for is_once in 0..2u8 {
+        let way = Way {
+            work,
+            by_parts,
+            is_once: is_once == 1,
+        };
+        stop_each(rt, alloc, &mut tally, way);
     }
     tally.ends(rt, answers);
 }
 
 #[test]
 fn turns_stop(rt: HostRuntime) {
-    stop_all(&rt, rt.alloc(), &APPENDED, 74_212);
-    stop_all(&rt, rt.alloc(), &MOVED, 96_070);
+    stop_all(&rt, rt.alloc(), &APPENDED, false, 74_212);
+    stop_all(&rt, rt.alloc(), &CHECKPOINTED, false, 96_008);
+}
+
+#[test]
+fn turns_of_both_parts_stop(rt: HostRuntime) {
+    stop_all(&rt, rt.alloc(), &APPENDED, true, 82_564);
+    stop_all(&rt, rt.alloc(), &CHECKPOINTED, true, 101_616);
+}
+
+#[test]
+fn old_journals_stop(rt: HostRuntime) {
+    stop_all(&rt, rt.alloc(), &MOVED, false, 101_678);
 }

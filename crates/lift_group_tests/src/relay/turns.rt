@@ -34,6 +34,8 @@ enum Course {
     Turns,
     /// Five, by a run through a gate that is closed.
     Run,
+    /// The same, after a telling.
+    Told,
     /// Five, by a run whose gate is open until its witness is told that the device failed.
     Watched,
     /// One, and three calls on a thread of their own, by a run whose gate is open beside them.
@@ -54,8 +56,9 @@ pub(crate) struct Drain {
 /// Five batches wait, the fifth in hand until the flusher has received one. A batch without entries
 /// is no call of the device, and each of the three calls is five. What was safe is answered, and all
 /// batches after a fault are Unknown. A run through a gate that is closed turns nothing, and drains
-/// what is in hand and in the line. After a fault it goes on, tells the first one, and its witness is
-/// told of that once, and at once; so it does while its gate is open, and answers the later calls too.
+/// what is in hand and in the line; what the parts tell each other before it changes nothing. After a
+/// fault it goes on, tells the first one, and its witness is told of that once, and at once; so it
+/// does while its gate is open, and answers the later calls too.
 const DRAINS: [(u32, u8, u8, Course); 13] = [
     (0, 5, 3, Course::Turns),
     (1, 2, 0, Course::Turns),
@@ -65,7 +68,7 @@ const DRAINS: [(u32, u8, u8, Course); 13] = [
     (11, 4, 2, Course::Turns),
     (15, 4, 3, Course::Turns),
     (16, 5, 3, Course::Turns),
-    (0, 5, 3, Course::Run),
+    (0, 5, 3, Course::Told),
     (6, 3, 1, Course::Run),
     (6, 3, 1, Course::Watched),
     (0, 5, 2, Course::Beside),
@@ -246,6 +249,10 @@ pub(crate) fn comes_through<R: Threads + Wait + Sync>(
     match drain.course {
         Course::Turns => flushes_five(rt, tally, relay, drain),
         Course::Watched => runs_out(rt, tally, relay, drain, 1),
+        Course::Told => {
+            relay.tell();
+            runs_out(rt, tally, relay, drain, 0);
+        }
         _ => runs_out(rt, tally, relay, drain, 0),
     }
     hear(tally, terminals, drain);

@@ -1,0 +1,5 @@
+//! Tests of `lift_replay`.
+
+mod buildings;
+mod reading;
+mod streams;
