@@ -1,5 +1,5 @@
 -- What a turn of the allocator leaves.
-use Rattle.std.proofs.Common.{◌≡◌, ◌≢◌, ℕ, true, Option, Some, None, ◌<◌, ◌≤◌, ◌+◌, List, [], ◌∷◌, ◌++◌, length, refl, sym, ap, ◌∙◌, subst, append-nil, append_assoc, length-append, arith, inl, inr}
+use Rattle.std.proofs.Common.{◌≡◌, ◌≢◌, ℕ, Bool, true, false, Option, Some, None, ◌<◌, ◌≤◌, ◌+◌, List, [], ◌∷◌, ◌++◌, length, refl, sym, ap, ◌∙◌, subst, append-nil, append_assoc, length-append, arith, inl, inr}
 use Rattle.atomic_table.specs.Seated.{TableId}
 use Rattle.lift_base.specs.declared.history.Entry.{Entry}
 use Rattle.lift_building.specs.Plan.{Plan}
@@ -7,7 +7,7 @@ use Rattle.lift_register.specs.Register.{RegisterState}
 use Rattle.lift_stops.specs.Schedule.{ScheduleState}
 use Rattle.lift_decider.specs.Decider.{state_of}
 use Rattle.lift_policy.specs.View.{positions_of}
-use Rattle.std.specs.Prelude.{Option}
+use Rattle.std.specs.Option.{option_to_list}
 use Rattle.lift_desk.specs.Seats.{ClerkPlace, IsClerkOf}
 use Rattle.lift_policy.specs.Eligible.{Choice}
 use Rattle.lift_policy.specs.Step.{State}
@@ -18,12 +18,14 @@ use Rattle.lift_policy.specs.declared.command.Command.{Command}
 use Rattle.lift_clerk.specs.Visits.{AreLooksAt, commands_of, looked_at}
 use Rattle.std.proofs.lemmas.List.{length-map}
 use Rattle.lift_parts.specs.declared.taken.NotedCommand.{NotedCommand}
-use Rattle.lift_parts.specs.Batch.{BatchState, next_turns, turns_of, turns_after, commands_in, replies_in, noted_in}
-use Rattle.lift_parts.specs.Line.{SendState, Tries, tried, Begins, IsNextBatch, SendsOne, WasFull, FindsNoRoom}
-use Rattle.lift_parts.specs.Scan.{ScansAhead, TakesAt, turns_in}
-use Rattle.lift_relay.specs.Scanner.{ScannerState, MakesBatch, HasScanned}
+use Rattle.lift_parts.specs.Batch.{BatchState, turns_of, turns_after, commands_in, replies_in, noted_in}
+use Rattle.lift_parts.specs.Line.{SendState, Tries, tried, Begins, IsNextBatch, WasFull}
+use Rattle.lift_parts.specs.Scan.{TakesAt, turns_in}
+use Rattle.lift_parts.specs.lemmas.Used.{most_turns}
+use Rattle.lift_relay.specs.AllocatorInside.{SendsHand}
+use Rattle.lift_relay.specs.Scanner.{ScannerState, HasScanned}
 use Rattle.lift_relay.proofs.Queues.{full_by}
-use Rattle.lift_parts.specs.Allocator.{AllocatorState, DecidesAlong, GoesOnAfter, IsAllocator, IsScanTurn, IsAllocation, tries_after}
+use Rattle.lift_parts.specs.Allocator.{AllocatorState, DecidesAlong, IsAllocator, IsFullTurn, IsScanTurn, IsAllocation}
 
 -- one batch more
 pub along_more : (plan : Plan) (choice : Choice) (start mid decided : State) (batches : List BatchState) (batch : BatchState) → DecidesAlong plan choice start batches mid
@@ -42,165 +44,19 @@ based state register schedules same placed sealed = λ i. record { register = sa
 abbrev pub allocator_of : {P : Type 0} → ScannerState P → SendState → List BatchState → AllocatorState P
 allocator_of s end hand = record { desk = s.desk; seat = s.seat; plan = s.plan; state = s.state; start = s.start; policy = s.policy; end = end; hand = hand }
 
--- the half that takes and decides
-abbrev pub half_of : {P : Type 0} → AllocatorState P → ScannerState P
-half_of a = record { desk = a.desk; seat = a.seat; plan = a.plan; state = a.state; start = a.start; policy = a.policy }
+-- there is a turn for one batch more
+pub few_sent : (desk : List TableId) (seat : List ClerkPlace) (sent : ℕ) → IsClerkOf desk seat → length desk ≤ 63 → sent + 1 ≤ turns_in seat → sent < 66060225
+few_sent desk seat sent seated few used =
+    let many : length seat ≡ length desk = sym (length-map seat (λ (p : ClerkPlace). p.table)) ∙ ap length seated in
+    let most = most_turns seat in
+    omega arith
 
-pub makes : {P : Type 0} (choice : Choice) (a : ScannerState P) (seat : List ClerkPlace) (decided : State) (taken : List NotedCommand) (entries : List Entry) (plan : Plan) (before after : State) (seats : List ClerkPlace) (batch : BatchState)
-    → batch ≡ record { commands = taken; entries = entries; building = plan; before = before; after = after; desk = a.desk; turns = turns_of seats } → IsClerkOf a.desk seat
-    → Run a.plan choice a.state (commands_in taken) (replies_in taken) decided → entries ≡ decided.batch → plan ≡ a.plan → before ≡ a.state
-    → after ≡ without_batch decided → turns_in a.seat + 1 ≤ turns_in seat
-    → seats ≡ a.seat → turns_after (turns_of a.seat) taken ≡ turns_of seat → MakesBatch choice a seat decided batch
-makes choice a seat decided taken entries plan before after seats batch is seated run same building on leads uses of_seat turns = record {
-  uses = uses;
-  seated = seated;
-  run = subst (λ (l : List NotedCommand). Run a.plan choice a.state (commands_in l) (replies_in l) decided) (sym (ap (λ (b : BatchState). b.commands) is)) run;
-  entries = ap (λ (b : BatchState). b.entries) is ∙ same;
-  next = record { of_building = ap (λ (b : BatchState). b.building) is ∙ building; at_desk = ap (λ (b : BatchState). b.desk) is; on_state = ap (λ (b : BatchState). b.before) is ∙ on; on_turns = ap (λ (b : BatchState). b.turns) is ∙ ap turns_of of_seat };
-  leads = ap (λ (b : BatchState). b.after) is ∙ leads;
-  turns = sym turns ∙ ap (λ l. turns_after (turns_of l) taken) (sym of_seat) ∙ ap next_turns (sym is);
-}
-
--- with no batch in hand what is shown and the turns are those after all that was sent
-pub level : (plan : Plan) (desk : List TableId) (sent : State) (turns : List ℕ) (hand : List BatchState) (shown : State) (used : List ℕ) → hand ≡ [] → GoesOnAfter plan desk sent turns hand shown used
-    → (shown ≡ sent) × (used ≡ turns)
-level plan desk sent turns [] shown used none goes = goes
-level plan desk sent turns (b ∷ []) shown used none goes = absurd (cc)
-level plan desk sent turns (b ∷ c ∷ bs) shown used none goes = absurd (cc)
-
-pub after_none : (plan : Plan) (desk : List TableId) (sent : State) (turns : List ℕ) (hand : List BatchState) (shown : State) (used : List ℕ) → hand ≡ [] → shown ≡ sent → used ≡ turns
-    → GoesOnAfter plan desk sent turns hand shown used
-after_none plan desk sent turns hand shown used none same still = subst (λ (l : List BatchState). GoesOnAfter plan desk sent turns l shown used) (sym none) (same, still)
-
--- the new batch is sent
-pub sent_one : {P : Type 0} (choice : Choice) (a : AllocatorState P) (seat : List ClerkPlace) (decided state : State) (plan : Plan) (batch : BatchState) (end : SendState)
-    → IsAllocator choice a → a.hand ≡ [] → MakesBatch choice (half_of a) seat decided batch → plan ≡ a.plan → state ≡ without_batch decided → SendsOne a.end batch end
-    → IsAllocator choice (record { desk = a.desk; seat = seat; plan = plan; state = state; start = a.start; policy = a.policy; end = end; hand = a.hand })
-sent_one choice a seat decided state plan batch end is none made of_plan settles sent =
-    let along = along_more a.plan choice a.start a.state decided (a.end.sent ++ a.hand) batch is.decides made.run made.entries in
-    let same : (a.end.sent ++ a.hand) ++ batch ∷ [] ≡ end.sent ++ a.hand = ap (λ l. (a.end.sent ++ l) ++ batch ∷ []) none ∙ ap (λ l. l ++ batch ∷ []) (append-nil a.end.sent) ∙ sym sent.sends
-    ∙ sym (append-nil end.sent) ∙ ap (λ l. end.sent ++ l) (sym none) in
-    record {
-      seated = made.seated;
-      of_building = sent.same.1 ∙ is.of_building ∙ sym of_plan;
-      at_desk = sent.same.2 ∙ is.at_desk;
-      all_sealed = ap (λ (s : State). s.batch) settles;
-      decides = subst (λ (p : Plan × List BatchState × State). DecidesAlong p.0 choice a.start p.1 p.2) (λ i. (sym of_plan i, same i, sym settles i)) along;
-      few = let used = made.uses in let was = is.few in omega (arith, ap length sent.sends, length-append a.end.sent (batch ∷ []));
-      goes_on = after_none plan a.desk end.state end.turns a.hand state (turns_of seat) none (settles ∙ sym made.leads ∙ sym sent.state) (made.turns ∙ sym sent.turns);
-    }
-
--- the line has no room for it
-pub held_one : {P : Type 0} (choice : Choice) (a : AllocatorState P) (seat : List ClerkPlace) (decided state : State) (plan : Plan) (batch back : BatchState) (end : SendState)
-    → IsAllocator choice a → a.hand ≡ [] → MakesBatch choice (half_of a) seat decided batch → plan ≡ a.plan → state ≡ without_batch decided → end ≡ record a.end { tries = tried a.end.tries true } → back ≡ batch
-    → IsAllocator choice (record { desk = a.desk; seat = seat; plan = plan; state = state; start = a.start; policy = a.policy; end = end; hand = back ∷ [] })
-held_one choice a seat decided state plan batch back end is none made of_plan settles same_end is_back =
-    let along = along_more a.plan choice a.start a.state decided (a.end.sent ++ a.hand) batch is.decides made.run made.entries in
-    let same : (a.end.sent ++ a.hand) ++ batch ∷ [] ≡ end.sent ++ back ∷ [] = ap (λ l. (a.end.sent ++ l) ++ batch ∷ []) none ∙ ap (λ l. l ++ batch ∷ []) (append-nil a.end.sent)
-    ∙ ap (λ (p : SendState × BatchState). p.0.sent ++ p.1 ∷ []) (λ i. (sym same_end i, sym is_back i)) in
-    let even = level a.plan a.desk a.end.state a.end.turns a.hand a.state (turns_of a.seat) none is.goes_on in
-    let shown : a.state ≡ end.state = even.0 ∙ ap (λ (e : SendState). e.state) (sym same_end) in
-    let used : turns_of a.seat ≡ end.turns = even.1 ∙ ap (λ (e : SendState). e.turns) (sym same_end) in
-    record {
-      seated = made.seated;
-      of_building = ap (λ (e : SendState). e.building) same_end ∙ is.of_building ∙ sym of_plan;
-      at_desk = ap (λ (e : SendState). e.desk) same_end ∙ is.at_desk;
-      all_sealed = ap (λ (s : State). s.batch) settles;
-      decides = subst (λ (p : Plan × List BatchState × State). DecidesAlong p.0 choice a.start p.1 p.2) (λ i. (sym of_plan i, same i, sym settles i)) along;
-      few = let used = made.uses in let was = is.few in omega (arith, ap (λ (e : SendState). length e.sent) same_end, ap length none);
-      goes_on = (
-        subst (λ (p : Plan × State × List ℕ × BatchState). IsNextBatch p.0 a.desk p.1 p.2 p.3) (λ i. (sym of_plan i, shown i, used i, sym is_back i)) made.next,
-        settles ∙ sym made.leads ∙ ap (λ (b : BatchState). b.after) (sym is_back),
-        made.turns ∙ ap next_turns (sym is_back),
-      );
-    }
-
--- The turn: the state before it, the one after its batch in hand was sent, and the one after its
--- scan.
-pub record Between {P : Type 0} (old a : AllocatorState P) : Type 0 where
-  pub none : a.hand ≡ []
-  pub sent : a.end.sent ≡ old.end.sent ++ old.hand
-  pub line : a.end.line ≡ old.end.line
-  pub same : a ≡ record old { end = a.end; hand = [] }
-  pub later : Begins old.end.gone a.end.gone
-  pub tries : a.end.tries ≡ tries_after old.hand old.end.tries
-
-then_later : (first mid last : List BatchState) → Begins first mid → Begins mid last → Begins first last
-then_later first mid last a b = (a.0 ++ b.0, b.1 ∙ ap (λ l. l ++ b.0) a.1 ∙ append_assoc first a.0 b.0)
-
-no_command : (taken : List NotedCommand) (commands : List Command) → commands_in taken ≡ commands → commands ≡ [] → length taken ≡ 0
-no_command taken commands is none = sym (length-map taken (λ (t : NotedCommand). t.command)) ∙ ap length is ∙ ap length none
-
-some_command : (taken : List NotedCommand) (commands : List Command) → commands_in taken ≡ commands → commands ≢ [] → 0 < length taken
-some_command [] commands is some = absurd (some (sym is))
-some_command (t ∷ taken) commands is some = omega arith
-
--- what was full at a refused try reads so after it
-pub refused_full : (old new : SendState) → FindsNoRoom old new → WasFull new
-refused_full old new refused =
-    let full = refused.was_full in
-    subst WasFull (sym refused.tries) (record { items = full.items; four = full.four; received = full.received; all = full.all; later = full.later })
-
-pub scan_turn : {P : Type 0} (choice : Choice) (old a new : AllocatorState P) (counts : Counts) (taken : List NotedCommand) (decided : State) (batch : BatchState) → Between old a
-    → (scans : ScansAhead choice a.plan a.seat new.seat a.state decided taken (length a.desk))
-    → batch.commands ≡ taken → batch.entries ≡ decided.batch
-    → new.state ≡ without_batch decided
-    → (new.desk ≡ a.desk) × (new.plan ≡ a.plan) × (new.policy ≡ a.policy) × (new.start ≡ a.start) × (new.end.line ≡ a.end.line)
-    → counts.taken ≡ length taken → counts.accepted ≡ length decided.batch
-    → (length taken ≡ 0 → (new.end.sent ++ new.hand ≡ a.end.sent) × (new.hand ≡ []))
-    → (0 < length taken → new.end.sent ++ new.hand ≡ a.end.sent ++ batch ∷ [])
-    → Begins a.end.sent new.end.sent
-    → (new.hand ≢ [] → WasFull new.end × (new.end.tries ≡ tried a.end.tries true))
-    → Begins a.end.gone new.end.gone
-    → IsScanTurn choice old new counts
-scan_turn {P} choice old a new counts taken decided batch between scans commands entries settles place many accepted nothing some sent full later =
-    let same = between.same in
-    let visits = scans.visits in
-    record {
-      visits = visits;
-      batch = batch;
-      decided = decided;
-      each_once = scans.count ∙ ap (λ (s : AllocatorState P). length s.desk) same;
-      takes = subst (λ (s : AllocatorState P). AreLooksAt TakesAt s.seat visits) same scans.looks;
-      looked = scans.looked ∙ ap (λ (s : AllocatorState P). looked_at s.seat visits) same;
-      commands = ap commands_in commands ∙ scans.found.commands;
-      notes = ap noted_in commands ∙ scans.found.notes;
-      run = subst (λ (p : AllocatorState P × List Command × List NotedCommand). Run p.0.plan choice p.0.state p.1 (replies_in p.2) decided) (λ i. (same i, scans.found.commands i, sym commands i)) scans.found.run;
-      entries = entries;
-      after = settles;
-      nothing = λ none. let n = nothing (no_command taken (commands_of 0 visits) scans.found.commands none) in (n.0 ∙ between.sent, n.1);
-      some = λ any. some (some_command taken (commands_of 0 visits) scans.found.commands any) ∙ ap (λ l. l ++ batch ∷ []) between.sent;
-      sent = subst (λ (l : List BatchState). Begins l new.end.sent) between.sent sent;
-      full = λ held. (full held).0;
-      refused = λ held. (full held).1 ∙ ap (λ (t : Tries). tried t true) between.tries;
-      same_place = (
-        place.0 ∙ ap (λ (s : AllocatorState P). s.desk) same,
-        place.1 ∙ ap (λ (s : AllocatorState P). s.plan) same,
-        place.2 ∙ ap (λ (s : AllocatorState P). s.policy) same,
-        place.3 ∙ ap (λ (s : AllocatorState P). s.start) same,
-        place.4 ∙ between.line,
-      );
-      taken = many ∙ sym (length-map taken (λ (t : NotedCommand). t.command)) ∙ ap length scans.found.commands;
-      accepted = accepted;
-      later = then_later old.end.gone a.end.gone new.end.gone between.later later;
-    }
-
--- ---- after a scan, its batch is sent or held, if it made one
+-- ---- after a scan, its batch is in hand, if it made one
 no_items : (taken : List NotedCommand) → length taken ≡ 0 → taken ≡ []
 no_items [] is = refl
 no_items (t ∷ taken) is = absurd (omega arith)
 
-module _ {P : Type 0} (chooses : P → Choice) (s n : ScannerState P) (end : SendState) (hand : List BatchState) (counts : Counts) (is : IsAllocator (chooses s.policy) (allocator_of s end hand)) (none : hand ≡ []) where
-  pub scanned_sent : (batch : BatchState) (sent : SendState) → HasScanned (chooses s.policy) s n counts (Some batch) → SendsOne end batch sent → IsAllocator (chooses n.policy) (allocator_of n sent hand)
-  scanned_sent batch sent scan sends =
-      subst (λ (v : ScannerState P). IsAllocator (chooses v.policy) (allocator_of v sent hand)) (sym scan.same)
-      (sent_one (chooses s.policy) (allocator_of s end hand) n.seat scan.decided n.state s.plan batch sent is none scan.makes.2 refl scan.after sends)
-
-  pub scanned_held : (batch back : BatchState) (sent : SendState) → HasScanned (chooses s.policy) s n counts (Some batch) → back ≡ batch → FindsNoRoom end sent → IsAllocator (chooses n.policy) (allocator_of n sent (back ∷ []))
-  scanned_held batch back sent scan same refused =
-      subst (λ (v : ScannerState P). IsAllocator (chooses v.policy) (allocator_of v sent (back ∷ []))) (sym scan.same)
-      (held_one (chooses s.policy) (allocator_of s end hand) n.seat scan.decided n.state s.plan batch back sent is none scan.makes.2 refl scan.after refused.tries same)
-
+module _ {P : Type 0} (chooses : P → Choice) (s n : ScannerState P) (end : SendState) (counts : Counts) (is : IsAllocator (chooses s.policy) (allocator_of s end [])) where
   module _ (scan : HasScanned (chooses s.policy) s n counts None) where
     nothing_taken : scan.taken ≡ []
     nothing_taken = no_items scan.taken scan.makes
@@ -210,63 +66,140 @@ module _ {P : Type 0} (chooses : P → Choice) (s n : ScannerState P) (end : Sen
         let run : scan.decided ≡ s.state = subst (λ (l : List NotedCommand). Run s.plan (chooses s.policy) s.state (commands_in l) (replies_in l) scan.decided) nothing_taken scan.scans.found.run in
         scan.after ∙ ap without_batch run ∙ ap (λ (b : List Entry). record s.state { batch = b }) (sym is.all_sealed)
 
-    same_turns : turns_of n.seat ≡ turns_of s.seat
-    same_turns = sym scan.turns ∙ ap (turns_after (turns_of s.seat)) nothing_taken
-
-    pub scanned_none : IsAllocator (chooses n.policy) (allocator_of n end hand)
+    scanned_none : IsAllocator (chooses n.policy) (allocator_of n end [])
     scanned_none =
-        subst (λ (v : ScannerState P). IsAllocator (chooses v.policy) (allocator_of v end hand)) (sym scan.same)
+        subst (λ (v : ScannerState P). IsAllocator (chooses v.policy) (allocator_of v end [])) (sym scan.same)
         (record {
           seated = scan.seated;
           of_building = is.of_building;
           at_desk = is.at_desk;
           all_sealed = ap (λ (x : State). x.batch) stays ∙ is.all_sealed;
-          decides = subst (λ (x : State). DecidesAlong s.plan (chooses s.policy) s.start (end.sent ++ hand) x) (sym stays) is.decides;
-          goes_on = subst (λ (p : State × List ℕ). GoesOnAfter s.plan s.desk end.state end.turns hand p.0 p.1) (λ i. (sym stays i, sym same_turns i)) is.goes_on;
+          decides = subst (λ (x : State). DecidesAlong s.plan (chooses s.policy) s.start (end.sent ++ []) x) (sym stays) is.decides;
+          goes_on = (stays ∙ is.goes_on.0, sym scan.turns ∙ ap (turns_after (turns_of s.seat)) nothing_taken ∙ is.goes_on.1);
           few = let used = scan.uses in let was = is.few in omega arith;
         })
 
--- the turn of it
-module _ {P : Type 0} (choice : Choice) (old : AllocatorState P) (s n : ScannerState P) (end : SendState) (hand : List BatchState) (counts : Counts) (between : Between old (allocator_of s end hand)) where
-  turn_by : (made : Option BatchState) (scan : HasScanned choice s n counts made) (batch : BatchState) (last : SendState) (held : List BatchState) → batch.commands ≡ scan.taken → batch.entries ≡ scan.decided.batch → last.line ≡ end.line
-      → (length scan.taken ≡ 0 → (last.sent ++ held ≡ end.sent) × (held ≡ []))
-      → (0 < length scan.taken → last.sent ++ held ≡ end.sent ++ batch ∷ [])
-      → Begins end.sent last.sent → (held ≢ [] → WasFull last × (last.tries ≡ tried end.tries true)) → Begins end.gone last.gone
-      → IsScanTurn choice old (allocator_of n last held) counts
-  turn_by made scan batch last held commands entries line nothing some sent full later =
-      scan_turn choice old (allocator_of s end hand) (allocator_of n last held) counts scan.taken scan.decided batch between scan.scans commands entries scan.after
-      (ap (λ (v : ScannerState P). v.desk) scan.same, ap (λ (v : ScannerState P). v.plan) scan.same, ap (λ (v : ScannerState P). v.policy) scan.same, ap (λ (v : ScannerState P). v.start) scan.same, line)
-      scan.counted.0 scan.counted.1 nothing some sent full later
+  scanned : (made : Option BatchState) → HasScanned (chooses s.policy) s n counts made → IsAllocator (chooses n.policy) (allocator_of n end (option_to_list made))
+  scanned None scan = scanned_none scan
+  scanned (Some batch) scan =
+      let made = scan.makes.2 in
+      let along = along_more s.plan (chooses s.policy) s.start s.state scan.decided (end.sent ++ []) batch is.decides made.run made.entries in
+      subst (λ (v : ScannerState P). IsAllocator (chooses v.policy) (allocator_of v end (batch ∷ []))) (sym scan.same)
+      (record {
+        seated = made.seated;
+        of_building = is.of_building;
+        at_desk = is.at_desk;
+        all_sealed = ap (λ (x : State). x.batch) scan.after;
+        decides = subst (λ (p : List BatchState × State). DecidesAlong s.plan (chooses s.policy) s.start p.0 p.1) (λ i. (append-nil end.sent i ++ batch ∷ [], sym scan.after i)) along;
+        goes_on = (subst (λ (p : State × List ℕ). IsNextBatch s.plan s.desk p.0 p.1 batch) (λ i. (is.goes_on.0 i, is.goes_on.1 i)) made.next, scan.after ∙ sym made.leads, made.turns);
+        few = let used = made.uses in let was = is.few in omega arith;
+      })
 
-  pub sent_turn : (batch : BatchState) (last : SendState) → HasScanned choice s n counts (Some batch) → SendsOne end batch last → IsScanTurn choice old (allocator_of n last hand) counts
-  sent_turn batch last scan one =
-      let some = scan.makes.0 in
-      turn_by (Some batch) scan batch last hand scan.makes.1 scan.makes.2.entries one.same.0
-      (λ nothing. absurd (omega arith))
-      (λ any. ap (λ l. last.sent ++ l) between.none ∙ append-nil last.sent ∙ one.sends)
-      (batch ∷ [], one.sends)
-      (λ held. absurd (held between.none)) one.later
+-- what was in hand before is sent by then
+pub ahead : {P : Type 0} (chooses : P → Choice) (s n : ScannerState P) (end : SendState) (hand : List BatchState) (counts : Counts) (made held : Option BatchState) → IsAllocator (chooses s.policy) (allocator_of s end hand) → hand ≡ []
+    → HasScanned (chooses s.policy) s n counts made → held ≡ made → IsAllocator (chooses n.policy) (allocator_of n end (option_to_list held))
+ahead chooses s n end hand counts made held is none scan same =
+    subst (λ (it : Option BatchState). IsAllocator (chooses n.policy) (allocator_of n end (option_to_list it))) (sym same)
+    (scanned chooses s n end counts (subst (λ (l : List BatchState). IsAllocator (chooses s.policy) (allocator_of s end l)) none is) made scan)
 
-  pub held_turn : (batch back : BatchState) (last : SendState) → HasScanned choice s n counts (Some batch) → back ≡ batch → FindsNoRoom end last → IsScanTurn choice old (allocator_of n last (back ∷ [])) counts
-  held_turn batch back last scan same refused =
-      let some = scan.makes.0 in
-      turn_by (Some batch) scan batch last (back ∷ []) scan.makes.1 scan.makes.2.entries (ap (λ (e : SendState). e.line) refused.tries)
-      (λ nothing. absurd (omega arith))
-      (λ any. ap (λ (p : SendState × BatchState). p.0.sent ++ p.1 ∷ []) (λ i. (refused.tries i, same i)))
-      (subst (λ (e : SendState). Begins end.sent e.sent) (sym refused.tries) ([], sym (append-nil end.sent)))
-      (λ held. (refused_full end last refused, ap (λ (e : SendState). e.tries) refused.tries))
-      (subst (λ (e : SendState). Begins end.gone e.gone) (sym refused.tries) ([], sym (append-nil end.gone)))
+-- ---- the turn: what was in hand was sent, the desk was scanned, and what that made was tried once
+then_later : (first mid last : List BatchState) → Begins first mid → Begins mid last → Begins first last
+then_later first mid last a b = (a.0 ++ b.0, b.1 ∙ ap (λ l. l ++ b.0) a.1 ∙ append_assoc first a.0 b.0)
 
-  pub none_turn : HasScanned choice s n counts None → IsScanTurn choice old (allocator_of n end hand) counts
-  none_turn scan =
+-- what was tried once went through, or the line was full
+record Tried {P : Type 0} (m new : AllocatorState P) : Type 0 where
+  all : new.end.sent ++ new.hand ≡ m.end.sent ++ m.hand
+  sent : Begins m.end.sent new.end.sent
+  empty : m.hand ≡ [] → new.hand ≡ []
+  full : new.hand ≢ [] → WasFull new.end × (new.end.tries ≡ tried m.end.tries true)
+  same : new ≡ record m { end = new.end; hand = new.hand }
+  line : new.end.line ≡ m.end.line
+  later : Begins m.end.gone new.end.gone
+
+tried_once : {P : Type 0} (m new : AllocatorState P) (counts : Counts) (sent : Bool) → (sent ≡ true → SendsHand m new) → (sent ≡ false → IsFullTurn m new counts) → Tried m new
+tried_once {P} m new counts true goes waits =
+    let s = goes refl in
+    record {
+      all = ap (λ l. new.end.sent ++ l) s.none ∙ append-nil new.end.sent ∙ s.sends.sent;
+      sent = (m.hand, s.sends.sent);
+      empty = λ _. s.none;
+      full = λ held. absurd (held s.none);
+      same = s.sends.same ∙ ap (λ l. record m { end = new.end; hand = l }) (sym s.none);
+      line = s.sends.line;
+      later = s.later;
+    }
+tried_once {P} m new counts false goes waits =
+    let f = waits refl in
+    let full = f.was_full in
+    let end = ap (λ (a : AllocatorState P). a.end) f.same in
+    let hand = ap (λ (a : AllocatorState P). a.hand) f.same in
+    record {
+      all = λ i. (end i).sent ++ hand i;
+      sent = ([], ap (λ (e : SendState). e.sent) end ∙ sym (append-nil m.end.sent));
+      empty = λ none. absurd (f.in_hand none);
+      full = λ _. (subst WasFull (sym end) (record { items = full.items; four = full.four; received = full.received; all = full.all; later = full.later }), ap (λ (e : SendState). e.tries) end);
+      same = f.same ∙ (λ i. record m { end = sym end i; hand = sym hand i });
+      line = ap (λ (e : SendState). e.line) end;
+      later = ([], ap (λ (e : SendState). e.gone) end ∙ sym (append-nil m.end.gone));
+    }
+
+some_command : (commands : List Command) (n : ℕ) → commands ≢ [] → n ≡ length commands → 0 < n
+some_command [] n some is = absurd (some refl)
+some_command (c ∷ commands) n some is = omega arith
+
+module _ {P : Type 0} (choice : Choice) (old new : AllocatorState P) (s n : ScannerState P) (end : SendState) (hand : List BatchState) (counts : Counts) (sends : SendsHand old (allocator_of s end hand)) where
+  turn_by : (made : Option BatchState) (scan : HasScanned choice s n counts made) → Tried (allocator_of n end (option_to_list made)) new → (batch : BatchState) → batch.commands ≡ scan.taken → batch.entries ≡ scan.decided.batch
+      → (length scan.taken ≡ 0 → option_to_list made ≡ []) → (0 < length scan.taken → option_to_list made ≡ batch ∷ []) → IsScanTurn choice old new counts
+  turn_by made scan tries batch commands entries nothing some =
+      let same = sends.sends.same in
+      let visits = scan.scans.visits in
+      let found = scan.scans.found in
+      let count : length scan.taken ≡ length (commands_of 0 visits) = sym (length-map scan.taken (λ (t : NotedCommand). t.command)) ∙ ap length found.commands in
+      let sent = sends.sends.sent in
+      record {
+        visits = visits;
+        batch = batch;
+        decided = scan.decided;
+        each_once = scan.scans.count ∙ ap (λ (a : AllocatorState P). length a.desk) same;
+        takes = subst (λ (a : AllocatorState P). AreLooksAt TakesAt a.seat visits) same scan.scans.looks;
+        looked = ap (λ (a : AllocatorState P). a.seat) tries.same ∙ scan.scans.looked ∙ ap (λ (a : AllocatorState P). looked_at a.seat visits) same;
+        commands = ap commands_in commands ∙ found.commands;
+        notes = ap noted_in commands ∙ found.notes;
+        run = subst (λ (p : AllocatorState P × List Command × List NotedCommand). Run p.0.plan choice p.0.state p.1 (replies_in p.2) scan.decided) (λ i. (same i, found.commands i, sym commands i)) found.run;
+        entries = entries;
+        after = ap (λ (a : AllocatorState P). a.state) tries.same ∙ scan.after;
+        nothing = λ none. let no = nothing (count ∙ ap length none) in (tries.all ∙ ap (λ l. end.sent ++ l) no ∙ append-nil end.sent ∙ sent, tries.empty no);
+        some = λ any. tries.all ∙ (λ i. sent i ++ some (some_command (commands_of 0 visits) (length scan.taken) any count) i);
+        sent = subst (λ (l : List BatchState). Begins l new.end.sent) sent tries.sent;
+        full = λ held. (tries.full held).0;
+        refused = λ held. (tries.full held).1 ∙ ap (λ (t : Tries). tried t true) sends.tries;
+        same_place = (
+          ap (λ (a : AllocatorState P). a.desk) tries.same ∙ ap (λ (v : ScannerState P). v.desk) scan.same ∙ ap (λ (a : AllocatorState P). a.desk) same,
+          ap (λ (a : AllocatorState P). a.plan) tries.same ∙ ap (λ (v : ScannerState P). v.plan) scan.same ∙ ap (λ (a : AllocatorState P). a.plan) same,
+          ap (λ (a : AllocatorState P). a.policy) tries.same ∙ ap (λ (v : ScannerState P). v.policy) scan.same ∙ ap (λ (a : AllocatorState P). a.policy) same,
+          ap (λ (a : AllocatorState P). a.start) tries.same ∙ ap (λ (v : ScannerState P). v.start) scan.same ∙ ap (λ (a : AllocatorState P). a.start) same,
+          tries.line ∙ sends.sends.line,
+        );
+        taken = scan.counted.0 ∙ count;
+        accepted = scan.counted.1;
+        later = then_later old.end.gone end.gone new.end.gone sends.later tries.later;
+      }
+
+  scan_turn : (made : Option BatchState) → HasScanned choice s n counts made → Tried (allocator_of n end (option_to_list made)) new → IsScanTurn choice old new counts
+  scan_turn None scan tries =
       let none = scan.makes in
-      let batch : BatchState = record { commands = scan.taken; entries = scan.decided.batch; building = s.plan; before = s.state; after = n.state; desk = s.desk; turns = turns_of s.seat } in
-      turn_by None scan batch end hand refl refl refl
-      (λ nothing. (ap (λ l. end.sent ++ l) between.none ∙ append-nil end.sent, between.none))
-      (λ any. absurd (omega arith))
-      ([], sym (append-nil end.sent))
-      (λ held. absurd (held between.none))
-      ([], sym (append-nil end.gone))
+      turn_by None scan tries (record { commands = scan.taken; entries = scan.decided.batch; building = s.plan; before = s.state; after = n.state; desk = s.desk; turns = turns_of s.seat }) refl refl (λ _. refl) (λ any. absurd (omega arith))
+  scan_turn (Some batch) scan tries =
+      let some = scan.makes.0 in
+      turn_by (Some batch) scan tries batch scan.makes.1 scan.makes.2.entries (λ none. absurd (omega arith)) (λ _. refl)
+
+pub turned : {P : Type 0} (chooses : P → Choice) (old a new : AllocatorState P) (s n : ScannerState P) (end : SendState) (hand : List BatchState) (counts idle : Counts) (made held : Option BatchState) (sent : Bool) → allocator_of s end hand ≡ a
+    → SendsHand old a → HasScanned (chooses s.policy) s n counts made → held ≡ made → (sent ≡ true → SendsHand (allocator_of n end (option_to_list held)) new) → (sent ≡ false → IsFullTurn (allocator_of n end (option_to_list held)) new idle)
+    → IsAllocation (chooses old.policy) old new counts
+turned {P} chooses old a new s n end hand counts idle made held sent is sends scan same goes waits =
+    let before = subst (SendsHand old) (sym is) sends in
+    let tries = subst (λ (it : Option BatchState). Tried (allocator_of n end (option_to_list it)) new) same (tried_once (allocator_of n end (option_to_list held)) new idle sent goes waits) in
+    subst (λ (p : P). IsAllocation (chooses p) old new counts) (ap (λ (v : AllocatorState P). v.policy) before.sends.same) (inr (scan_turn (chooses s.policy) old new s n end hand counts before made scan tries))
 
 -- ---- what a turn leaves
 pub looks : {P : Type 0} (choice : Choice) (old new : AllocatorState P) (counts : Counts) → IsAllocation choice old new counts → length old.end.sent < length old.end.gone + 4 → IsScanTurn choice old new counts

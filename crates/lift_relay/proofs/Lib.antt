@@ -9,6 +9,5 @@ pub mod Flushed
 pub mod Turned
 pub mod Ran
 pub mod Told
-mod Unheard
 pub mod Crosses
 pub mod Draining

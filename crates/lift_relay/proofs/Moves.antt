@@ -47,8 +47,10 @@ alone_at items views id v is at = here id (subst (λ l. get_elem? l id ≡ some 
     here zero e = (refl, sym (some-injective (opening items) v e))
     here (suc n) e = absurd (some-ne-none v (sym e))
 
-not_begun : {A : Type 0} (items : List BatchState) (views : List EndView) (id : ℕ) (v : EndView) → v.begun ≡ true → views ≡ opening items ∷ [] → get_elem? views id ≡ some v → A
-not_begun items views id v begun is at = off (sym (ap (λ (u : EndView). u.begun) (alone_at items views id v is at).1) ∙ begun)
+-- where a pass tells that the line has begun, it is in order
+ordered : (items : List BatchState) (views : List EndView) (id : ℕ) (v : EndView) → v.begun ≡ true → IsLineKept items views → get_elem? views id ≡ some v → IsLineInOrder items views
+ordered items views id v begun (inl is) at = off (sym (ap (λ (u : EndView). u.begun) (alone_at items views id v is at).1) ∙ begun)
+ordered items views id v begun (inr o) at = o
 
 set_only : (views : List EndView) (u w : EndView) (id : ℕ) → id ≡ 0 → views ≡ u ∷ [] → set views id w ≡ w ∷ []
 set_only views u w id first is = ap (λ (p : ℕ × List EndView). set p.1 p.0 w) (λ i. (first i, is i))
@@ -122,9 +124,9 @@ begun first batch w v push (inr pop) = pop.begins ∙ ap begun_with (head_of bat
 longer : (first whole : List BatchState) (batch : BatchState) → Begins first whole → Begins first (whole ++ batch ∷ [])
 longer first whole batch b = (b.0 ++ batch ∷ [], ap (λ l. l ++ batch ∷ []) b.1 ∙ append_assoc first b.0 (batch ∷ []))
 
-sends_on : (n id : ℕ) (v : EndView) (batch : BatchState) → n ≡ 4 → v.sends ≡ true → length v.sent < most_batches → IsNextBatch v.building v.desk v.ahead v.turns_ahead batch → (items : List BatchState) (views : List EndView) → length items < n
-    → IsLineInOrder items views → get_elem? views id ≡ some v → (w : EndView) × IsLineInOrder (items ++ batch ∷ []) (set views id w) × Sent v batch w
-sends_on n id v batch four may room next items views few h at =
+pub sends : (n id : ℕ) (v : EndView) (batch : BatchState) → n ≡ 4 → v.begun ≡ true → v.sends ≡ true → length v.sent < most_batches → IsNextBatch v.building v.desk v.ahead v.turns_ahead batch → Pushes IsLineKept n id v batch (Sent v batch)
+sends n id v batch four begun may room next items views few kept at =
+    let h = ordered items views id v begun kept at in
     let l = h.lists in
     let w : EndView = record v { sent = v.sent ++ batch ∷ []; gone = l.received; ahead = batch.after; turns_ahead = next_turns batch } in
     let mine = h.fits id v at in
@@ -133,25 +135,25 @@ sends_on n id v batch four may room next items views few h at =
     let more : LineLists = record l { sent = sent; ahead = batch.after; turns_ahead = next_turns batch } in
     let order = ap (λ x. x ++ batch ∷ []) h.in_order ∙ append_assoc l.received items (batch ∷ []) in
     let here : IsNextBatch l.building l.desk l.ahead l.turns_ahead batch = record { of_building = next.of_building ∙ a.3; at_desk = next.at_desk ∙ a.4; on_state = next.on_state ∙ a.5; on_turns = next.on_turns ∙ a.6 } in
-    let kept : EndFits more id w = record {
+    let own : EndFits more id w = record {
       begun = mine.begun;
       sends = λ _. (a.0, ap (λ x. x ++ batch ∷ []) a.1, ([], sym (append-nil l.received)), a.3, a.4, refl, refl);
       receives = λ p. let r = mine.receives p in (r.0, r.1, longer v.known l.sent batch r.2, r.3, r.4, r.5, r.6);
     } in (
       w,
-      record {
+      inr (record {
         lists = more;
         in_order = order;
         few = omega (arith, length-append l.sent (batch ∷ []), ap length a.1);
         goes_on = goes_on_more l.building l.desk l.behind l.ahead l.next_turns l.turns_ahead items batch h.goes_on here;
-        fits = fit_set more views id w kept
+        fits = fit_set more views id w own
             (λ j u apart e. let g = h.fits j u e in record {
               begun = g.begun;
               sends = λ p. absurd (apart ((g.sends p).0 ∙ sym a.0));
               receives = λ p. let r = g.receives p in (r.0, r.1, longer u.known l.sent batch r.2, r.3, r.4, r.5, r.6);
             });
         four = omega (arith, length-append items (batch ∷ []));
-      },
+      }),
       record {
         begun = refl;
         sends = refl;
@@ -168,13 +170,9 @@ sends_on n id v batch four may room next items views few h at =
       },
     )
 
-pub sends : (n id : ℕ) (v : EndView) (batch : BatchState) → n ≡ 4 → v.begun ≡ true → v.sends ≡ true → length v.sent < most_batches → IsNextBatch v.building v.desk v.ahead v.turns_ahead batch → Pushes IsLineKept n id v batch (Sent v batch)
-sends n id v batch four begun may room next items views few h at =
-    ⊎_elim (λ is. not_begun items views id v begun is at) (λ o. let s = sends_on n id v batch four may room next items views few o at in (s.0, inr s.1, s.2)) h
-
-receives_on : (id : ℕ) (v : EndView) → v.receives ≡ true → (batch : BatchState) (items : List BatchState) (views : List EndView) → IsLineInOrder (batch ∷ items) views → get_elem? views id ≡ some v
-    → (w : EndView) × IsLineInOrder items (set views id w) × Received v batch w
-receives_on id v may batch items views h at =
+pub receives : (id : ℕ) (v : EndView) → v.begun ≡ true → v.receives ≡ true → Pops IsLineKept id v (Received v)
+receives id v begun may batch items views kept at =
+    let h = ordered (batch ∷ items) views id v begun kept at in
     let l = h.lists in
     let w : EndView = record v { received = v.received ++ batch ∷ []; known = l.sent; behind = batch.after; next_turns = next_turns batch } in
     let mine = h.fits id v at in
@@ -183,25 +181,25 @@ receives_on id v may batch items views h at =
     let fewer : LineLists = record l { received = received; behind = batch.after; next_turns = next_turns batch } in
     let order = h.in_order ∙ sym (append_assoc l.received (batch ∷ []) items) in
     let first = h.goes_on.0 in
-    let kept : EndFits fewer id w = record {
+    let own : EndFits fewer id w = record {
       begun = mine.begun;
       sends = λ p. let r = mine.sends p in (r.0, r.1, longer v.gone l.received batch r.2, r.3, r.4, r.5, r.6);
       receives = λ _. (a.0, ap (λ x. x ++ batch ∷ []) a.1, ([], sym (append-nil l.sent)), a.3, a.4, refl, refl);
     } in (
       w,
-      record {
+      inr (record {
         lists = fewer;
         in_order = order;
         few = h.few;
         goes_on = h.goes_on.1;
-        fits = fit_set fewer views id w kept
+        fits = fit_set fewer views id w own
             (λ j u apart e. let g = h.fits j u e in record {
               begun = g.begun;
               sends = λ p. let r = g.sends p in (r.0, r.1, longer u.gone l.received batch r.2, r.3, r.4, r.5, r.6);
               receives = λ p. absurd (apart ((g.receives p).0 ∙ sym a.0));
             });
         four = let most = h.four in omega arith;
-      },
+      }),
       record {
         begun = refl;
         sends = refl;
@@ -218,28 +216,22 @@ receives_on id v may batch items views h at =
       },
     )
 
-pub receives : (id : ℕ) (v : EndView) → v.begun ≡ true → v.receives ≡ true → Pops IsLineKept id v (Received v)
-receives id v begun may batch items views h at =
-    ⊎_elim (λ is. not_begun (batch ∷ items) views id v begun is at) (λ o. let s = receives_on id v may batch items views o at in (s.0, inr s.1, s.2)) h
-
 pub sender_learns : (id : ℕ) (v : EndView) → v.begun ≡ true → v.sends ≡ true → Learns IsLineKept id v (SentAllBut v)
-sender_learns id v begun may items views h at =
-    ⊎_elim
-    (λ is. not_begun items views id v begun is at)
-    (λ (o : IsLineInOrder items views). let a = (o.fits id v at).sends may in record { received = o.lists.received; all = a.1 ∙ o.in_order; later = a.2 })
-    h
+sender_learns id v begun may items views kept at =
+    let h = ordered items views id v begun kept at in
+    let a = (h.fits id v at).sends may in
+    record { received = h.lists.received; all = a.1 ∙ h.in_order; later = a.2 }
 
 pub receiver_learns : (id : ℕ) (v : EndView) → v.begun ≡ true → v.receives ≡ true → Learns IsLineKept id v (ReceivedBefore v)
-receiver_learns id v begun may items views h at =
-    ⊎_elim
-    (λ is. not_begun items views id v begun is at)
-    (λ (o : IsLineInOrder items views). let a = (o.fits id v at).receives may in record { sent = o.lists.sent; all = o.in_order ∙ ap (λ x. x ++ items) (sym a.1); later = a.2 })
-    h
+receiver_learns id v begun may items views kept at =
+    let h = ordered items views id v begun kept at in
+    let a = (h.fits id v at).receives may in
+    record { sent = h.lists.sent; all = h.in_order ∙ ap (λ x. x ++ items) (sym a.1); later = a.2 }
 
 -- the pass with both rights leaves one to a new pass
-ends_on : (id : ℕ) (v : EndView) → v.sends ≡ true → v.receives ≡ true → (items : List BatchState) (views : List EndView) → IsLineInOrder items views → get_elem? views id ≡ some v
-    → IsLineInOrder items (set views id (sending v) ++ receiving v ∷ [])
-ends_on id v may takes items views h at =
+pub ends : (id : ℕ) (v : EndView) → v.begun ≡ true → v.sends ≡ true → v.receives ≡ true → Forks IsLineKept id v (sending v) (receiving v)
+ends id v begun may takes items views kept at =
+    let h = ordered items views id v begun kept at in
     let l = h.lists in
     let mine = h.fits id v at in
     let a = mine.sends may in
@@ -255,7 +247,7 @@ ends_on id v may takes items views h at =
     let no : u.receives ≢ true = λ p. x.0 ((g.receives p).0 ∙ sym b.0) in
     (record { begun = g.begun; sends = g.sends; receives = λ p. absurd (no p) }, no))
     (at_set views id j (sending v) u e) in
-    record {
+    inr (record {
       lists = next;
       in_order = h.in_order;
       few = h.few;
@@ -269,21 +261,18 @@ ends_on id v may takes items views h at =
             receives = λ p. (at_end vs (receiving v) (receiving v) j (λ x. (old j (receiving v) x).1 takes) (e ∙ ap (λ (y : EndView). some y) (sym is)), b.1, b.2, b.3, b.4, b.5, b.6);
           }))
           (at_snoc vs (receiving v) u j e);
-    }
-
-pub ends : (id : ℕ) (v : EndView) → v.begun ≡ true → v.sends ≡ true → v.receives ≡ true → Forks IsLineKept id v (sending v) (receiving v)
-ends id v begun may takes items views h at =
-    ⊎_elim (λ is. not_begun items views id v begun is at) (λ o. inr (ends_on id v may takes items views o at)) h
+    })
 
 -- what both know in one pass, but of what left the line and of what came into it
 abbrev in_one : EndView → EndView → (gone known : List BatchState) → EndView
 in_one v w gone known = record (with_both_passes v w) { gone = gone; known = known }
 
 -- the sending pass takes in the receiving one, and knows what both know, of what left the line and of what came into it as much as is true
-joins_on : (id other : ℕ) (v w : EndView) (gone known : List BatchState) → v.sends ≡ true → w.receives ≡ true → (items : List BatchState) (views : List EndView) (h : IsLineInOrder items views)
+merges : (id other : ℕ) (v w : EndView) (gone known : List BatchState) → v.begun ≡ true → v.sends ≡ true → w.receives ≡ true
     → ((l : LineLists) → v.sent ≡ l.sent → Begins v.gone l.received → w.received ≡ l.received → Begins w.known l.sent → Begins gone l.received × Begins known l.sent)
-    → get_elem? views id ≡ some v → other ≢ id → get_elem? (set views id (in_one v w gone known)) other ≡ some w → IsLineInOrder items (set (set views id (in_one v w gone known)) other spent_pass)
-joins_on id other v w gone known may takes items views h so at apart at_other =
+    → Merges IsLineKept id v other w (in_one v w gone known) spent_pass
+merges id other v w gone known begun may takes so items views kept at apart at_other =
+    let h = ordered items views id v begun kept at in
     let l = h.lists in
     let both = in_one v w gone known in
     let vs = set views id both in
@@ -306,20 +295,14 @@ joins_on id other v w gone known may takes items views h so at apart at_other =
     let g = h.fits j u x.1 in
     record { begun = g.begun; sends = g.sends; receives = λ p. absurd (off_other ((g.receives p).0 ∙ sym b.0)) })
     (at_set views id j both u e) in
-    record {
+    inr (record {
       lists = next;
       in_order = h.in_order;
       few = h.few;
       goes_on = h.goes_on;
       four = h.four;
       fits = fit_set next vs other spent_pass (record { begun = refl; sends = λ p. off p; receives = λ p. off p }) (λ j u off_other e. now j u e off_other);
-    }
-
-merges : (id other : ℕ) (v w : EndView) (gone known : List BatchState) → v.begun ≡ true → v.sends ≡ true → w.receives ≡ true
-    → ((l : LineLists) → v.sent ≡ l.sent → Begins v.gone l.received → w.received ≡ l.received → Begins w.known l.sent → Begins gone l.received × Begins known l.sent)
-    → Merges IsLineKept id v other w (in_one v w gone known) spent_pass
-merges id other v w gone known begun may takes so items views h at apart at_other =
-    ⊎_elim (λ is. not_begun items views id v begun is at) (λ o. inr (joins_on id other v w gone known may takes items views o so at apart at_other)) h
+    })
 
 pub joins : (id : ℕ) (v : EndView) (other : ℕ) (w : EndView) → v.begun ≡ true → v.sends ≡ true → w.receives ≡ true → Merges IsLineKept id v other w (with_both_passes v w) spent_pass
 joins id v other w begun may takes = merges id other v w v.gone w.known begun may takes (λ l sent left received came. (left, came))
@@ -331,18 +314,12 @@ pub tells : (id : ℕ) (v : EndView) (other : ℕ) (w : EndView) → v.begun ≡
 tells id v other w begun may takes = merges id other v w w.received v.sent begun may takes (λ l sent left received came. (all_of w.received l.received received, all_of v.sent l.sent sent))
 
 pub both_learn : (id : ℕ) (v : EndView) → v.begun ≡ true → v.sends ≡ true → v.receives ≡ true → Learns IsLineKept id v (HoldsUnreceived v)
-both_learn id v begun may takes items views h at =
-    ⊎_elim
-    (λ is. not_begun items views id v begun is at)
-    (λ (o : IsLineInOrder items views).
-    let l = o.lists in
-    let mine = o.fits id v at in
-    let a = mine.sends may in
-    let b = mine.receives takes in
-    let goes = subst (λ (p : Plan × List TableId × State × List ℕ). BatchesGoOn p.0 p.1 p.2 p.3 items l.ahead l.turns_ahead) (λ i. (sym a.3 i, sym a.4 i, sym b.5 i, sym b.6 i)) o.goes_on in
+both_learn id v begun may takes items views kept at =
+    let h = ordered items views id v begun kept at in
+    let a = (h.fits id v at).sends may in
+    let b = (h.fits id v at).receives takes in
     record {
-      all = a.1 ∙ o.in_order ∙ ap (λ x. x ++ items) (sym b.1);
-      goes_on = subst (λ (p : State × List ℕ). BatchesGoOn v.building v.desk v.behind v.next_turns items p.0 p.1) (λ i. (sym a.5 i, sym a.6 i)) goes;
-      four = o.four;
-    })
-    h
+      all = a.1 ∙ h.in_order ∙ ap (λ x. x ++ items) (sym b.1);
+      goes_on = subst (λ (p : Plan × List TableId × State × List ℕ × State × List ℕ). BatchesGoOn p.0 p.1 p.2 p.3 items p.4 p.5) (λ i. (sym a.3 i, sym a.4 i, sym b.5 i, sym b.6 i, sym a.5 i, sym a.6 i)) h.goes_on;
+      four = h.four;
+    }

@@ -34,23 +34,13 @@ one_flush state f g h before first of last answer turns flush is told = OneFlush
 abbrev pub fault_of : Option KeeperFault → Option RunFault
 fault_of first = option_map (λ (of : KeeperFault). Keeper of) first
 
-abbrev fault_in : Option RunFault → Option KeeperFault
-fault_in None = None
-fault_in (Some (Keeper fault)) = Some fault
-fault_in (Some (Spawn no_thread)) = None
-
 keeper_of : (first : Option KeeperFault) (fault : KeeperFault) → fault_of first ≡ Some (Keeper fault) → first ≡ Some fault
-keeper_of None fault is = ap fault_in is
-keeper_of (Some e) fault is = ap fault_in is
+keeper_of None fault is = absurd (cc)
+keeper_of (Some e) fault is = cc
 
-abbrev is_spawn : Option RunFault → Type 0
-is_spawn None = ⊥
-is_spawn (Some (Keeper fault)) = ⊥
-is_spawn (Some (Spawn no_thread)) = Unit {0}
-
-not_spawn : (first : Option KeeperFault) → is_spawn (fault_of first) → ⊥
-not_spawn None is = is
-not_spawn (Some e) is = is
+not_spawn : (first : Option KeeperFault) → fault_of first ≡ Some (Spawn tt) → ⊥
+not_spawn None is = cc
+not_spawn (Some e) is = cc
 
 pub turns_keep : {D P : Type 0} (choice : Choice) (state : D → DiskState) → TurnsKeepParts D P state choice
 turns_keep choice state a b f g before last turns flushes one =
@@ -61,14 +51,14 @@ turns_keep choice state a b f g before last turns flushes one =
 module _ {D P : Type 0} (choice : Choice) (state : D → DiskState) (a b : AllocatorState P) (f g : FlusherState D) (fault : Option RunFault) where
   pub refused_of : IsRun choice state a b f g fault → fault ≡ Some (Spawn tt) → (b ≡ a) × (g ≡ f)
   refused_of (inl refused) is = refused.1
-  refused_of (inr run) is = absurd (not_spawn run.0.first (subst is_spawn (sym is ∙ run.0.is_first) tt))
+  refused_of (inr run) is = absurd (not_spawn run.0.first (sym run.0.is_first ∙ is))
 
   pub ran_of : IsRun choice state a b f g fault → (fault ≡ Some (Spawn tt) → ⊥) → HaveRun choice state a b f g fault × (length b.end.sent ≡ length g.end.received)
   ran_of (inl refused) goes = absurd (goes refused.0)
   ran_of (inr run) goes = run
 
   pub broken_of : IsRun choice state a b f g fault → (of : KeeperFault) → fault ≡ Some (Keeper of) → g.writer.is_broken ≡ true
-  broken_of (inl refused) of is = absurd (subst is_spawn (sym refused.0 ∙ is) tt)
+  broken_of (inl refused) of is = absurd (let none = refused.0 in cc)
   broken_of (inr run) of is = faults_broken state f g None run.0.first run.0.flusher (λ e none. absurd (cc)) of (keeper_of run.0.first of (sym run.0.is_first ∙ is))
 
   pub stay_of : TurnsKeepParts D P state choice → IsRun choice state a b f g fault → AreOfOne a f → AreSameParts a b f g

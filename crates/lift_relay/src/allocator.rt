@@ -1,15 +1,12 @@
 //! The part that takes asks and decides them.
 
-ghost use Rattle.std.specs.Prelude.{◌≡◌, ◌≢◌, ◌↔◌, ◌⊎◌, ◌<◌, ◌≤◌, ◌+◌, [], ◌∷◌, ◌++◌, length, true};
-ghost use Rattle.std.specs.Prelude.{false};
+ghost use Rattle.std.specs.Prelude.{◌≡◌, ◌↔◌, ◌⊎◌, ◌<◌, ◌+◌, [], ◌++◌, length, true, false};
 ghost use Rattle.lift_desk.specs.Rule.{IsAhead};
 ghost use Rattle.lift_desk.specs.Seats.{IsClerkOf, IsSeatOf, OwesNothing, clerk_with, view_at};
 ghost use Rattle.lift_desk.specs.Seats.{with_looks_of};
 ghost use Rattle.lift_desk.specs.Steps.{with_told_asks};
 ghost use Rattle.lift_parts.specs.Batch.{turns_of};
-ghost use Rattle.lift_parts.specs.Line.{Begins};
 ghost use Rattle.lift_parts.specs.Allocator.{IsAllocation, IsScanTurn, IsFullTurn, DecidesAlong};
-ghost use Rattle.lift_parts.specs.Allocator.{tries_after};
 ghost use Rattle.lift_parts.specs.Turns.{IsSameAllocator};
 ghost use Rattle.lift_parts.specs.Queued.{Queued};
 
@@ -24,6 +21,7 @@ use lift_disk::Disk;
 use lift_policy::Policy;
 use lift_register::Register;
 use std::marker::Model;
+use std::mem;
 use std::sync::Wait;
 
 /// Takes what terminals ask, decides it, and sends it on in batches, ahead of the answers. Its own
@@ -50,6 +48,8 @@ impl<'d, 'b, P: Policy + Drop> Model for Allocator<'d, 'b, P> {
 }
 
 impl<'d, 'b, P: Policy + Drop> Allocator<'d, 'b, P> {
+    ghost use Rattle.lift_relay.specs.AllocatorInside.{SendsHand};
+
     /// The part that decides of a clerk that was just split, at the beginning of a line.
     pub(crate) fn new(
         desk: &'d Desk,
@@ -175,14 +175,7 @@ impl<'d, 'b, P: Policy + Drop> Allocator<'d, 'b, P> {
 
     /// Tries once to send the batch that is in hand, if there is one. Whether none is left.
     pub(crate) fn send_hand<R: Wait>(&mut self, rt: &R) -> bool
-        ensures sent { result ≡ true
-            → (self.new.hand ≡ []) × (self.new.end.sent ≡ self.old.end.sent ++ self.old.hand) }
-        ensures same { result ≡ true
-            → self.new ≡ record self.old { end = self.new.end; hand = [] } }
-        ensures line { self.new.end.line ≡ self.old.end.line }
-        ensures later { Begins self.old.end.gone self.new.end.gone }
-        ensures tries { result ≡ true
-            → self.new.end.tries ≡ tries_after self.old.hand self.old.end.tries }
+        ensures sent { result ≡ true → SendsHand self.old self.new }
         ensures full { result ≡ false
             → IsFullTurn self.old self.new (record { taken = 0; accepted = 0 }) }
     {
@@ -227,15 +220,8 @@ impl<'d, 'b, P: Policy + Drop> Allocator<'d, 'b, P> {
             };
         }
         let (counts, batch) = self.scanner.scan(&self.end);
-        let _terminals = self.scanner.terminals();
-        let batch = match batch {
-            Some(batch) => batch,
-            None => return counts,
-        };
-        match self.end.send(rt, batch) {
-            Ok(()) => {}
-            Err(batch) => self.hand = Some(batch),
-        }
+        let _none = mem::replace(&mut self.hand, batch);
+        let _sent = self.send_hand(rt);
         counts
     }
 }

@@ -1,5 +1,5 @@
 //! A queue of four batches with one end that sends and one that receives.
-ghost use Rattle.std.specs.Prelude.{◌≡◌, ◌<◌, ◌^◌, [], length, MatchResult, MatchOption, IfOk};
+ghost use Rattle.std.specs.Prelude.{◌≡◌, ◌<◌, length, MatchResult, MatchOption, IfOk};
 ghost use Rattle.lift_parts.specs.Line.{SendsOne, ReceivesOne, IsNextBatch, IsLine, FindsNoRoom};
 ghost use Rattle.lift_parts.specs.Line.{FindsNone};
 ghost use Rattle.lift_parts.specs.Queued.{Queued};

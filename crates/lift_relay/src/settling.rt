@@ -95,22 +95,6 @@ fn owes(desk: &Desk, seat: &AnsweringSeat<Lender>) -> bool
     false
 }
 
-/// The commit of a turn that received no batch.
-fn commit_nothing<D: Disk>(writer: &mut Writer<'_, D>) -> Result<FlushCounts, KeeperFault>
-    ensures commits { Commits D.state writer.old [] writer.new result }
-    ensures calls { CommitCalls D.state writer.old 0 writer.new result }
-    ensures counts { IfOk result (λ counts. counts ≡ record { batches = 0; answers = 0 }) }
-    ensures same { writer.new ≡ writer.old }
-{
-    match writer.commit(&ArrayVec::new()) {
-        Ok(_safe) => Ok(FlushCounts {
-            batches: 0,
-            answers: 0,
-        }),
-        Err(fault) => Err(fault),
-    }
-}
-
 impl<'d, 'b, D: Disk, K> Settler<'d, 'b, D, K> {
     /// The seats that answer, and the writer.
     pub(crate) fn new(desk: &'d Desk, seat: ClerkSeat<Lender>, writer: Writer<'b, D>) -> Self
@@ -195,7 +179,11 @@ impl<'d, 'b, D: Disk, K> Settler<'d, 'b, D, K> {
         ensures counts { IfOk result (λ counts. counts ≡ record { batches = 0; answers = 0 }) }
         ensures same { self.new ≡ self.old }
     {
-        commit_nothing(&mut self.writer)
+        let _safe = self.writer.commit(&ArrayVec::new())?;
+        Ok(FlushCounts {
+            batches: 0,
+            answers: 0,
+        })
     }
 
     /// Whether it took an ask that it has not answered, of any terminal.
@@ -227,13 +215,7 @@ impl<'d, 'b, D: Disk, K> Settler<'d, 'b, D, K> {
         K: Drop,
         ensures { result ≡ self.entry.writer }
     {
-        let Settler {
-            desk: _,
-            seat: _,
-            writer,
-            key: _,
-        } = self;
-        writer
+        self.writer
     }
 
     /// The clerk of this half, of the seats ahead of it, and of what decides, for the key.
@@ -259,13 +241,7 @@ impl<'d, 'b, D: Disk, K> Settler<'d, 'b, D, K> {
           policy = policy;
         } }
     {
-        let Settler {
-            desk,
-            seat,
-            writer,
-            key: _,
-        } = self;
-        let seat = desk.join(ahead, seat.into_seat());
-        Clerk::new(desk, seat, Keeper::whole(decider, writer), policy)
+        let seat = self.desk.join(ahead, self.seat.into_seat());
+        Clerk::new(self.desk, seat, Keeper::whole(decider, self.writer), policy)
     }
 }

@@ -4,7 +4,7 @@
 //! wasn't made can't be told of, and what one try told can't be told of a later one: each tells of the
 //! pass as it was before that very try, and after it.
 
-ghost use Rattle.std.specs.Prelude.{◌≡◌, true, false, MatchResult, MatchOption};
+ghost use Rattle.std.specs.Prelude.{◌≡◌, is_err, is_none, MatchResult, MatchOption};
 ghost use Rattle.std.specs.Arc.{arc_value};
 ghost use Rattle.lift_parts.specs.Line.{tried, no_tries};
 
@@ -94,22 +94,14 @@ impl<Q, S> Side<Q, S> {
         requires { Q.may_push self.old.line self.old.pass item }
         ensures line { self.new.line ≡ self.old.line }
         ensures pushed { MatchResult result
-            (λ _. Q.went self.old.line self.old.pass item self.new.pass
-            × (self.new.tries ≡ tried self.old.tries false))
-            (λ back. (back ≡ item) × Q.was_full self.old.line self.old.pass self.new.pass
-            × (self.new.tries ≡ tried self.old.tries true)) }
+            (λ _. Q.went self.old.line self.old.pass item self.new.pass)
+            (λ back. (back ≡ item) × Q.was_full self.old.line self.old.pass self.new.pass) }
+        ensures tries { self.new.tries ≡ tried self.old.tries (is_err result) }
     {
+        let pushed = self.line.push_by(rt, &mut self.pass, item);
         self.odd = !self.odd;
-        match self.line.push_by(rt, &mut self.pass, item) {
-            Ok(()) => {
-                self.refused = false;
-                Ok(())
-            }
-            Err(back) => {
-                self.refused = true;
-                Err(back)
-            }
-        }
+        self.refused = pushed.is_err();
+        pushed
     }
 
     /// Tries once to pop an item.
@@ -119,22 +111,14 @@ impl<Q, S> Side<Q, S> {
         requires { Q.may_pop self.old.line self.old.pass }
         ensures line { self.new.line ≡ self.old.line }
         ensures popped { MatchOption result
-            (Q.was_empty self.old.line self.old.pass self.new.pass
-            × (self.new.tries ≡ tried self.old.tries true))
-            (λ item. Q.went self.old.line self.old.pass item self.new.pass
-            × (self.new.tries ≡ tried self.old.tries false)) }
+            (Q.was_empty self.old.line self.old.pass self.new.pass)
+            (λ item. Q.went self.old.line self.old.pass item self.new.pass) }
+        ensures tries { self.new.tries ≡ tried self.old.tries (is_none result) }
     {
+        let item = self.line.pop_by(rt, &mut self.pass);
         self.odd = !self.odd;
-        match self.line.pop_by(rt, &mut self.pass) {
-            Some(item) => {
-                self.refused = false;
-                Some(item)
-            }
-            None => {
-                self.refused = true;
-                None
-            }
-        }
+        self.refused = item.is_none();
+        item
     }
 
     /// Its pass meets the other side's, by which each may learn where the other stands. That tries

@@ -1,35 +1,21 @@
-use Rattle.std.proofs.Common.{true, ℕ, List, sym, ap, ◌∙◌, subst}
+use Rattle.std.proofs.Common.{ℕ, List, sym, ap, ◌∙◌, subst}
 use Rattle.lift_policy.specs.Step.{State}
-use Rattle.lift_keeper.specs.Calls.{CommitCalls}
 use Rattle.lift_parts.specs.Flusher.{FlusherState, AllAnsweredBy}
-use Rattle.lift_parts.specs.Line.{tried}
 use Rattle.lift_parts.specs.Turns.{IsFlush}
-use Rattle.lift_relay.specs.Settler.{SettlerState}
-use Rattle.lift_relay.proofs.Turned.{idle, flushed, settled_turn, none_between, one_between}
+use Rattle.lift_relay.proofs.Turned.{flusher_of, idle, flushed}
 use Rattle.lift_relay.proofs.flusher.Flusher.turn.Goals as goal
 
 pub returns-in-None-clause-turn : goal.returns-in-None-clause-turn
 returns-in-None-clause-turn g c =
-    let s = c.self.inside in
-    let old : FlusherState g.row.D.Denot = record { desk = s.settler.desk; seat = s.settler.seat; writer = s.settler.writer; end = s.end } in
-    let now = c.rest.new.self in
-    let new : FlusherState g.row.D.Denot = record { desk = now.desk; seat = now.seat; writer = now.writer; end = c.receive.new.self } in
-    let same = c.rest.ensures.same in
-    subst (λ (v : FlusherState g.row.D.Denot). IsFlush g.D.Disk.state v new c.rest.result) c.self.view_is
-    (idle g.D.Disk.state old new c.self.invariant (ap (λ (x : SettlerState g.row.D.Denot). x.desk) same) c.in-None.ensures (ap (λ (x : SettlerState g.row.D.Denot). x.seat) same) c.rest.result c.rest.ensures.commits c.rest.ensures.counts
-    (subst (λ n. CommitCalls g.D.Disk.state s.settler.writer n now.writer c.rest.result) (none_between s.end c.receive.new.self (tried s.end.tries true) c.in-None.ensures.tries) c.rest.ensures.calls))
+    let e = c.rest.ensures in
+    subst (λ (v : FlusherState g.row.D.Denot). IsFlush g.D.Disk.state v (flusher_of c.rest.new.self c.receive.new.self) c.rest.result) c.self.view_is
+    (idle g.D.Disk.state c.self.inside.settler c.rest.new.self c.self.inside.end c.receive.new.self c.self.invariant c.rest.result c.in-None.ensures e.same e.commits e.counts e.calls)
 
 pub returns-clause-turn : goal.returns-clause-turn
 returns-clause-turn g c =
-    let s = c.self.inside in
-    let batch = c.in-Some.batch in
-    let old : FlusherState g.row.D.Denot = record { desk = s.settler.desk; seat = s.settler.seat; writer = s.settler.writer; end = s.end } in
-    let now = c.settle.new.self in
-    let new : FlusherState g.row.D.Denot = record { desk = now.desk; seat = now.seat; writer = now.writer; end = c.receive.new.self } in
-    let made = c.settle.ensures.settles in
-    subst (λ (v : FlusherState g.row.D.Denot). IsFlush g.D.Disk.state v new c.settle.result) c.self.view_is
-    (flushed g.D.Disk.state old new c.self.invariant made.same batch c.settle.result c.in-Some.ensures made.commits (settled_turn g.D.Disk.state old new batch c.settle.result c.in-Some.ensures made)
-    (subst (λ n. CommitCalls g.D.Disk.state s.settler.writer n now.writer c.settle.result) (sym (one_between s.end c.receive.new.self batch c.in-Some.ensures.receives)) c.settle.ensures.calls))
+    let e = c.settle.ensures in
+    subst (λ (v : FlusherState g.row.D.Denot). IsFlush g.D.Disk.state v (flusher_of c.settle.new.self c.receive.new.self) c.settle.result) c.self.view_is
+    (flushed g.D.Disk.state c.self.inside.settler c.settle.new.self c.self.inside.end c.receive.new.self c.self.invariant c.settle.result c.in-Some.batch c.in-Some.ensures e.settles e.calls)
 
 pub invariant_of-self-2 : goal.invariant_of-self-2
 invariant_of-self-2 g c =
