@@ -35,10 +35,6 @@ at_end [] a b (suc j) n e = absurd (some-ne-none b (sym e))
 at_end (x ∷ xs) a b zero n e = absurd (n e)
 at_end (x ∷ xs) a b (suc j) n e = ap suc (at_end xs a b j n e)
 
--- the line hasn't begun
-pub begins : IsLineKept [] (opening_view ∷ [])
-begins = inl refl
-
 -- it is the pass of the line, which has pushed what is there
 alone_at : (items : List BatchState) (views : List EndView) (id : ℕ) (v : EndView) → views ≡ opening items ∷ [] → get_elem? views id ≡ some v → (id ≡ 0) × (v ≡ opening items)
 alone_at items views id v is at = here id (subst (λ l. get_elem? l id ≡ some v) is at)

@@ -13,12 +13,6 @@ pub heard_none : {V : Type 0} (hears : V → V → Type 0) (b : Bool) (v : V) �
 heard_none hears false v = refl
 heard_none hears true v = refl
 
--- nor where nothing has failed
-pub unheard : {V : Type 0} (hears : V → V → Type 0) (was is : Bool) (v : V) → is ≡ false → FailureHeard hears was is v v
-unheard hears true is v whole = refl
-unheard hears false false v whole = refl
-unheard hears false true v whole = absurd (cc)
-
 -- A writer that is broken stays so: the witness is notified once.
 pub heard_on : {V : Type 0} (hears : V → V → Type 0) (a b c : Bool) (u v w : V) → (a ≡ true → b ≡ true) → (b ≡ true → c ≡ true)
     → FailureHeard hears a b u v → FailureHeard hears b c v w → FailureHeard hears a c u w

@@ -1,11 +1,8 @@
 use Rattle.std.proofs.Common.{ap, refl}
 use Rattle.lift_relay.specs.declared.line.EndView.{EndView}
 use Rattle.lift_relay.specs.Rule.{opening_view}
-use Rattle.lift_relay.proofs.Moves.{begins, names, named, starts, begun, ends}
+use Rattle.lift_relay.proofs.Moves.{names, named, starts, begun, ends}
 use Rattle.lift_relay.proofs.line.new_line.Goals as goal
-
-pub passed_queue-requires-clause-rule : goal.passed_queue-requires-clause-rule
-passed_queue-requires-clause-rule c = begins
 
 pub passed_queue-requires-clause-pushes : goal.passed_queue-requires-clause-pushes
 passed_queue-requires-clause-pushes c = names _ _ opening_view _ refl

@@ -1,8 +1,6 @@
-use Rattle.std.proofs.Common.{rules, ◌≡◌, ℕ, Bool, true, false, List, [], refl, sym, ap, ◌∙◌, subst, ⊎_elim}
-use Rattle.lift_keeper.specs.Keeper.{KeeperView}
+use Rattle.std.proofs.Common.{rules, ◌≡◌, ℕ, List, [], refl, sym, ap, ◌∙◌, subst}
 use Rattle.lift_register.specs.Register.{RegisterState, register_of}
 use Rattle.lift_register.specs.lemmas.EntryLemmas.{register_of-nothing}
-use Rattle.lift_parts.specs.Flusher.{FlusherState}
 use Rattle.lift_relay.proofs.Allocated.{based}
 use Rattle.lift_desk.specs.Seats.{ClerkPlace, OwesNothing, ahead_from, with_looks_of}
 use Rattle.lift_desk.specs.lemmas.Places.{with_no_looks}
@@ -53,19 +51,3 @@ returns-in-Err-clause-refused g c =
     let split = c.split-ahead in
     let same : c.join-seat.result ≡ c.into_parts-seat.result.0 = unlooked split.result.0 split.result.1 c.into_parts-seat.result.0 c.join-seat.result c.join-seat.ensures.joined split.ensures.ahead split.ensures.clerk in
     search rules
-
-not_broken : {A : Type 0} (b : Bool) → b ≡ true → b ≡ false → A
-not_broken true is isnt = absurd (cc)
-not_broken false is isnt = absurd (cc)
-
-pub returns-clause-history : goal.returns-clause-history
-returns-clause-history g c = λ base safe given h.
-    let keeper = c.into_parts-seat.result.1 in
-    let same : keeper ≡ c.args.clerk.keeper = c.into_parts-seat.ensures.keeper in
-    let sealed : c.args.clerk.keeper.writer.is_broken ≡ false → keeper.state.batch ≡ [] = λ whole.
-    ⊎_elim (λ none. none) (λ is. not_broken keeper.writer.is_broken is (ap (λ (k : KeeperView g.row.D.Denot). k.writer.is_broken) same ∙ whole)) c.into_parts-seat.ensures.empty_batch in
-    let begun : c.new-flusher.result.end.state ≡ c.of.result =
-    ap (λ (f : FlusherState g.row.D.Denot). f.end.state) c.new-flusher.ensures.value ∙ ap (λ (r : ReceiveState). r.state) c.in-Ok.ensures.receiver_is ∙ ap (λ (b : BatchState). b.before) c.new-first.ensures in
-    c.parts_are_clerks.ensures.split c.args.clerk c.new-flusher.result base safe given (search rules) (search rules) (search rules)
-    (λ whole. begun ∙ c.of.ensures ∙ based keeper.state c.register.result.now c.positions.result.now c.register.ensures.value c.positions.ensures.positions (sealed whole) ∙ ap (λ (k : KeeperView g.row.D.Denot). k.state) same)
-    h
