@@ -1,5 +1,4 @@
 pub mod Moves
-pub mod Ends
 pub mod Queues
 pub mod Owing
 pub mod Noted
