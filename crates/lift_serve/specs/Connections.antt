@@ -71,9 +71,9 @@ EndsWithoutLine calls NoCalls before after = (part : List ℕ) × GivesPart part
 -- of it, and the seat was put back as the session left it.
 abbrev pub Attends : (cars kiosks : ℕ) → Outcome → (source source' : Source) → (sink sink' : Sink)
     → Type 0
-Attends cars kiosks (NoLine reason) source source' sink sink' =
+Attends cars kiosks (NoLine ticket reason) source source' sink sink' =
     EndsWithoutLine first_reads reason source source' × (sink' ≡ sink)
-Attends cars kiosks Bad source source' sink sink' = NamesNone cars kiosks source source'
+Attends cars kiosks (Bad ticket) source source' sink sink' = NamesNone cars kiosks source source'
     × IsSaid (codes "BAD" ++ 10 ∷ []) sink sink'
 Attends cars kiosks (Busy no_seat) source source' sink sink' =
     Names cars kiosks no_seat.terminal source source' × (no_seat.is_out ≡ true)

@@ -26,10 +26,10 @@ const FIRST_READS: u32 = 100_000_000;
 /// What came of a connection.
 #[derive(Drop)]
 pub enum Outcome<'d> {
-    /// No first line came.
-    NoLine(NoLine),
-    /// Its first line names no terminal of the building.
-    Bad,
+    /// No first line came, and nobody has used the ticket.
+    NoLine(Ticket, NoLine),
+    /// Its first line names no terminal of the building, and nobody has used the ticket.
+    Bad(Ticket),
     /// Another session has the seat of the terminal that it names: it was taken out of the lobby.
     Busy(NoSeat<'d>),
     /// The lobby's desk hasn't the terminal that it names.
@@ -64,7 +64,6 @@ impl<'d> Attendance<'d> {
 }
 
 /// The first line.
-#[tactic(auto, using(crate::proofs::FirstLines::without_line))]
 fn read_first<I: Read + Drop>(reader: &mut Counted<I>) -> Result<Line, NoLine>
     ensures line { IfOk result (λ found.
         (line : List ℕ) × Keeps65 line found.bytes.items found.is_longer
@@ -145,10 +144,10 @@ pub fn attend<'d, R: Wait + Clock, I: Read + Drop, O: Write + Drop>(
             }
             None => {
                 say(writer, b"BAD\n");
-                Outcome::Bad
+                Outcome::Bad(ticket)
             }
         },
-        Err(no_line) => Outcome::NoLine(no_line),
+        Err(no_line) => Outcome::NoLine(ticket, no_line),
     };
     Attendance { outcome }
 }

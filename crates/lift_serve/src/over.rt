@@ -5,9 +5,9 @@ ghost use Rattle.std.specs.Prelude.{IsSome, true, is_ok, ◌↔◌};
 ghost use Rattle.lift_relay.specs.declared.pair.RunFault.{RunFault as Fault};
 ghost use Rattle.lift_serve.specs.Open.{EndedState, IsEndAt};
 
-use crate::prepared::ServingTerms;
 use crate::prepared::connections::Connections;
 use crate::prepared::hall::Hall;
+use crate::prepared::terms::ServingTerms;
 use crate::relaying::Parts;
 use lift_disk::Disk;
 use lift_policy::Policy;

@@ -10,8 +10,9 @@ ghost use Rattle.lift_serve.specs.Ready.{IsFullLobby, IsNewGroup};
 pub(crate) mod connections;
 pub(crate) mod hall;
 pub(crate) mod seating;
+pub(crate) mod shortages;
+pub(crate) mod terms;
 
-use crate::over::Over;
 use crate::pace::{Pace, Pager};
 use crate::present::{PresentCars, ServedPolicy};
 use crate::relaying::Parts;
@@ -29,9 +30,8 @@ use lift_policy::{Dispatching, Policy};
 use lift_relay::{Allocator, Flusher, Witness, split_for};
 use seating::{Lobby, lobby_at, new_pagers};
 use std::alloc::Global;
-use std::marker::Model;
 use std::sync::Mutex;
-use std::sync::atomic::{AtomicBool, Ordering};
+use terms::ServingTerms;
 
 /// Where a group is served: a desk, where its sessions rest, and which cars are present. Whoever has a
 /// group prepared lends a place for one.
@@ -159,58 +159,11 @@ pub fn prepare<'d, 'b: 'd, D: Disk + Drop, P: Policy + Drop, K: Drop>(
             lobby,
             room,
             building,
-            bound: ServingTerms {
-                listening,
-                sessions,
-                is_over: AtomicBool::new(false),
-            },
+            bound: ServingTerms::new(listening, sessions),
         }),
         Err((clerk, memory)) => {
             let (_seat, keeper, _policy) = clerk.into_parts();
             Err((keeper, memory))
         }
-    }
-}
-
-/// What a serving is bound to: its socket, how many connections are to end there, and whether they
-/// are still read. Each serving has one, which nobody copies or makes another of. So whoever asks
-/// whether it is over, or counts an end, does so by that socket and that number.
-#[derive(Drop)]
-pub struct ServingTerms {
-    listening: Listening,
-    sessions: u32,
-    /// Nothing more is read.
-    is_over: AtomicBool,
-}
-
-impl Model for ServingTerms {
-    ghost use Rattle.lift_serve.specs.Open.{EndedState};
-
-    ghost Value = { EndedState };
-
-    ghost view = { λ b. record { listener = b.listening; sessions = b.sessions } };
-}
-
-impl ServingTerms {
-    /// Its socket.
-    pub(crate) fn listening(&self) -> &Listening {
-        &self.listening
-    }
-
-    /// How many connections are to end.
-    pub(crate) fn sessions(&self) -> u32
-        ensures { result ≡ self.now.sessions }
-    {
-        self.sessions
-    }
-
-    /// Whether connections are read no more.
-    pub(crate) fn is_over(&self) -> bool {
-        self.is_over.load(Ordering::SeqCst)
-    }
-
-    /// Nothing more is read.
-    pub(crate) fn end_reading(&self, _over: &Over) {
-        self.is_over.store(true, Ordering::SeqCst);
     }
 }

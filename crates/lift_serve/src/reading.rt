@@ -2,7 +2,7 @@
 
 ghost use Rattle.std.specs.Prelude.{◌≡◌};
 
-use crate::prepared::ServingTerms;
+use crate::prepared::terms::ServingTerms;
 use std::io;
 use std::io::{ErrorKind, Read};
 

@@ -10,9 +10,9 @@ ghost use Rattle.lift_serve.specs.Relaying.{HaveRunOrNot, HaveServed, ServingKee
 
 use crate::over::{Over, start_accepting};
 use crate::prepared::ReadyGroup;
-use crate::prepared::connections::shortages::start_session;
 use crate::prepared::connections::{CountedEnd, ServingEnd};
 use crate::prepared::hall::Hall;
+use crate::prepared::shortages::start_session;
 use crate::present::ServedPolicy;
 use crate::relaying::{Parts, unrun};
 use crate::socket::{Arrival, Connection};

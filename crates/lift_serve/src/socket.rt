@@ -8,10 +8,10 @@ ghost use Rattle.std.specs.declared.net.tcp.TcpListener.{TcpListener as Listener
 
 use crate::attending::Attendance;
 use crate::over::Over;
-use crate::prepared::ServingTerms;
 use crate::prepared::connections::Ticket;
-use crate::prepared::connections::shortages::{Shortage, read_ahead, share};
 use crate::prepared::hall::Hall;
+use crate::prepared::shortages::{Shortage, read_ahead, share};
+use crate::prepared::terms::ServingTerms;
 use crate::serving::ServeFault;
 use crate::speaking::speak;
 use lift_relay::BothRun;
@@ -275,6 +275,6 @@ fn speak_over<'d, R: Wait + Clock>(
 ) -> Result<Attendance<'d>, Shortage>
     ensures lack { IfErr result (λ shortage. shortage ≡ ServeFault.Memory) }
 {
-    let reader = read_ahead(alloc, PeerReader::new(rt, peer))?;
+    let (ticket, reader) = read_ahead(alloc, ticket, PeerReader::new(rt, peer))?;
     Ok(speak(rt, hall, ticket, reader, &peer.stream).0)
 }

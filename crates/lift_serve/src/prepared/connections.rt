@@ -7,14 +7,12 @@ ghost use Rattle.std.specs.Prelude.{not, ◌==◌, ◌≢◌, filter, true, fals
 ghost use Rattle.std.specs.Result.{result_err};
 ghost use Rattle.lift_serve.specs.Open.{AreOver, IsEndAt, ended_in, first_told, one_more, told_after};
 
-pub(crate) mod shortages;
-
-use super::ServingTerms;
+use super::shortages::{Shortage, push};
+use super::terms::ServingTerms;
 use crate::attending::Attendance;
 use crate::over::Over;
 use crate::serving::ServeFault;
 use crate::socket::{Arrival, Connection, Peer};
-use shortages::{Shortage, push};
 use std::alloc::Global;
 use std::marker::Model;
 use std::net::Shutdown;
@@ -265,7 +263,6 @@ impl Connections {
     }
 
     /// Keeps the first shortage in mind.
-    #[tactic(auto, using(crate::proofs::Relayings::none_behind))]
     fn note(&mut self, attended: Result<Attendance<'_>, Shortage>)
         ensures { self.new ≡ record self.old {
           shortage = first_told self.old.shortage (result_err attended.entry);
@@ -357,7 +354,6 @@ impl Connections {
 
     /// How the serving ended whose accepting was over so. Told is that all were given up, and else the
     /// first shortage.
-    #[tactic(auto, using(crate::proofs::Relayings::told_at_last, crate::proofs::Relayings::told_given_up))]
     pub(crate) fn into_end(self, over: Over) -> ServingEnd
         ensures fault { result.fault ≡ told_after over self.shortage }
         ensures ended { result.ended ≡ ended_in over }

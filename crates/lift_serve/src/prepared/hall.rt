@@ -4,9 +4,9 @@ ghost use Rattle.std.specs.Prelude.{◌≡◌, Option, IfErr, IfSome, IsErr};
 ghost use Rattle.lift_serve.specs.Open.{IsEndAt, ended_in, told_after};
 ghost use Rattle.lift_serve.specs.declared.serving.ServeFault.{ServeFault};
 
-use super::ServingTerms;
 use super::connections::{Connections, ServingEnd};
 use super::seating::Lobby;
+use super::terms::ServingTerms;
 use crate::over::Over;
 use crate::pace::Pace;
 use crate::present::PresentCars;

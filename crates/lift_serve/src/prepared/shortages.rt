@@ -5,7 +5,7 @@ ghost use Rattle.std.specs.Prelude.{IfErr, IfOk, vec_len, vec_capacity};
 ghost use Rattle.std.specs.Arc.{arc_value};
 ghost use Rattle.lift_serve.specs.declared.serving.ServeFault.{ServeFault};
 
-use super::{CountedEnd, DueEnd};
+use super::connections::{CountedEnd, DueEnd, Ticket};
 use crate::serving::ServeFault;
 use crate::socket::Peer;
 use lift_memory::two_owners;
@@ -60,12 +60,17 @@ pub(crate) fn share(alloc: Global, peer: Peer) -> Result<(Arc<Peer>, Arc<Peer>),
     }
 }
 
-/// A reader that reads 512 bytes at once.
-pub(crate) fn read_ahead<I: Read + Drop>(alloc: Global, reader: I) -> Result<BufReader<I>, Shortage>
+/// A reader that reads 512 bytes at once, for whoever was let in with this ticket. Where it is refused
+/// that is used up, so nobody asks for a seat.
+pub(crate) fn read_ahead<I: Read + Drop>(
+    alloc: Global,
+    ticket: Ticket,
+    reader: I,
+) -> Result<(Ticket, BufReader<I>), Shortage>
     ensures lack { IfErr result (λ shortage. shortage ≡ ServeFault.Memory) }
 {
     match BufReader::with_capacity(alloc, AHEAD, reader) {
-        Ok(ahead) => Ok(ahead),
+        Ok(ahead) => Ok((ticket, ahead)),
         Err(_) => Err(Shortage::of(ServeFault::Memory)),
     }
 }
