@@ -11,6 +11,7 @@ use lift_building::Building;
 use lift_kiosk::{Line, without_return, words_in};
 
 /// The kiosk of a building with so many that a word names.
+#[tactic(auto, using(std::proofs::lemmas::Fmt::decimal_injective))]
 fn kiosk_named(word: &str, kiosks: u8) -> Option<Terminal>
     requires { kiosks ≤ 47 }
     ensures some { IfSome result (λ terminal. IsKioskWord kiosks word.now terminal) }
@@ -37,6 +38,7 @@ fn car_named(word: &str, cars: u8) -> Option<Terminal>
 }
 
 /// The terminal that the words of a first line name.
+#[tactic(auto, using(crate::proofs::FirstLines::pair_of, crate::proofs::FirstLines::kiosk_none))]
 fn named_by(words: &[&str], cars: u8, kiosks: u8) -> Option<Terminal>
     requires cars { cars ≤ 16 }
     requires kiosks { kiosks ≤ 47 }

@@ -1,7 +1,6 @@
 -- A group begins where nothing was answered: over whatever register a journal holds.
-use Rattle.std.proofs.Common.{ℕ, [], refl, sym, subst, arith}
-use Rattle.std.specs.Prelude.{All}
-use Rattle.lift_base.specs.declared.history.Entry.{Entry}
+use Rattle.std.proofs.Common.{ℕ, [], refl, sym, subst}
+use Rattle.std.proofs.lemmas.List.Elements.{All-nil}
 use Rattle.lift_building.specs.Plan.{Plan, IsBuilding, shape_of}
 use Rattle.lift_disk.specs.Disk.{DiskState, Image}
 use Rattle.lift_register.specs.Register.{RegisterState, empty}
@@ -17,19 +16,15 @@ use Rattle.lift_clerk.specs.Keeping.{KeepsPrefix}
 use Rattle.lift_clerk.specs.lemmas.Based.{image_of_building}
 use Rattle.lift_serve.specs.Keeping.{ImagesKeep, MadeKeeps}
 
-none_has : (Q : Entry → Type 0) → All Q []
-none_has Q k d below = absurd (omega arith)
-
 pub images_keep : {D : Type 0} → ImagesKeep D
 images_keep {D} plan register image sound reads =
     let of : IsOfBuilding plan register = image_of_building plan register image sound reads in (
       [],
       ([], refl),
       record {
-        reads = subst (λ (r : RegisterState).
-            IsImageOf plan r image) (sym (over_nothing plan register of)) reads;
-        holds = none_has (IsHeld register []);
-        letters = none_has (StillNames register []);
+        reads = subst (λ (r : RegisterState). IsImageOf plan r image) (sym (over_nothing plan register of)) reads;
+        holds = All-nil (IsHeld register []);
+        letters = All-nil (StillNames register []);
         goes_on = λ clerk over.
             Began (subst (λ (p : Plan). IsBuilding p) (sym over.same_plan) sound)
             (subst (λ (p : Plan). IsOfBuilding p register) (sym over.same_plan) of) over.begins

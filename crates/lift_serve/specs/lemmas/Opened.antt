@@ -1,6 +1,5 @@
 -- What was safe and answered before a recovery is kept by it, and by the serving after it.
-use Rattle.std.proofs.Common.{◌≡◌, false, List, [], ◌++◌, refl, sym, ap}
-use Rattle.std.proofs.Common.{subst, ◌∙◌, append_assoc}
+use Rattle.std.proofs.Common.{◌≡◌, false, List, [], ◌++◌, refl, sym, ap, subst, ◌∙◌, append_assoc}
 use Rattle.std.proofs.lemmas.List.{append-nil}
 use mathlib.Core.List.{IsPrefix}
 use Rattle.lift_base.specs.declared.history.Entry.{Entry}
@@ -9,20 +8,15 @@ use Rattle.lift_disk.specs.Disk.{DiskState, Image, LeavesNow, LeavesOnly, MayLea
 use Rattle.lift_disk.specs.Holding.{HoldsTheSame}
 use Rattle.lift_disk.specs.lemmas.Moments.{changes_nothing, leaves_then, leaves_weaker}
 use Rattle.lift_disk.specs.lemmas.Starts.{leaves_from, same_leaves, starts_keep, starts_keep_now}
-use Rattle.lift_register.specs.Register.{RegisterState}
-use Rattle.lift_register.specs.Register.{register_of}
+use Rattle.lift_register.specs.Register.{RegisterState, register_of}
 use Rattle.lift_decider.specs.Decider.{starting}
-use Rattle.lift_journal.specs.lemmas.Chains.{all_same}
 use Rattle.lift_keeper.specs.Images.{IsImageOf}
 use Rattle.lift_keeper.specs.Keeper.{KeeperView}
 use Rattle.lift_keeper.specs.Reopening.{Reopens}
 use Rattle.lift_keeper.specs.Writer.{WriterView}
 use Rattle.lift_world.specs.declared.event.Taken.{Taken}
-use Rattle.lift_clerk.specs.Clerk.{ClerkState}
-use Rattle.lift_clerk.specs.Machine.{IsNewClerk}
 use Rattle.lift_clerk.specs.Steps.{group_of}
-use Rattle.lift_clerk.specs.History.{History}
-use Rattle.lift_clerk.specs.Keeping.{ImageKeeps, KeepsAll, KeepsEither, KeepsPrefix, LeavesSafe}
+use Rattle.lift_clerk.specs.Keeping.{KeepsAll, KeepsEither, KeepsPrefix, LeavesSafe}
 use Rattle.lift_clerk.specs.lemmas.Keeps.{either_front, keeps_first}
 use Rattle.lift_parts.specs.Allocator.{AllocatorState}
 use Rattle.lift_parts.specs.Flusher.{FlusherState}
@@ -57,24 +51,15 @@ handed_on {D} state held plan base first last f safe given h end later own hones
       honest = s.stands.honest.1 k.honest;
       cuts = (
         k.cuts,
-        λ after. starts_keep (state g.writer.device) (state h.writer.device) (held after)
-            (KeepsPrefix D plan base (mid ++ s.batch) now) k.honest
-            (leaves_weaker (state g.writer.device) (state h.writer.device)
-            (KeepsEither D g.writer.plan base mid s.batch now)
-            (KeepsPrefix D plan base (mid ++ s.batch) now)
+        λ after. starts_keep _ _ (held after) (KeepsPrefix D plan base (mid ++ s.batch) now) k.honest
+            (leaves_weaker _ _ _ (KeepsPrefix D plan base (mid ++ s.batch) now)
             (λ was left kept. either_front plan base mid s.batch now left
             (subst (λ (p : Plan). KeepsEither D p base mid s.batch now left) k.own kept)) s.stands),
       );
-      front = (
-        k.front.0 ++ told,
-        sym (append_assoc given k.front.0 told) ∙ ap (λ (l : List Taken). l ++ told) k.front.1,
-      );
-      always = λ before. leaves_then first (state g.writer.device) (state h.writer.device)
-          (KeepsAll D plan base given) (k.always before)
-          (leaves_weaker (state g.writer.device) (state h.writer.device)
-          (KeepsEither D g.writer.plan base mid s.batch now) (KeepsAll D plan base given)
-          (λ was left kept.
-          keeps_first plan g.writer.plan base mid s.batch given now left k.own k.front kept) s.stands);
+      front = (k.front.0 ++ told, sym (append_assoc given k.front.0 told) ∙ ap (λ (l : List Taken). l ++ told) k.front.1);
+      always = λ before. leaves_then first _ _ _ (k.always before)
+          (leaves_weaker _ _ _ (KeepsAll D plan base given)
+          (λ was left kept. keeps_first plan g.writer.plan base mid s.batch given now left k.own k.front kept) s.stands);
     }
 
 pub turns_hand_on : {D F : Type 0} (state : D → DiskState) (held : F → DiskState) → EachTurnHandsOn D F state held
@@ -96,15 +81,27 @@ module _ {D F : Type 0} (state : D → DiskState) (held : F → DiskState) (plan
   abbrev new : DiskState
   new = state keeper.writer.device
 
-  keeps : LeavesNow (state opened) (KeepsPrefix D plan base accepted given)
-  keeps = same_leaves first (state opened) (KeepsPrefix D plan base accepted given) was_honest
-      same_held all_keep
+  abbrev Keeps : Image → Type 0
+  Keeps = KeepsPrefix D plan base accepted given
 
-  recovery : LeavesOnly (state opened) new (KeepsPrefix D plan base accepted given)
-  recovery = leaves_weaker (state opened) new (MayLeave (state opened))
-      (KeepsPrefix D plan base accepted given) (λ was left may. keeps was left may) reopens.moments
+  abbrev All : Image → Type 0
+  All = KeepsAll D plan base given
 
-  found : KeepsPrefix D plan base accepted given new.image
+  keeps : LeavesNow (state opened) Keeps
+  keeps = same_leaves first (state opened) Keeps was_honest same_held all_keep
+
+  recovery : LeavesOnly first new Keeps
+  recovery = leaves_from first (state opened) new Keeps was_honest honest same_held
+      (leaves_weaker (state opened) new (MayLeave (state opened)) Keeps (λ was left may. keeps was left may) reopens.moments)
+
+  recovery_keeps : LeavesOnly first new All
+  recovery_keeps = leaves_weaker first new Keeps All (λ was left kept. (kept.0, given, ([], append-nil given), kept.2)) recovery
+
+  cut : StartsFind D held plan base accepted given first new
+  cut after = starts_keep first new (held after) Keeps was_honest recovery
+
+  -- it is what every crash leaves from then on
+  found : Keeps new.image
   found = keeps honest new.image (reopens.seen honest)
 
   abbrev safe : List Entry
@@ -113,100 +110,48 @@ module _ {D F : Type 0} (state : D → DiskState) (held : F → DiskState) (plan
   register : keeper.writer.register ≡ register_of base safe
   register = sym (reopens.only honest (register_of base safe) found.2.reads)
 
-  reads : IsImageOf plan keeper.writer.register new.image
-  reads = reopens.safe (reopens.moments.honest.1 honest) new.image
-      (changes_nothing new.is_loose new.image)
-
-  -- it is what every crash leaves from then on
-  now : LeavesNow new (KeepsPrefix D plan base (safe ++ keeper.writer.doubt) given)
-  now same left may = (
-    safe,
-    (keeper.writer.doubt, refl),
-    subst (λ (i : Image). ImageKeeps D plan base safe given i)
-        (sym (all_same new.is_loose new.image left (reopens.synced honest).none_loose may)) found.2,
-  )
-
-  -- whoever begins at a new desk goes on with it
-  goes_on : {P : Type 0} (clerk : ClerkState D P) → clerk.keeper ≡ keeper → IsNewClerk clerk
-      → History base (group_of clerk) safe given
-  goes_on clerk is begins = found.2.goes_on (group_of clerk) (record {
-    begins = record {
-      seat = begins.seat;
-      state = begins.state;
-      is_whole = begins.is_whole;
-      no_doubt = begins.no_doubt;
-    };
-    same_plan = subst (λ (k : KeeperView D). k.writer.plan ≡ plan) (sym is) own;
-    reads = subst (λ (k : KeeperView D). IsImageOf plan k.writer.register new.image) (sym is) reads;
-    only = λ other so.
-        subst (λ (k : KeeperView D). other ≡ k.writer.register) (sym is)
-        (reopens.only honest other so);
-  })
-
-  recovery_keeps : LeavesOnly (state opened) new (KeepsAll D plan base given)
-  recovery_keeps = leaves_weaker (state opened) new (KeepsPrefix D plan base accepted given)
-      (KeepsAll D plan base given) (λ was left kept. (kept.0, given, ([], append-nil given), kept.2))
-      recovery
-
   -- it was made ready, and served
   module _ {P : Type 0} (policy : P) (a : AllocatorState P) (f g : FlusherState D) (group : IsNewGroup state policy keeper a f) (serving : ServingKeeps state f g) where
-    begins : IsNewClerk group.clerk
-    begins = record {
-      seat = group.unused;
-      state = subst (λ (k : KeeperView D). k.state ≡ starting k.writer.register) (sym group.begins)
-          starts;
-      is_whole = subst (λ (k : KeeperView D). k.writer.is_broken ≡ false) (sym group.begins) whole;
-      no_doubt = subst (λ (k : KeeperView D). k.writer.doubt ≡ []) (sym group.begins) no_doubt;
-    }
-
+    -- whoever begins at a new desk goes on with it
     kept : HaveKept state base f g safe given
-    kept = serving base safe given
-        (group.goes_on base safe given (goes_on group.clerk group.begins begins))
+    kept = serving base safe given (group.goes_on base safe given (found.2.goes_on (group_of group.clerk) (record {
+      begins = record {
+        seat = group.unused;
+        state = subst (λ (k : KeeperView D). k.state ≡ starting k.writer.register) (sym group.begins) starts;
+        is_whole = subst (λ (k : KeeperView D). k.writer.is_broken ≡ false) (sym group.begins) whole;
+        no_doubt = subst (λ (k : KeeperView D). k.writer.doubt ≡ []) (sym group.begins) no_doubt;
+      };
+      same_plan = subst (λ (k : KeeperView D). k.writer.plan ≡ plan) (sym group.begins) own;
+      reads = subst (λ (k : KeeperView D). IsImageOf plan k.writer.register new.image) (sym group.begins)
+          (reopens.safe (reopens.moments.honest.1 honest) new.image (changes_nothing new.is_loose new.image));
+      only = λ other so. subst (λ (k : KeeperView D). other ≡ k.writer.register) (sym group.begins) (reopens.only honest other so);
+    })))
 
-    begun : f.writer ≡ keeper.writer
-    begun = group.parts.writer ∙ ap (λ (v : KeeperView D). v.writer) group.begins
+    begun : keeper.writer ≡ f.writer
+    begun = sym (group.parts.writer ∙ ap (λ (v : KeeperView D). v.writer) group.begins)
 
-    turned : Handed state held plan (state opened) kept.turns
-    turned = handed_on state held plan base (state opened) (state g.writer.device) f safe given g kept.now_safe kept.now_given
-        (ap (λ (v : WriterView D). v.plan) begun ∙ own)
-        (subst (λ (v : WriterView D). (state v.device).is_honest) (sym begun) (reopens.moments.honest.1 honest)) kept.turns
+    turned : Handed state held plan first kept.turns
+    turned = handed_on state held plan base first (state g.writer.device) f safe given g kept.now_safe kept.now_given
+        (subst (λ (v : WriterView D). v.plan ≡ plan) begun own)
+        (subst (λ (v : WriterView D). (state v.device).is_honest) begun (reopens.moments.honest.1 honest)) kept.turns
 
-    always : LeavesOnly (state opened) (state g.writer.device) (KeepsAll D plan base given)
-    always = turned.always (subst (λ (v : WriterView D). LeavesOnly (state opened) (state v.device)
-        (KeepsAll D plan base given)) (sym begun) recovery_keeps)
+    always : LeavesOnly first (state g.writer.device) All
+    always = turned.always (subst (λ (v : WriterView D). LeavesOnly first (state v.device) All) begun recovery_keeps)
 
-    leaves : LeavesSafe f.writer (state f.writer.device)
-    leaves = subst (λ (v : WriterView D). LeavesSafe v (state v.device)) (sym begun) group.leaves
-
-    ends : LeavesNow (state g.writer.device)
-        (KeepsPrefix D plan base (kept.now_safe ++ g.writer.doubt) kept.now_given)
-    ends same left may = either_front plan base kept.now_safe g.writer.doubt
-        kept.now_given left
-        (subst (λ (p : Plan). KeepsEither D p base kept.now_safe g.writer.doubt
-        kept.now_given left) turned.own (kept.kept leaves same left may))
-
-  abbrev Keeps : Image → Type 0
-  Keeps = KeepsPrefix D plan base accepted given
-
-  abbrev All : Image → Type 0
-  All = KeepsAll D plan base given
-
-  recovery_from : LeavesOnly first new Keeps
-  recovery_from = leaves_from first (state opened) new Keeps was_honest honest same_held recovery
-
-  cut : StartsFind D held plan base accepted given first new
-  cut after = starts_keep first new (held after) Keeps was_honest recovery_from
+    ends : LeavesNow (state g.writer.device) (KeepsPrefix D plan base (kept.now_safe ++ g.writer.doubt) kept.now_given)
+    ends same left may = either_front plan base kept.now_safe g.writer.doubt kept.now_given left
+        (subst (λ (p : Plan). KeepsEither D p base kept.now_safe g.writer.doubt kept.now_given left) turned.own
+        (kept.kept (subst (λ (v : WriterView D). LeavesSafe v (state v.device)) begun group.leaves) same left may))
 
   pub keeps_over : {P : Type 0} (policy : P) (a : AllocatorState P) (f g : FlusherState D) → IsNewGroup state policy keeper a f
       → ServingKeeps state f g → KeepsOver state held plan file f g base accepted given
   keeps_over policy a f g group serving =
       let k = kept policy a f g group serving in
-      let same : keeper.writer ≡ f.writer = sym (begun policy a f g group serving) in
-      let last = state g.writer.device in
-      let every = leaves_from first (state opened) last All was_honest honest same_held (always policy a f g group serving) in
+      let same = begun policy a f g group serving in
+      let every = always policy a f g group serving in
       let at_end = ends policy a f g group serving in
       record {
-        recovery = subst (λ (v : WriterView D). LeavesOnly first (state v.device) Keeps) same recovery_from;
+        recovery = subst (λ (v : WriterView D). LeavesOnly first (state v.device) Keeps) same recovery;
         safe = safe;
         is_front = found.1;
         register = subst (λ (v : WriterView D). v.register ≡ register_of base safe) same register;
@@ -215,6 +160,6 @@ module _ {D F : Type 0} (state : D → DiskState) (held : F → DiskState) (plan
         now = at_end;
         always = every;
         cut = subst (λ (v : WriterView D). StartsFind D held plan base accepted given first (state v.device)) same cut;
-        next = λ after. starts_keep_now last (held after)
+        next = λ after. starts_keep_now (state g.writer.device) (held after)
             (KeepsPrefix D plan base (k.now_safe ++ g.writer.doubt) k.now_given) (every.honest.1 was_honest) at_end;
       }

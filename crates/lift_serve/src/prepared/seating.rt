@@ -1,6 +1,6 @@
 //! The seats of a desk before their first sessions.
 
-ghost use Rattle.std.specs.Prelude.{◌≡◌, ◌≤◌, ◌++◌, ◌∷◌, [], All, Some, IfOk, length};
+ghost use Rattle.std.specs.Prelude.{◌≡◌, ◌≤◌, ◌++◌, ◌∷◌, [], Some, IfOk, length};
 ghost use Rattle.lift_desk.specs.Seats.{AreSeatsOf, IsSeatOf, seats_from};
 ghost use Rattle.lift_register.specs.Register.{last_of as last_in};
 ghost use Rattle.lift_serve.specs.Lobby.{AreInOrder, found_seats, found_at};
@@ -47,7 +47,7 @@ fn last_of(register: &Register, terminal: Terminal) -> LastLetter
 }
 
 /// A pager for each terminal that there can be.
-#[tactic(auto, using(crate::proofs::Places::none_in_order, crate::proofs::Places::one_pager_more))]
+#[tactic(auto, using(std::proofs::lemmas::Option::gets))]
 pub(super) fn new_pagers(alloc: Global) -> Result<Vec<Pager>, Memory>
     ensures count { IfOk result (λ pagers. length pagers.items ≡ 63) }
     ensures in_order { IfOk result (λ pagers. AreInOrder pagers.items) }
@@ -61,7 +61,7 @@ pub(super) fn new_pagers(alloc: Global) -> Result<Vec<Pager>, Memory>
 }
 
 /// A new seat's place, with what a register knows of its terminal.
-#[tactic(auto, using(crate::proofs::Places::own_pager))]
+#[tactic(auto, using(std::proofs::lemmas::Option::gets))]
 fn held_of<'d>(desk: &'d Desk, pagers: &'d [Pager], seat: Seat, register: &Register) -> HeldSeat<'d>
     requires pagers { 63 ≤ length pagers.now }
     requires in_order { AreInOrder pagers.now }
@@ -86,7 +86,7 @@ fn add<'d>(places: &mut ArrayVec<Option<HeldSeat<'d>>, MOST_TERMINALS>, held: He
 
 /// The lobby with all seats of a desk, each at its place, and what a register knows of their
 /// terminals.
-#[tactic(auto, using(crate::proofs::Places::none_placed))]
+#[tactic(auto, using(crate::proofs::Places::next_is_new, crate::proofs::Places::next_place))]
 pub(super) fn lobby_at<'d>(
     desk: &'d Desk,
     pagers: &'d [Pager],
@@ -95,7 +95,6 @@ pub(super) fn lobby_at<'d>(
 ) -> Lobby<'d>
     requires pagers { 63 ≤ length pagers.now }
     requires in_order { AreInOrder pagers.now }
-    requires new { All IsNewSeat seats.items }
     requires seats { AreSeatsOf desk.now seats.items }
     requires all { seats.items ≡ seats_from 0 desk.now }
     ensures desk { result.desk ≡ desk.now }

@@ -28,7 +28,6 @@ const LIMITS: Limits = Limits {
 };
 
 /// A session of a terminal, in its dialect.
-#[tactic(auto, using(crate::proofs::Sessions::kiosk_visit, crate::proofs::Sessions::car_visit))]
 fn session_of<I: Read + Drop, O: Write + Drop, P: Port>(
     terminal: Terminal,
     reader: &mut Counted<I>,

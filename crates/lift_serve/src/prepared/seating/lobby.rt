@@ -85,7 +85,7 @@ impl<'d> Lobby<'d> {
 
     /// What is at a terminal's place, which is vacant then; none where the desk hasn't the
     /// terminal.
-    #[tactic(auto, using(crate::proofs::Places::vacant_place))]
+    #[tactic(auto, using(std::proofs::lemmas::Option::gets))]
     fn vacate(&mut self, terminal: Terminal) -> Option<Option<HeldSeat<'d>>>
         ensures found { result ≡ slice_get self.old.places terminal }
         ensures vacant { IfSome result (λ _.
@@ -101,7 +101,7 @@ impl<'d> Lobby<'d> {
     /// The seat of a terminal, and its place, which is vacant then. It is refused only where the
     /// seat was taken out before, or where the desk hasn't the terminal. Each connection may ask
     /// once, by its ticket: so whoever is told that the seat is out didn't take it.
-    #[tactic(auto, using(crate::proofs::Places::is_at_its_place, crate::proofs::Places::nothing_taken))]
+    #[tactic(auto, using(std::proofs::lemmas::Option::gets, crate::proofs::Places::is_at_its_place, crate::proofs::Places::nothing_taken))]
     pub fn take(&mut self, ticket: Ticket, terminal: Terminal) -> Result<HeldSeat<'d>, NoSeat<'d>>
         ensures own { IfOk result (λ taken. taken.seat.terminal ≡ terminal) }
         ensures there { IfOk result (λ taken. slice_get self.old.places terminal ≡ Some (Some taken)) }
@@ -133,7 +133,7 @@ impl<'d> Lobby<'d> {
     }
 
     /// Its next session may have the seat that was taken out.
-    #[tactic(auto, using(crate::proofs::Places::own_place))]
+    #[tactic(auto, using(crate::proofs::Places::own_place, lift_desk::specs::lemmas::Places::refill_set))]
     pub fn put_back(&mut self, held: HeldSeat<'d>) -> SeatReturn<'d>
         ensures put { self.new ≡ record self.old {
           places = slice_set self.old.places
