@@ -10,8 +10,7 @@ use lift_disk::FileFault;
 use std::marker::Model;
 
 /// A device as a command has left it, or what opens one. Nobody calls it any more: all that can be done
-/// with it is to let it go. So what is said of it is said of the end. A building's file is one as soon as it
-/// was opened: it is read as a whole by `bytes_of`, and not beside that. Contracts see the device.
+/// with it is to let it go. So what is said of it is said of the end. Contracts see the device.
 #[derive(Drop)]
 pub struct Leftover<D> {
     device: D,

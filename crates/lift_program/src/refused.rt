@@ -16,11 +16,12 @@ use crate::end::End;
 use crate::fault::{Fault, Role};
 use crate::grammar::grammar;
 use crate::leftover::Leftover;
+use crate::leftover::text::OpenedText;
 use crate::opening::TextOpener;
 use crate::output::Outflow;
 use clap::ArgMatches;
 use clap::error::ErrorKind as WordsFault;
-use lift_base::text::{Counted, Watched};
+use lift_base::text::Watched;
 use lift_disk::FileFault;
 use lift_serve::{Memory, ServeFault, ServingEnd};
 use std::alloc::Global;
@@ -131,10 +132,7 @@ pub(crate) fn refused<F: Drop, O: Drop>(
 }
 
 /// The file of a building, of which nothing was read.
-pub(crate) fn text_in<B: TextOpener>(
-    opener: B,
-    path: &str,
-) -> Result<Leftover<Counted<B::Text>>, Fault>
+pub(crate) fn text_in<B: TextOpener>(opener: B, path: &str) -> Result<OpenedText<B::Text>, Fault>
     ensures opened { IfOk result (λ text. B.opens opener path.now (Ok text.reader)) }
     ensures uncalled { IfOk result IsUncalled }
     ensures refused { result ≡ Err (Fault.File OfBuilding) → IsTextRefused (B.opens opener path.now) }
@@ -144,7 +142,7 @@ pub(crate) fn text_in<B: TextOpener>(
         (IsRefusedBySystem OfBuilding (λ error. B.opens opener path.now (Err error))) }
 {
     match opener.open_text(path) {
-        Ok(text) => Ok(Leftover::new(Counted::new(text))),
+        Ok(text) => Ok(OpenedText::new(text)),
         Err(error) => Err(told(Role::Building, &error)),
     }
 }

@@ -3,7 +3,7 @@
 ghost use Rattle.std.specs.Prelude.{◌≡◌, ◌≤◌, ◌+◌, IfOk, IfErr, IfSome, OnOk};
 ghost use Rattle.std.specs.Prelude.{Err, false, vec_len};
 ghost use Rattle.lift_replay.specs.Reading.{TakesByEach, TakesUpTo};
-ghost use Rattle.lift_program.specs.Ends.{IsFileFault, IsUncalled};
+ghost use Rattle.lift_program.specs.Ends.{IsFileFault, IsUncalled, uncalled};
 ghost use Rattle.lift_program.specs.Stages.{GivesNoText, most_text};
 ghost use Rattle.lift_program.specs.declared.fault.Role.TheVariants.{Building as OfBuilding};
 
@@ -13,6 +13,33 @@ use crate::opening::TextOpener;
 use lift_base::text::Counted;
 use lift_replay::{InputFault, MOST_BYTES, MOST_CALLS, read_all};
 use std::alloc::Global;
+use std::marker::Model;
+
+/// A building's file that was opened. It can only be let go, or read as a whole by `bytes_of`, which takes
+/// it: so nothing is read beside that, and nothing else is read as one. Contracts see its reader.
+#[derive(Drop)]
+pub(crate) struct OpenedText<R: Drop> {
+    reader: Counted<R>,
+}
+
+impl<R: Drop> Model for OpenedText<R> {
+    ghost use Rattle.lift_base.specs.Input.{InputState};
+
+    ghost Value = { InputState R };
+
+    ghost view = { λ t. t.reader };
+}
+
+impl<R: Drop> OpenedText<R> {
+    /// Nothing of it was read.
+    pub(crate) fn new(reader: R) -> Self
+        ensures { result ≡ uncalled reader }
+    {
+        OpenedText {
+            reader: Counted::new(reader),
+        }
+    }
+}
 
 /// What a building's file comes to that couldn't be read.
 fn unread(fault: InputFault) -> Fault
@@ -30,7 +57,7 @@ fn unread(fault: InputFault) -> Fault
 /// and the file is refused then. Its reader comes back as it was left, which nobody reads any more.
 pub(crate) fn bytes_of<B: TextOpener>(
     alloc: Global,
-    text: Leftover<Counted<B::Text>>,
+    text: OpenedText<B::Text>,
 ) -> (Leftover<Counted<B::Text>>, Result<Vec<u8>, Fault>)
     requires uncalled { IsUncalled text }
     ensures whole { IfOk result.1 (λ bytes.
@@ -48,7 +75,7 @@ pub(crate) fn bytes_of<B: TextOpener>(
     ensures out_of_memory { result.1 ≡ Err (Fault.Memory tt) → result.0.failed ≡ false }
     ensures unfailed { OnOk result.1 (result.0.failed ≡ false) }
 {
-    let mut reader = text.device;
+    let mut reader = text.reader;
     match read_all(alloc, &mut reader, MOST_BYTES, MOST_CALLS) {
         Ok(bytes) => {
             if bytes.len() > MOST_BYTES {
