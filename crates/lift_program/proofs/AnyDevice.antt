@@ -1,5 +1,5 @@
 -- A history speaks of no device: it is one over devices of another type too.
-use Rattle.std.proofs.Common.{Bool, List, ap, inl, inr}
+use Rattle.std.proofs.Common.{Bool, List, ap, inl, inr, rules}
 use Rattle.lift_base.specs.declared.history.Entry.{Entry}
 use Rattle.lift_building.specs.Plan.{Plan}
 use Rattle.lift_disk.specs.Disk.{DiskState, Image}
@@ -81,15 +81,7 @@ module _ {D E : Type 0} (device : E) where
   })
 
   rests_over : (before after : GroupState D) → ClerkRests before after → ClerkRests (group_over device before) (group_over device after)
-  rests_over before after r = record {
-    desk = r.desk;
-    words = r.words;
-    state = r.state;
-    register = r.register;
-    doubt = r.doubt;
-    plan = r.plan;
-    broken = r.broken;
-  }
+  rests_over before after rests = search rules
 
   abbrev reopens_over : (before after : GroupState D) → ClerkReopens before after → ClerkReopens (group_over device before) (group_over device after)
   reopens_over before after r = record {

@@ -1,7 +1,6 @@
 -- What words come to.
-use Rattle.std.proofs.Common.{◌≡◌, ◌≢◌, ℕ, Bor, Option, List, sym, subst}
-use Rattle.std.specs.Prelude.{Result, Ok, Err, IfErr, IfOk, OnErr}
-use Rattle.std.specs.Io.KnownBytes.{Appends}
+use Rattle.std.proofs.Common.{ℕ, Option, List, sym, subst}
+use Rattle.std.specs.Prelude.{Result, Ok, Err}
 use Rattle.clap.specs.Words.{Text}
 use Rattle.lift_disk.specs.Disk.{Image, LeavesNow, MayLeave}
 use Rattle.lift_disk.specs.lemmas.Moments.{leaves_weaker}
@@ -14,12 +13,10 @@ use Rattle.lift_parts.specs.Allocator.{AllocatorState}
 use Rattle.lift_parts.specs.Flusher.{FlusherState}
 use Rattle.lift_serve.specs.Open.{EndedState}
 use Rattle.lift_serve.specs.lemmas.Opened.{keeps_over}
-use Rattle.lift_program.specs.Ends.{EndOver, IsEndFor, IsEndOf, IsMadeWith, IsOutputOf, IsReportOfFailure, IsUnmade, KeepsFor, KeepsIfServed, serving_text}
-use Rattle.lift_program.specs.Serving.{HasLeftLetters, IsReadyOver, IsServedOver}
-use Rattle.lift_program.specs.Showing.{IsShown, ShowsPart}
-use Rattle.lift_program.specs.Stages.{IsLeftAs, IsShowingFailure, fault_in}
+use Rattle.lift_program.specs.Ends.{EndOver, IsEndFor, IsEndOf, KeepsFor, KeepsIfServed}
+use Rattle.lift_program.specs.Serving.{HasLeftLetters, IsReadyOver, IsServedOver, IsServing}
+use Rattle.lift_program.specs.Stages.{IsLeftAs}
 use Rattle.lift_program.specs.declared.fault.Fault.{Fault}
-use Rattle.lift_program.specs.declared.fault.Fault.TheVariants.{Network}
 use Rattle.lift_program.specs.declared.leftover.Failure.{Failure}
 use Rattle.lift_program.specs.declared.leftover.Failure.TheVariants.{NoBuilding, NoImage, Opened}
 use Rattle.lift_program.specs.declared.serve.Serving.{Serving}
@@ -28,47 +25,23 @@ use Rattle.lift_program.specs.Images.{CommandFiles}
 use Rattle.lift_program.specs.declared.end.End.TheVariants.{Replayed, Formatted, Shown, Served, OtherWords, NoWords}
 use Rattle.lift_program.specs.declared.words.Request.{Request}
 
--- what came of a journal that was to be made,
-pub formatted_end : (files : CommandFiles) (before after : Option (List ℕ)) (image building : Bor Text) (half : ℕ) (outcome : Result files.image.Made (Failure files.image.Made files.image.File files.image.Opener))
-    → IfOk outcome (IsMadeWith files image.now building.now half) → IfErr outcome (IsUnmade files image.now building.now half) → IsEndFor files (Format image building half) before after (Formatted outcome)
-formatted_end files before after image building half (Ok left) made failure = made
-formatted_end files before after image building half (Err unmade) made failure = failure
-
--- and of one that was to be shown
-pub shown_end : (files : CommandFiles) (before after : Option (List ℕ)) (image building : Bor Text) (outcome : Result files.image.Shown (Failure files.image.Shown files.image.File files.image.Opener))
-    → IfOk outcome (λ disk. IsShown files image.now building.now disk before after) → IfErr outcome (IsShowingFailure files image.now building.now) → IfErr outcome (λ failure. fault_in failure ≢ Network)
-    → OnErr outcome (ShowsPart files image.now building.now before after) → IsEndFor files (Show image building) before after (Shown outcome)
-shown_end files before after image building (Ok left) shown failure portless front = shown
-shown_end files before after image building (Err unshown) shown failure portless front = (failure, portless, front)
-
 -- what was ready was served
-pub served_end : (files : CommandFiles) (before after : Option (List ℕ)) (image building : Bor Text) (port sessions : ℕ) (policy : Dispatching Shipped)
+pub served_end : (files : CommandFiles) (image building : List ℕ) (port sessions : ℕ) (policy : Dispatching Shipped)
     (a : AllocatorState (Dispatching Shipped)) (f : FlusherState files.image.Served) (terms : EndedState) (serving : Serving files.image.Served)
-    → IsReadyOver files image.now building.now port policy sessions a f terms → serving.port ≡ port → IsServedOver files.image.served_state a f terms serving
-    → IsEndFor files (Serve image building port sessions policy) before after (Served (Ok serving))
-served_end files before after image building port sessions policy a f terms serving ready at served = (
-  at,
-  record {
-    a = a;
-    f = f;
-    terms = terms;
-    ready = ready;
-    served = served;
-    keeps = λ honest base accepted given holds.
-        let from = ready.from in
-        let is = ready.is_kept in
-        let stays = files.image.stays image.now from.opened from.fresh honest in
-        keeps_over files.image.served_state files.image.held from.plan from.opened ready.keeper is.recovers is.starts is.whole is.no_doubt is.own (files.image.found image.now from.opened from.fresh) honest stays.0 stays.1 base accepted given holds
-        policy a f served.g ready.group served.keeps;
-  },
-)
-
--- and that it was is what was written
-pub served_output : (M S : Type 0) {V F O : Type 0} (is_flushed has_failed : Type 0) (input : Option (List ℕ)) (words : List Text) (outcome : Result (Serving V) (Failure V F O)) (before after : Option (List ℕ))
-    → IfOk outcome (λ serving. is_flushed × Appends before after (serving_text serving.port)) → IfErr outcome (λ failure. IsReportOfFailure has_failed failure before after)
-    → IsOutputOf {M = M} {S = S} is_flushed has_failed input words (Served outcome) before after
-served_output M S is_flushed has_failed input words (Ok serving) before after said report = said
-served_output M S is_flushed has_failed input words (Err failure) before after said report = report
+    → IsReadyOver files image building port policy sessions a f terms → IsServedOver files.image.served_state a f terms serving → IsServing files image building port policy sessions serving
+served_end files image building port sessions policy a f terms serving ready served = record {
+  a = a;
+  f = f;
+  terms = terms;
+  ready = ready;
+  served = served;
+  keeps = λ honest base accepted given holds.
+      let from = ready.from in
+      let is = ready.is_kept in
+      let stays = files.image.stays image from.opened from.fresh honest in
+      keeps_over files.image.served_state files.image.held from.plan from.opened ready.keeper is.recovers is.starts is.whole is.no_doubt is.own (files.image.found image from.opened from.fresh) honest stays.0 stays.1 base accepted given holds
+      policy a f served.g ready.group served.keeps;
+}
 
 -- a group that wasn't served has left its letters
 left_letters : (files : CommandFiles) (image building : List ℕ) (fault : Fault) (left : files.image.Served) → IsLeftAs files building (files.image.is_to_be_served image) files.image.served_state fault left → HasLeftLetters files image building fault left
@@ -103,11 +76,11 @@ kept_for : (files : CommandFiles) (before after : Option (List ℕ)) (request : 
 kept_for files before after Replay outcome never = absurd never
 kept_for files before after (Format image building half) outcome never = absurd never
 kept_for files before after (Show image building) outcome never = absurd never
-kept_for files before after (Serve image building port sessions policy) (Ok serving) is = is.1
+kept_for files before after (Serve image building port sessions policy) (Ok serving) is = is.0.1
 kept_for files before after (Serve image building port sessions policy) (Err (NoBuilding fault unused)) is = tt
 kept_for files before after (Serve image building port sessions policy) (Err (NoImage fault cause)) is = tt
 kept_for files before after (Serve image building port sessions policy) (Err (Opened fault left)) is =
-    left_letters files image.now building.now fault left is.0
+    left_letters files image.now building.now fault left is.1
 
 pub end_keeps : (files : CommandFiles) (words : List Text) (before after : Option (List ℕ)) (end : EndOver files) → IsEndOf files words before after end → KeepsIfServed files words end
 end_keeps files words before after (Replayed outcome unused) is = tt

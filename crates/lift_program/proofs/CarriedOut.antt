@@ -1,17 +1,14 @@
 -- What a script came to, of every reader and writer.
-use Rattle.std.proofs.Common.{◌≡◌, ℕ, Bool, true, false, List, [], Option, Some, sym, subst, ap, inl, inr, refl}
+use Rattle.std.proofs.Common.{◌≡◌, ℕ, Bool, true, false, List, [], Option, Some, sym, subst, ap, inl, inr}
 use Rattle.std.proofs.lemmas.List.{append-nil}
 use Rattle.std.proofs.KnownBytes.{Appends-kept}
 use Rattle.std.specs.Io.KnownBytes.{Appends, Keeps}
 use Rattle.std.specs.Prelude.{Err}
 use Rattle.lift_base.specs.Output.{OutputTally, flushed_by}
 use Rattle.lift_replay.specs.Replaying.{ReportsPrefixOfWhatCame, ReportsWhatCame}
-use Rattle.lift_replay.specs.Writing.{GoesInto, IsCalledTill, TakesSomeEachCall, gone_in}
+use Rattle.lift_replay.specs.Writing.{GoesInto, TakesSomeEachCall, gone_in}
 use Rattle.lift_replay.specs.declared.lines.Verdict.{Verdict}
-use Rattle.lift_replay.specs.declared.script.ReplayFault.{ReplayFault}
-use Rattle.lift_replay.specs.declared.script.ReplayFault.TheVariants.{Memory as NoMemory, Read, Write}
 use Rattle.lift_program.specs.Ends.{IsCalledFor, IsFileFault}
-use Rattle.lift_program.specs.Faults.{of_replay}
 use Rattle.lift_program.specs.declared.fault.Fault.{Fault}
 use Rattle.lift_program.specs.declared.fault.Role.TheVariants.{Output}
 
@@ -37,13 +34,7 @@ goes_on sent contents old mid new goes same keeps = (
   Appends-kept (contents old) (contents mid) (contents new) goes.0 goes.2 keeps,
 )
 
--- how the output of a script was called that was not carried out to its end
-pub called_till : {W : Type 0} (gives : W → List ℕ → Option ℕ → W → Type 0) (flushes : W → Bool → W → Type 0) (old new : W) (fault : ReplayFault) → IsCalledTill gives old new fault → IsCalledFor gives flushes old new (Err (of_replay fault))
-called_till gives flushes old new (NoMemory no_memory) called = (new, called, inl refl)
-called_till gives flushes old new Read called = called
-called_till gives flushes old new Write called = inl called
-
--- and of one whose report a flush did not pass on
+-- how the output of a script was called whose report a flush did not pass on
 pub called_unflushed : {W : Type 0} (gives : W → List ℕ → Option ℕ → W → Type 0) (flushes : W → Bool → W → Type 0) (old mid new : W) (fault : Fault) → TakesSomeEachCall gives old mid → flushes mid false new → IsFileFault Output fault
     → IsCalledFor gives flushes old new (Err fault)
 called_unflushed gives flushes old mid new fault taken failed (inl is) = subst (λ (f : Fault). IsCalledFor gives flushes old new (Err f)) (sym is) (inr (mid, taken, failed))

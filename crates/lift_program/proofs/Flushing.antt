@@ -1,5 +1,5 @@
 -- How the output was called.
-use Rattle.std.proofs.Common.{◌≡◌, ◌<◌, ◌∙◌, ℕ, Bool, true, false, List, Option, length, refl, subst, sym, inl, inr}
+use Rattle.std.proofs.Common.{◌≡◌, ◌<◌, ◌∙◌, ℕ, Bool, true, false, List, Option, length, subst, sym, inl, inr}
 use Rattle.std.proofs.lemmas.Bool.{false≢true}
 use Rattle.std.specs.Prelude.{Result, Ok, Err, IfErr, OnErr, OnOk, is_err}
 use Rattle.lift_base.specs.Output.{WroteAll, WroteUpToFault}
@@ -15,9 +15,9 @@ use Rattle.lift_program.specs.Stages.{IsBuildingFault, IsKeeperFailure, fault_in
 use Rattle.lift_program.specs.declared.leftover.Failure.{Failure}
 use Rattle.lift_program.specs.declared.leftover.Failure.TheVariants.{NoBuilding, NoImage, Opened}
 use Rattle.lift_program.specs.declared.fault.Fault.{Fault}
-use Rattle.lift_program.specs.declared.fault.Fault.TheVariants.{File, Memory, Network}
+use Rattle.lift_program.specs.declared.fault.Fault.TheVariants.{Network}
 use Rattle.lift_program.specs.declared.fault.Role.{Role}
-use Rattle.lift_program.specs.declared.fault.Role.TheVariants.{Building as OfBuilding, Image as OfImage}
+use Rattle.lift_program.specs.declared.fault.Role.TheVariants.{Image as OfImage}
 
 -- all of the bytes were written
 pub takes_put : {W : Type 0} (gives : W → List ℕ → Option ℕ → W → Type 0) (bytes : List ℕ) (old new : W) (result : Result Unit WriteFault)
@@ -49,10 +49,3 @@ keeper_failure_no_network is_fresh state is_refused plan (Opened fault left) is 
 pub on_err : {T E : Type 0} (result : Result T E) (P : Type 0) → P → OnErr result P
 on_err (Ok value) P p = tt
 on_err (Err error) P p = p
-
-pub err_same : {T E : Type 0} (told wanted : E) → ◌≡◌ {A = Result T E} (Err told) (Err wanted) → told ≡ wanted
-err_same {T} {E} told wanted same = subst (λ (r : Result T E). IfErr r (λ other. told ≡ other)) same refl
-
--- want of memory isn't the building's file
-pub memory_no_file : Memory tt ≡ File OfBuilding → ⊥
-memory_no_file same = cc

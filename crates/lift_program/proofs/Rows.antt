@@ -8,7 +8,7 @@ use Rattle.clap.specs.declared.parser.matches.Found.{Found}
 use Rattle.clap.proofs.WalkLemmas.{first_value-rows}
 use Rattle.lift_base.specs.lemmas.Words.{same_text, other_text}
 use Rattle.std.specs.Str.{bytes_eq}
-use Rattle.lift_program.specs.Words.{AsksNothing, IsAbsentLast, IsCount, IsFormat, IsHalf, IsOver, IsPolicy, IsServe, IsShow}
+use Rattle.lift_program.specs.Words.{AsksNothing, IsAbsentLast, IsCount, IsFormat, IsHalf, IsOver, IsServe, IsShow}
 use Rattle.lift_policy.specs.declared.dispatching.Dispatching.{Dispatching}
 use Rattle.lift_policy.specs.declared.policies.Shipped.{Shipped}
 use Rattle.lift_program.specs.declared.words.Request.TheVariants.{Replay, Format, Show, Serve}
@@ -29,41 +29,23 @@ pub no_building : (rows : List Row) → first_of (codes "building") rows ≡ Non
 no_building rows none image building is = let bad = sym is.1 ∙ none in cc
 
 -- the words after a command ask for nothing where they don't ask for what it does
-no_format : (rows : List Row) → ((image building : Bor Text) (half : ℕ) → IsFormat rows (Format image building half) → ⊥) → AsksNothing (IsFormat rows)
+pub no_format : (rows : List Row) → ((image building : Bor Text) (half : ℕ) → IsFormat rows (Format image building half) → ⊥) → AsksNothing (IsFormat rows)
 no_format rows none Replay is = is
 no_format rows none (Show image building) is = is
 no_format rows none (Serve image building port sessions policy) is = is
 no_format rows none (Format image building half) is = none image building half is
 
-no_serve : (rows : List Row) → ((image building : Bor Text) (port sessions : ℕ) (policy : Dispatching Shipped) → IsServe rows (Serve image building port sessions policy) → ⊥) → AsksNothing (IsServe rows)
+pub no_serve : (rows : List Row) → ((image building : Bor Text) (port sessions : ℕ) (policy : Dispatching Shipped) → IsServe rows (Serve image building port sessions policy) → ⊥) → AsksNothing (IsServe rows)
 no_serve rows none Replay is = is
 no_serve rows none (Format image building half) is = is
 no_serve rows none (Show image building) is = is
 no_serve rows none (Serve image building port sessions policy) is = none image building port sessions policy is
-
-pub no_files_to_format : (rows : List Row) → ((image building : Text) → IsOver rows image building → ⊥) → AsksNothing (IsFormat rows)
-no_files_to_format rows none = no_format rows (λ image building half is. none image.now building.now is.0)
-
-pub no_half : (rows : List Row) (word : Option Text) → first_of (codes "half") rows ≡ word → ((half : ℕ) → IsHalf word half → ⊥) → AsksNothing (IsFormat rows)
-no_half rows word same none = no_format rows (λ image building half is. none half (subst (λ w. IsHalf w half) same is.1))
 
 pub no_files_to_show : (rows : List Row) → ((image building : Text) → IsOver rows image building → ⊥) → AsksNothing (IsShow rows)
 no_files_to_show rows none Replay is = is
 no_files_to_show rows none (Format image building half) is = is
 no_files_to_show rows none (Serve image building port sessions policy) is = is
 no_files_to_show rows none (Show image building) is = none image.now building.now is
-
-pub no_files_to_serve : (rows : List Row) → ((image building : Text) → IsOver rows image building → ⊥) → AsksNothing (IsServe rows)
-no_files_to_serve rows none = no_serve rows (λ image building port sessions policy is. none image.now building.now is.0)
-
-pub no_port : (rows : List Row) (word : Option Text) → first_of (codes "port") rows ≡ word → ((count : ℕ) → IsCount 65535 word count → ⊥) → AsksNothing (IsServe rows)
-no_port rows word same none = no_serve rows (λ image building port sessions policy is. none port (subst (λ w. IsCount 65535 w port) same is.1))
-
-pub no_sessions : (rows : List Row) (word : Option Text) → first_of (codes "sessions") rows ≡ word → ((count : ℕ) → IsCount 1000000 word count → ⊥) → AsksNothing (IsServe rows)
-no_sessions rows word same none = no_serve rows (λ image building port sessions policy is. none sessions (subst (λ w. IsCount 1000000 w sessions) same is.2))
-
-pub no_policy : (rows : List Row) (word : Option Text) → first_of (codes "policy") rows ≡ word → ((policy : Shipped) → IsPolicy word policy → ⊥) → AsksNothing (IsServe rows)
-no_policy rows word same none = no_serve rows (λ image building port sessions policy is. none policy.policy (subst (λ w. IsPolicy w policy.policy) same is.3))
 
 -- a number below 64 spells no other one
 pub too_small : (word : Option Text) (text : Text) (number : ℕ) → word ≡ Some text → text ≡ decimal number → number < 64 → (half : ℕ) → IsHalf word half → ⊥
@@ -82,10 +64,7 @@ no_count most word text number small same spelled none count is = go (subst (λ 
 -- whether a word is `true`
 pub there_if : (word : Text) (there : Bool) → there ≡ bytes_eq word (codes "true") → IsAbsentLast (Some word) there
 there_if word true is = ap Some (same_text word (codes "true") (sym is))
-there_if word false is = λ same. other_text word (codes "true") (sym is) (some_injective word (codes "true") same)
-  where
-    some_injective : (x y : Text) → Some x ≡ Some y → x ≡ y
-    some_injective x y same = cc
+there_if word false is = λ same. other_text word (codes "true") (sym is) cc
 
 pub not_there : IsAbsentLast None false
 not_there = λ same. cc

@@ -1,5 +1,5 @@
 -- What the faults of each stage are to a whole command.
-use Rattle.std.proofs.Common.{◌≡◌, ◌≢◌, ◌<◌, ◌≤◌, ◌+◌, ◌*◌, ℕ, List, [], Option, Some, length, false, refl, sym, ap, subst, ◌∙◌, inl, inr}
+use Rattle.std.proofs.Common.{◌≡◌, ◌≢◌, ◌<◌, ◌≤◌, ◌+◌, ◌⊎◌, ◌*◌, ℕ, List, [], Option, Some, length, false, refl, sym, ap, subst, ◌∙◌, inl, inr}
 use Rattle.std.specs.Prelude.{Result, Ok, Err, IfErr}
 use Rattle.std.specs.Str.{IsUtf8}
 use Rattle.lift_building.specs.Describes.{IsTextOf}
@@ -7,7 +7,7 @@ use Rattle.lift_building.specs.Gives.{IsFirstFault}
 use Rattle.lift_building.specs.Plan.{Plan, IsBuilding, shape_of}
 use Rattle.lift_building.specs.declared.fault.BuildingFault.{BuildingFault}
 use Rattle.lift_building.specs.declared.fault.BuildingFault.TheVariants.{NotToml, Missing, WrongType, OutOfRange, TableShape, Detour, Memory as NoRoom}
-use Rattle.lift_disk.specs.Disk.{DiskState, IsSynced, LeavesOnly, MayLeave, RunsOn}
+use Rattle.lift_disk.specs.Disk.{DiskState, IsSynced, RunsOn}
 use Rattle.lift_journal.specs.Calls.{MakesPrefix, format_calls}
 use Rattle.lift_journal.specs.Journal.{ReadsAs}
 use Rattle.lift_keeper.specs.Writer.{WriterView}
@@ -19,9 +19,8 @@ use Rattle.lift_serve.specs.Open.{EndedState}
 use Rattle.lift_serve.specs.Ready.{IsNewGroup}
 use Rattle.lift_serve.specs.lemmas.Made.{made_keeps}
 use Rattle.lift_journal.specs.declared.fault.JournalFault.TheVariants.{Disk}
-use Rattle.lift_decider.specs.Decider.{starting}
 use Rattle.lift_keeper.specs.Keeper.{KeeperView}
-use Rattle.lift_keeper.specs.Reopening.{RefusesReopening, Reopens}
+use Rattle.lift_keeper.specs.Reopening.{RefusesReopening}
 use Rattle.lift_keeper.specs.declared.fault.KeeperFault.{KeeperFault}
 use Rattle.lift_keeper.specs.declared.fault.KeeperFault.TheVariants.{Journal as OfJournal}
 use Rattle.std.specs.declared.fs.options.OpenOptions.{OpenOptions}
@@ -34,12 +33,11 @@ use Rattle.lift_disk.specs.lemmas.Starts.{holds_then}
 use Rattle.lift_disk.specs.declared.file.FileFault.{FileFault}
 use Rattle.lift_disk.specs.declared.told.ToldFile.{Ghosts as Told}
 use Rattle.lift_disk.specs.declared.sectors.SectorFile.{SectorFile}
-use Rattle.lift_program.specs.Images.{CommandFiles, ImageFiles, IsOpened}
+use Rattle.lift_program.specs.Images.{CommandFiles, IsOpened}
 use Rattle.lift_program.specs.Ends.{IsFileFault, IsMadeWith, IsUnformatted, IsReportOfFailure}
 use Rattle.lift_program.specs.Faults.{of_building}
 use Rattle.std.specs.declared.net.tcp.TcpListener.{TcpListener as Listener}
 use Rattle.lift_program.specs.Serving.{IsReadyOver}
-use Rattle.lift_program.specs.Showing.{IsNotShown, ShowsRegister, ShowsPart}
 use Rattle.lift_program.specs.Stages.{HasBuilding, HasKeeperOf, HasNoImage, HasNoKeeperOf, HasRecovered, IsBuildingFault, IsImageFault, IsLeftAs, IsFailure, IsKeeperFailure, ReadsBuilding, GoesNoFurther, most_text}
 use Rattle.lift_program.specs.declared.leftover.Failure.{Failure}
 use Rattle.lift_program.specs.declared.leftover.Failure.TheVariants.{NoBuilding, NoImage, Opened}
@@ -69,12 +67,6 @@ building_no_file (NoRoom no_memory) same = cc
 
 pub has_building : (plan : Plan) (text : List ℕ) → length text ≤ most_text → IsTextOf text plan → HasBuilding (λ t. t ≡ text) plan
 has_building plan text short described = record { text = text; read = refl; short = short; described = described }
-
-pub has_keeper : (files : ImageFiles) (path : List ℕ) (plan : Plan) (opened : files.Served) (keeper told : KeeperView files.Served) → told ≡ keeper → files.is_to_be_served path opened
-    → Reopens plan (files.served_state opened) (files.served_state keeper.writer.device) keeper.writer.register keeper.writer.half keeper.writer.is_in_second_half keeper.writer.used
-    → keeper.state ≡ starting keeper.writer.register → keeper.writer.is_broken ≡ false → keeper.writer.doubt ≡ [] → keeper.writer.plan ≡ plan → HasKeeperOf files path plan told
-has_keeper files path plan opened keeper told same fresh recovers starts whole no_doubt own =
-    subst (λ (k : KeeperView files.Served). HasKeeperOf files path plan k) (sym same) (record { opened = opened; fresh = fresh; is_kept = record { recovers = recovers; starts = starts; whole = whole; no_doubt = no_doubt; own = own } })
 
 pub has_no_keeper : {D : Type 0} (is_fresh : D → Type 0) (state : D → DiskState) (plan : Plan) (opened left told : D) (refusal : KeeperFault) → told ≡ left → is_fresh opened
     → RefusesReopening plan (state opened) (state left) refusal → HasNoKeeperOf D is_fresh state plan (Journal refusal) told
@@ -140,13 +132,9 @@ pub report_of : {D : Type 0} (has_failed : Type 0) (fault known : Fault) (left :
     → IsReportOfFailure {D = D} {F = Unit {0}} {O = Unit {0}} has_failed (Opened fault left) before after
 report_of {D} has_failed fault known left before after is so = subst (λ (f : Fault). IsReportOfFailure {D = D} {F = Unit {0}} {O = Unit {0}} has_failed (Opened f left) before after) (sym is) so
 
--- the register that is shown is the recovery's
-recovered_in : {plan : Plan} {old new : DiskState} {is_written : List ℕ → Type 0} → ShowsRegister plan old new is_written → HasRecovered plan old new
-recovered_in shows = let r = shows.recovers in (shows.register, r.half, r.is_in_second_half, r.used, r.reopens)
-
 -- all that a serving takes was had
 pub is_ready : (files : CommandFiles) (image building : List ℕ) (plan standing : Plan) (keeper : KeeperView files.image.Served) (listener : Listener) (port : ℕ) (policy : Dispatching Shipped) (sessions : ℕ) (a : AllocatorState (Dispatching Shipped)) (f : FlusherState files.image.Served) (terms : EndedState)
-    → standing ≡ plan → HasBuilding (files.is_text building) plan → HasKeeperOf files.image image standing keeper → files.gives port (Some listener) → terms ≡ record { listener = listener; sessions = sessions }
+    → standing ≡ plan → HasBuilding (files.is_text building) plan → HasKeeperOf (files.image.is_to_be_served image) files.image.served_state standing keeper → files.gives port (Some listener) → terms ≡ record { listener = listener; sessions = sessions }
     → IsNewGroup files.image.served_state policy keeper a f → IsReadyOver files image building port policy sessions a f terms
 is_ready files image building plan standing keeper listener port policy sessions a f terms stands has kept here bound group = record {
   from = record { plan = standing; described = subst (HasBuilding (files.is_text building)) (sym stands) has; opened = kept.opened; fresh = kept.fresh };
@@ -182,11 +170,11 @@ keeper_failure files building is_fresh state is_refused plan (Opened fault left)
 }
 
 -- after the recovery a command has failed for a known fault
-pub kept_left : (files : CommandFiles) (building path : List ℕ) (plan : Plan) (keeper : KeeperView files.image.Served) (left : files.image.Served) (fault known : Fault) → HasBuilding (files.is_text building) plan → HasKeeperOf files.image path plan keeper → left ≡ keeper.writer.device
-    → fault ≡ known → ((old new : DiskState) → HasRecovered plan old new → GoesNoFurther plan old new known) → IsLeftAs files building (files.image.is_to_be_served path) files.image.served_state fault left
-kept_left files building path plan keeper left fault known has opened is same stops =
+pub kept_left : {D : Type 0} (files : CommandFiles) (building : List ℕ) (is_fresh : D → Type 0) (state : D → DiskState) (plan : Plan) (keeper : KeeperView D) (left : D) (fault known : Fault) → HasBuilding (files.is_text building) plan → HasKeeperOf is_fresh state plan keeper → left ≡ keeper.writer.device
+    → fault ≡ known → ((old new : DiskState) → HasRecovered plan old new → GoesNoFurther plan old new known) → IsLeftAs files building is_fresh state fault left
+kept_left {D} files building is_fresh state plan keeper left fault known has opened is same stops =
     let recovers = opened.is_kept.recovers in
-    subst (λ (d : files.image.Served). IsLeftAs files building (files.image.is_to_be_served path) files.image.served_state fault d) (sym is) (record {
+    subst (λ (d : D). IsLeftAs files building is_fresh state fault d) (sym is) (record {
       from = record { plan = plan; described = has; opened = opened.opened; fresh = opened.fresh };
       cause = subst (GoesNoFurther plan _ _) (sym same) (stops _ _ (keeper.writer.register, keeper.writer.half, keeper.writer.is_in_second_half, keeper.writer.used, recovers));
       moments = recovers.moments;
@@ -194,46 +182,10 @@ kept_left files building path plan keeper left fault known has opened is same st
     })
 
 -- for the standard output, or want of memory
-pub output_left : (files : CommandFiles) (building path : List ℕ) (plan : Plan) (keeper : KeeperView files.image.Served) (left : files.image.Served) (fault : Fault) → HasBuilding (files.is_text building) plan → HasKeeperOf files.image path plan keeper → left ≡ keeper.writer.device
-    → IsFileFault Output fault → IsLeftAs files building (files.image.is_to_be_served path) files.image.served_state fault left
-output_left files building path plan keeper left fault has opened is (inl output) = kept_left files building path plan keeper left fault (File Output) has opened is output (λ old new recovered. recovered)
-output_left files building path plan keeper left fault has opened is (inr memory) = kept_left files building path plan keeper left fault (Memory tt) has opened is memory (λ old new recovered. recovered)
-
--- how the showing of a journal that failed has left its image, and what it has written
-module _ {D : Type 0} (state : D → DiskState) (plan : Plan) (opened left : D) (has_failed : Type 0) (before after : Option (List ℕ)) where
-  unshown_goes : (fault : Fault) → IsNotShown plan (state opened) (state left) has_failed before after fault → GoesNoFurther plan (state opened) (state left) fault
-  unshown_goes fault (inl (refusal, is, refused, same)) = subst (GoesNoFurther plan (state opened) (state left)) (sym is) refused
-  unshown_goes fault (inr (shows, inl (is, failed))) = subst (GoesNoFurther plan (state opened) (state left)) (sym is) (recovered_in shows)
-  unshown_goes fault (inr (shows, inr (is, so))) = subst (GoesNoFurther plan (state opened) (state left)) (sym is) (recovered_in shows)
-
-  unshown_moments : (fault : Fault) → IsNotShown plan (state opened) (state left) has_failed before after fault → LeavesOnly (state opened) (state left) (MayLeave (state opened)) × ((state left).writes ≡ (state opened).writes)
-  unshown_moments fault (inl (refusal, is, refused, same)) = (refused.moments, refused.writes)
-  unshown_moments fault (inr (shows, cause)) = (shows.recovers.reopens.moments, shows.recovers.reopens.writes)
-
-  pub unshown_left : (files : CommandFiles) (building : List ℕ) (is_fresh : D → Type 0) (told : D) (fault : Fault) → told ≡ left → HasBuilding (files.is_text building) plan → is_fresh opened
-      → IsNotShown plan (state opened) (state left) has_failed before after fault → IsLeftAs files building is_fresh state fault told
-  unshown_left files building is_fresh told fault same has fresh is = subst (λ (d : D). IsLeftAs files building is_fresh state fault d) (sym same) (record {
-    from = record { plan = plan; described = has; opened = opened; fresh = fresh };
-    cause = unshown_goes fault is;
-    moments = (unshown_moments fault is).0;
-    unwritten = (unshown_moments fault is).1;
-  })
-
-  pub unshown_report : (fault : Fault) (told : D) → IsNotShown plan (state opened) (state left) has_failed before after fault → IsReportOfFailure {D = D} {F = Unit {0}} {O = Unit {0}} has_failed (Opened fault told) before after
-  unshown_report fault told (inl (refusal, is, refused, same)) = report_of has_failed fault (Journal refusal) told before after is same
-  unshown_report fault told (inr (shows, inl (is, failed))) = report_of has_failed fault (File Output) told before after is failed
-  unshown_report fault told (inr (shows, inr (is, so))) = report_of has_failed fault (Memory tt) told before after is so
-
-  pub unshown_no_network : (fault : Fault) → IsNotShown plan (state opened) (state left) has_failed before after fault → fault ≢ Network
-  unshown_no_network fault (inl (refusal, is, refused, unwritten)) same = absurd (let other = sym is ∙ same in cc)
-  unshown_no_network fault (inr (shows, inl (is, failed))) same = absurd (let other = sym is ∙ same in cc)
-  unshown_no_network fault (inr (shows, inr (is, so))) same = absurd (let other = sym is ∙ same in cc)
-
-pub unshown_part : (files : CommandFiles) (path building : List ℕ) (plan : Plan) (opened left : files.image.Shown) (has_failed : Type 0) (before after : Option (List ℕ)) (fault : Fault) → HasBuilding (files.is_text building) plan
-    → files.image.is_to_be_shown path opened → IsNotShown plan (files.image.shown_state opened) (files.image.shown_state left) has_failed before after fault → ShowsPart files path building before after
-unshown_part files path building plan opened left has_failed before after fault described fresh (inl (refusal, is, refused, same)) = inl same
-unshown_part files path building plan opened left has_failed before after fault described fresh (inr (shows, cause)) =
-    inr (record { from = record { plan = plan; described = described; opened = opened; fresh = fresh }; left = left; front = shows })
+pub output_left : {D : Type 0} (files : CommandFiles) (building : List ℕ) (is_fresh : D → Type 0) (state : D → DiskState) (plan : Plan) (keeper : KeeperView D) (left : D) (fault : Fault) → HasBuilding (files.is_text building) plan → HasKeeperOf is_fresh state plan keeper → left ≡ keeper.writer.device
+    → IsFileFault Output fault → IsLeftAs files building is_fresh state fault left
+output_left files building is_fresh state plan keeper left fault has opened is (inl output) = kept_left files building is_fresh state plan keeper left fault (File Output) has opened is output (λ old new recovered. recovered)
+output_left files building is_fresh state plan keeper left fault has opened is (inr memory) = kept_left files building is_fresh state plan keeper left fault (Memory tt) has opened is memory (λ old new recovered. recovered)
 
 -- what the opening of a keeper has failed for: nothing was written, and it is neither the output nor the port
 pub keeper_report : {D F O : Type 0} (is_fresh : D → Type 0) (state : D → DiskState) (is_refused : FileFault F O → Type 0) (plan : Plan) (has_failed : Type 0) (failure : Failure D F O) (written : Option (List ℕ))
@@ -242,10 +194,11 @@ keeper_report is_fresh state is_refused plan has_failed (NoBuilding fault unused
 keeper_report is_fresh state is_refused plan has_failed (NoImage fault cause) written is = refl
 keeper_report is_fresh state is_refused plan has_failed (Opened fault left) written is = report_of has_failed fault (Journal is.refusal) left written written is.is_refusal refl
 
--- what was said failed
-pub said_report : {D : Type 0} (has_failed : Type 0) (fault : Fault) (left : D) (before after : Option (List ℕ)) → has_failed → IsFileFault Output fault → IsReportOfFailure {D = D} {F = Unit {0}} {O = Unit {0}} has_failed (Opened fault left) before after
-said_report has_failed fault left before after failed (inl is) = report_of has_failed fault (File Output) left before after is failed
-said_report has_failed fault left before after failed (inr is) = report_of has_failed fault (Memory tt) left before after is (inr failed)
+-- what was written failed, or memory was wanting
+pub output_report : {D : Type 0} (has_failed : Type 0) (fault : Fault) (left : D) (before after : Option (List ℕ)) → (fault ≡ File Output → has_failed) → (after ≡ before) ⊎ has_failed → IsFileFault Output fault
+    → IsReportOfFailure {D = D} {F = Unit {0}} {O = Unit {0}} has_failed (Opened fault left) before after
+output_report has_failed fault left before after failed unwritten (inl is) = report_of has_failed fault (File Output) left before after is (failed is)
+output_report has_failed fault left before after failed unwritten (inr is) = report_of has_failed fault (Memory tt) left before after is unwritten
 
 -- a file whose writes are refused holds what it would else
 pub unwritten_holds : {F : Type 0} {told : Told F} (holds : F → DiskState) (d : UnwrittenFile F told) → HoldsTheSame (sector_file_state_of holds (unwritten_file_of d)) (unwritten_state_of holds d)

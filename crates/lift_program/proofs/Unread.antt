@@ -1,5 +1,5 @@
 -- What a reader that fails has given.
-use Rattle.std.proofs.Common.{◌≡◌, ◌∙◌, ◌+◌, ◌≤◌, ℕ, zero, suc, List, length, length-append, ap, false, ◌⊎◌, inl, inr, arith, subst, sym}
+use Rattle.std.proofs.Common.{◌≡◌, ◌+◌, ◌≤◌, ℕ, zero, suc, List, length, length-append, ap, false, ◌⊎◌, inl, inr, arith}
 use Rattle.std.specs.Prelude.{Option, Some, None}
 use Rattle.lift_base.specs.Input.{InputState}
 use Rattle.lift_replay.specs.Reading.{GiveEach, ReaderFails, TakesByEach}
@@ -43,17 +43,3 @@ pub fails : {R : Type 0} (remaining : R → Option (List ℕ)) (gives reads : R 
 fails remaining gives reads tells old new each fresh (inl (last, buffer, (calls, took), failed)) =
     inl (last, buffer, (calls, told_too gives reads tells calls old.reader last took), tells last buffer None new.reader failed)
 fails remaining gives reads tells old new each fresh (inr (all, unended)) = absurd (calls_suffice remaining old new each fresh all)
-
--- so it is where the reader is left
-pub fails_left : {R : Type 0} (remaining : R → Option (List ℕ)) (gives reads : R → List ℕ → Option ℕ → R → Type 0) → ((old : R) (buffer : List ℕ) (answer : Option ℕ) (new : R) → gives old buffer answer new → reads old buffer answer new)
-    → (inside old new left : InputState R) → inside ≡ old → left ≡ new → TakesByEach most_text remaining inside new → old.calls ≡ 0
-    → ReaderFails gives inside.reader new.reader ⊎ ((new.calls ≡ 2097152) × (new.ended ≡ false)) → GivesNoText remaining reads old.reader left.reader
-fails_left {R} remaining gives reads tells inside old new left at same each fresh failed =
-    subst (λ (s : InputState R). GivesNoText remaining reads s.reader left.reader) at
-    (subst (λ (s : InputState R). GivesNoText remaining reads inside.reader s.reader) (sym same)
-    (fails remaining gives reads tells inside new each (ap (λ (s : InputState R). s.calls) at ∙ fresh) failed))
-
--- and how it was called
-pub each_left : {R : Type 0} (remaining : R → Option (List ℕ)) (inside old new left : InputState R) → inside ≡ old → left ≡ new → TakesByEach most_text remaining inside new → TakesByEach most_text remaining old left
-each_left {R} remaining inside old new left at same each =
-    subst (λ (s : InputState R). TakesByEach most_text remaining s left) at (subst (λ (s : InputState R). TakesByEach most_text remaining inside s) (sym same) each)

@@ -1,6 +1,6 @@
 -- How the program ends, and what it says of it.
 use Rattle.std.specs.Prelude.{ℕ, ◌≡◌, ◌≢◌, ◌⊎◌, ◌<◌, ◌+◌, ◌*◌, List, [], ◌∷◌, ◌++◌, Option, Some, None}
-use Rattle.std.specs.Prelude.{◌≤◌, Result, Ok, Err, IfErr, Bool, true, false, codes}
+use Rattle.std.specs.Prelude.{◌≤◌, Result, Ok, Err, IfOk, IfErr, OnOk, OnErr, Bool, true, false, cond, codes}
 use Rattle.std.specs.Fmt.{decimal}
 use Rattle.std.specs.Io.KnownBytes.{Appends}
 use Rattle.std.specs.declared.net.tcp.TcpListener.{TcpListener as Listener}
@@ -74,25 +74,22 @@ abbrev pub line_of : {M S V F O : Type 0} → End M S V F O → Option (List ℕ
 line_of (OtherWords unused) = Some (usage_text ++ 10 ∷ [])
 line_of end = line_for (reported end)
 
--- that a device failed is reported at once, while the building is served
-abbrev pub line_at_once_in : Option Fault → Option (List ℕ)
-line_at_once_in (Some (Journal fault)) = line_for (Some (Journal fault))
-line_at_once_in _ = None
+-- whether what a serving has failed for was reported at once: that its device failed
+abbrev pub is_told_at_once : Option Fault → Bool
+is_told_at_once (Some (Journal fault)) = true
+is_told_at_once _ = false
 
--- and what else a serving has failed for at its end
-abbrev pub line_at_end_in : Option Fault → Option (List ℕ)
-line_at_end_in (Some (Journal fault)) = None
-line_at_end_in fault = line_for fault
+-- whether the line was written before the end, while the building was served
+abbrev pub was_told : {M S V F O : Type 0} → End M S V F O → Bool
+was_told (Served (Ok serving)) = is_told_at_once serving.fault
+was_told end = false
 
--- the line that is written before the end, none but of a device that failed while it was served
+-- the line that is written before the end, and the one at it: none where it was written before
 abbrev pub line_at_once : {M S V F O : Type 0} → End M S V F O → Option (List ℕ)
-line_at_once (Served (Ok serving)) = line_at_once_in serving.fault
-line_at_once end = None
+line_at_once end = cond (was_told end) (line_of end) None
 
--- the line that is written at the end, none where it was written before
 abbrev pub line_at_end : {M S V F O : Type 0} → End M S V F O → Option (List ℕ)
-line_at_end (Served (Ok serving)) = line_at_end_in serving.fault
-line_at_end end = line_of end
+line_at_end end = cond (was_told end) None (line_of end)
 
 -- This line was written, if there is one, or a prefix of it and then the writer failed; and nothing
 -- else.
@@ -255,22 +252,20 @@ abbrev pub IsEndFor : (files : CommandFiles) → Request
     → (before after : Option (List ℕ)) → EndOver files → Type 0
 IsEndFor files Replay before after (Replayed outcome unused) =
     IfErr outcome IsReplayFault × (unused ≡ files.image.opener)
-IsEndFor files (Format image building half) before after (Formatted (Ok left)) =
-    IsMadeWith files image.now building.now half left
-IsEndFor files (Format image building half) before after (Formatted (Err failure)) =
-    IsUnmade files image.now building.now half failure
-IsEndFor files (Show image building) before after (Shown (Ok left)) =
-    IsShown files image.now building.now left before after
-IsEndFor files (Show image building) before after (Shown (Err failure)) =
-    IsShowingFailure files image.now building.now failure × (fault_in failure ≢ Network)
-    × ShowsPart files image.now building.now before after
-IsEndFor files (Serve image building port sessions policy) before after (Served (Ok serving)) =
-    (serving.port ≡ port)
-    × IsServing files image.now building.now port policy sessions serving
-IsEndFor files (Serve image building port sessions policy) before after (Served (Err failure)) =
-    IsServingFailure files image.now building.now failure
-    × (fault_in failure ≡ Network → files.gives port None)
-    × MaySay (files.gives port) port before after
+IsEndFor files (Format image building half) before after (Formatted outcome) =
+    IfOk outcome (IsMadeWith files image.now building.now half)
+    × IfErr outcome (IsUnmade files image.now building.now half)
+IsEndFor files (Show image building) before after (Shown outcome) =
+    IfOk outcome (λ left. IsShown files image.now building.now left before after)
+    × IfErr outcome (IsShowingFailure files image.now building.now)
+    × IfErr outcome (λ failure. fault_in failure ≢ Network)
+    × OnErr outcome (ShowsPart files image.now building.now before after)
+IsEndFor files (Serve image building port sessions policy) before after (Served outcome) =
+    IfOk outcome (λ serving. (serving.port ≡ port)
+    × IsServing files image.now building.now port policy sessions serving)
+    × IfErr outcome (IsServingFailure files image.now building.now)
+    × IfErr outcome (λ failure. fault_in failure ≡ Network → files.gives port None)
+    × OnErr outcome (MaySay (files.gives port) port before after)
 IsEndFor files request before after end = ⊥
 
 -- What these words come to: an end of what they ask for; want of memory for them; or, where they ask
@@ -326,13 +321,11 @@ abbrev pub IsOutputOf : {M S V F O : Type 0} → (is_flushed has_failed : Type 0
     → Type 0
 IsOutputOf is_flushed has_failed input words (Replayed outcome unused) before after =
     ReportsAll input before after outcome
-IsOutputOf is_flushed has_failed input words (Shown (Ok left)) before after = is_flushed
-IsOutputOf is_flushed has_failed input words (Shown (Err failure)) before after =
-    IsReportOfFailure has_failed failure before after
-IsOutputOf is_flushed has_failed input words (Served (Ok serving)) before after =
-    is_flushed × Appends before after (serving_text serving.port)
-IsOutputOf is_flushed has_failed input words (Served (Err failure)) before after =
-    IsReportOfFailure has_failed failure before after
+IsOutputOf is_flushed has_failed input words (Shown outcome) before after = OnOk outcome is_flushed
+    × IfErr outcome (λ failure. IsReportOfFailure has_failed failure before after)
+IsOutputOf is_flushed has_failed input words (Served outcome) before after =
+    IfOk outcome (λ serving. is_flushed × Appends before after (serving_text serving.port))
+    × IfErr outcome (λ failure. IsReportOfFailure has_failed failure before after)
 IsOutputOf is_flushed has_failed input words (OtherWords unused) before after =
     IsAnswered words is_flushed has_failed before after
 IsOutputOf is_flushed has_failed input words end before after = after ≡ before

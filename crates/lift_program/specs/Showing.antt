@@ -3,8 +3,7 @@ use Rattle.std.specs.Prelude.{ℕ, ◌≡◌, ◌⊎◌, Bool, List, take, Optio
 use Rattle.std.specs.Io.KnownBytes.{Appends}
 use Rattle.lift_building.specs.Plan.{Plan}
 use Rattle.lift_disk.specs.Disk.{DiskState}
-use Rattle.lift_keeper.specs.Reopening.{RefusesReopening, Reopens}
-use Rattle.lift_keeper.specs.declared.fault.KeeperFault.{KeeperFault}
+use Rattle.lift_keeper.specs.Reopening.{Reopens}
 use Rattle.lift_register.specs.Balanced.{IsBalanced}
 use Rattle.lift_register.specs.Belongs.{BelongsTo}
 use Rattle.lift_register.specs.Register.{RegisterState}
@@ -12,9 +11,6 @@ use Rattle.lift_register.specs.WellFormed.{IsWellFormed}
 use Rattle.lift_replay.specs.Report.{register_text}
 use Rattle.lift_program.specs.Images.{CommandFiles}
 use Rattle.lift_program.specs.Stages.{HasOpened}
-use Rattle.lift_program.specs.declared.fault.Fault.{Fault}
-use Rattle.lift_program.specs.declared.fault.Fault.TheVariants.{Journal, File, Memory}
-use Rattle.lift_program.specs.declared.fault.Role.TheVariants.{Output}
 
 -- The recovery has opened a device of the building: this is the register that it gave, and it is
 -- possible in the building.
@@ -37,18 +33,6 @@ pub record ShowsRegister (plan : Plan) (old new : DiskState) (is_written : List 
 -- a prefix of this was written
 abbrev pub WritesFront : (before after : Option (List ℕ)) → List ℕ → Type 0
 WritesFront before after text = (count : ℕ) × Appends before after (take count text)
-
--- Why the open calls of a device weren't written: the recovery was refused for this, and nothing was; or
--- a prefix of those of the register that it gave was, and the output has failed, or memory was wanting,
--- where nothing was written or the output has failed.
-abbrev pub IsNotShown : Plan → (old new : DiskState) → (has_failed : Type 0)
-    → (before after : Option (List ℕ)) → Fault → Type 0
-IsNotShown plan old new has_failed before after fault =
-    ((refusal : KeeperFault) × (fault ≡ Journal refusal) × RefusesReopening plan old new refusal
-    × (after ≡ before))
-    ⊎ (ShowsRegister plan old new (WritesFront before after)
-    × (((fault ≡ File Output) × has_failed)
-    ⊎ ((fault ≡ Memory tt) × ((after ≡ before) ⊎ has_failed))))
 
 -- A prefix of the open calls of a journal was written, of the file that was opened at this path, and of
 -- a building that the text describes which was read from its file.

@@ -85,12 +85,12 @@ pub record RecoversKeeper {D : Type 0} (state : D → DiskState) (plan : Plan) (
   pub no_doubt : keeper.writer.doubt ≡ []
   pub own : keeper.writer.plan ≡ plan
 
--- the image at this path was opened, and gave this keeper
-pub record HasKeeperOf (files : ImageFiles) (path : List ℕ) (plan : Plan)
-    (keeper : KeeperView files.Served) : Type 0 where
-  pub opened : files.Served
-  pub fresh : files.is_to_be_served path opened
-  pub is_kept : RecoversKeeper files.served_state plan opened keeper
+-- an image was opened as such a device, and the recovery from it, of this building, gave this keeper
+pub record HasKeeperOf {D : Type 0} (is_fresh : D → Type 0) (state : D → DiskState) (plan : Plan)
+    (keeper : KeeperView D) : Type 0 where
+  pub opened : D
+  pub fresh : is_fresh opened
+  pub is_kept : RecoversKeeper state plan opened keeper
 
 -- an image was opened as such a device, and the recovery from it, of this building, was refused for
 -- this, and left it so

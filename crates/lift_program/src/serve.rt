@@ -1,9 +1,9 @@
 //! The serving of what the words ask to be served. Here alone the program waits.
 
-ghost use Rattle.std.specs.Prelude.{◌≡◌, IfOk, IfErr, OnErr};
+ghost use Rattle.std.specs.Prelude.{◌≡◌, None, cond, IfOk, IfErr, OnErr};
 ghost use Rattle.std.specs.Io.KnownBytes.{Appends};
-ghost use Rattle.lift_program.specs.Ends.{IsEndFor, IsReportOfFailure, TellsLine, line_at_once_in};
-ghost use Rattle.lift_program.specs.Ends.{serving_text};
+ghost use Rattle.lift_program.specs.Ends.{IsEndFor, IsReportOfFailure, TellsLine, is_told_at_once};
+ghost use Rattle.lift_program.specs.Ends.{line_for, serving_text};
 ghost use Rattle.lift_program.specs.Faults.{served_fault};
 ghost use Rattle.lift_program.specs.Output.{IsFlushed, WriterHasFailed};
 ghost use Rattle.lift_program.specs.declared.end.End.TheVariants.{Served};
@@ -81,7 +81,8 @@ pub(crate) fn serve<
         (W.contents writer.new)) }
     // and the line of a device that failed before the end, and no other.
     ensures at_once { IfOk result.0 (λ serving.
-        TellsLine E.contents (line_at_once_in serving.fault) errors result.1) }
+        TellsLine E.contents (cond (is_told_at_once serving.fault) (line_for serving.fault) None)
+        errors result.1) }
     ensures quiet { OnErr result.0 (result.1 ≡ errors) }
 {
     let mut place = None;

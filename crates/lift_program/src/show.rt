@@ -5,20 +5,19 @@ ghost use Rattle.std.specs.Io.KnownBytes.{Appends};
 ghost use Rattle.lift_replay.specs.Report.{register_text};
 ghost use Rattle.lift_program.specs.Ends.{IsFileFault, IsReportOfFailure};
 ghost use Rattle.lift_program.specs.Output.{IsFlushed, WasTaken, WriterHasFailed};
-ghost use Rattle.lift_program.specs.Showing.{IsNotShown, IsShown, ShowsRegister, ShowsPart};
-ghost use Rattle.lift_program.specs.Showing.{WritesFront};
+ghost use Rattle.lift_program.specs.Showing.{IsShown, ShowsPart, WritesFront};
 ghost use Rattle.lift_program.specs.Stages.{IsShowingFailure, fault_in};
 ghost use Rattle.lift_program.specs.declared.fault.Role.TheVariants.{Output};
 
 use crate::fault::Fault;
 use crate::files::{building_in, image_to_show};
 use crate::given::ready::ForServing;
+use crate::given::ready::keeping::left_by;
 use crate::leftover::{Failure, Leftover};
 use crate::opening::{FilesView, Listens, Openers, TextOpener};
 use crate::output::{Outflow, write_out};
 use crate::unwritten::ShownImage;
-use lift_building::Building;
-use lift_disk::{Disk, FileOpener};
+use lift_disk::FileOpener;
 use lift_keeper::Keeper;
 use lift_register::Register;
 use lift_replay::report::push_rows;
@@ -43,33 +42,6 @@ fn write_rows<W: Outflow>(alloc: Global, register: &Register, writer: &mut W) ->
     let mut report = String::new(alloc);
     push_rows(&mut report, register)?;
     write_out(writer, report.as_bytes())
-}
-
-/// Opens the keeper of a building on a device, and writes the open calls that it shows: the
-/// recovery's. Hands the device back. No sector is written.
-fn show_on<D: Disk + Drop, W: Outflow>(
-    alloc: Global,
-    disk: D,
-    building: &Building,
-    writer: &mut W,
-) -> (D, Result<(), Fault>)
-    // What is written is exactly the lines of the register that the recovery gave,
-    ensures shown { OnOk result.1 (ShowsRegister building.now (D.state disk) (D.state result.0)
-        (Appends (W.contents writer.old) (W.contents writer.new))) }
-    ensures flushed { OnOk result.1 (IsFlushed W.gives W.flushes writer.old writer.new) }
-    // or the recovery was refused, or the output failed, or that for want of memory.
-    ensures unshown { IfErr result.1 (IsNotShown building.now (D.state disk) (D.state result.0)
-        (WriterHasFailed W.gives W.flushes writer.old writer.new) (W.contents writer.old)
-        (W.contents writer.new)) }
-    ensures writes { (D.state result.0).writes ≡ (D.state disk).writes }
-{
-    match Keeper::open(disk, building) {
-        Ok(keeper) => {
-            let outcome = write_rows(alloc, keeper.register(), writer);
-            (keeper.into_disk(), outcome)
-        }
-        Err((disk, fault)) => (disk, Err(Fault::Journal(fault))),
-    }
 }
 
 /// Shows the open calls of the journal in the file `image`, which is of the building in the file
@@ -104,9 +76,14 @@ pub(crate) fn show<B: TextOpener, I: FileOpener, L: Listens, W: Outflow>(
         Ok(disk) => disk,
         Err((fault, cause)) => return Err(Failure::NoImage(fault, cause)),
     };
-    let (disk, outcome) = show_on(alloc, disk, &building, writer);
-    match outcome {
-        Ok(()) => Ok(Leftover::new(disk)),
-        Err(fault) => Err(Failure::Opened(fault, Leftover::new(disk))),
+    let keeper = match Keeper::open(disk, &building) {
+        Ok(keeper) => keeper,
+        Err((disk, fault)) => {
+            return Err(Failure::Opened(Fault::Journal(fault), Leftover::new(disk)));
+        }
+    };
+    match write_rows(alloc, keeper.register(), writer) {
+        Ok(()) => Ok(left_by(keeper)),
+        Err(fault) => Err(Failure::Opened(fault, left_by(keeper))),
     }
 }

@@ -10,18 +10,23 @@ pub returns-clause-end : goal.returns-clause-end
 returns-clause-end g c =
     let a = c.args.asked in
     let of = c.in-Ok.ready.1 in
-    let served = c.serve-served.result.0 in
-    let before = g.W.Outflow.contents c.args.writer.now in
-    let after = g.W.Outflow.contents c.made_ready.new.writer in
-    served_end _ before after a.image a.building a.port a.sessions a.policy of.allocator of.flusher of.bound _ c.in-Ok.ensures.ready c.in-Ok.ensures.port (record {
-      b = served.allocator;
-      g = served.flusher;
-      is_left = sym c.left_served.ensures;
-      ran = c.serve-served.ensures.ran;
-      keeps = c.serve-served.ensures.keeps;
-      told = search rules;
-      reports = c.serve-served.ensures.reports;
-    })
+    let served = c.serve-served.result.0 in (
+      (
+        c.in-Ok.ensures.port,
+        served_end _ a.image.now a.building.now a.port a.sessions a.policy of.allocator of.flusher of.bound _ c.in-Ok.ensures.ready (record {
+          b = served.allocator;
+          g = served.flusher;
+          is_left = sym c.left_served.ensures;
+          ran = c.serve-served.ensures.ran;
+          keeps = c.serve-served.ensures.keeps;
+          told = search rules;
+          reports = c.serve-served.ensures.reports;
+        }),
+      ),
+      tt,
+      tt,
+      tt,
+    )
 
 pub returns-clause-said : goal.returns-clause-said
 returns-clause-said g c =

@@ -36,7 +36,8 @@ pub fn keeper_in<'b, I: FileOpener>(
     building: &'b Building,
 ) -> Result<Keeper<'b, BufferedFile<I::Told>>, Failure<BufferedFile<I::Told>, I::Told, I>>
     ensures opened { IfOk result
-        (HasKeeperOf (⟦<I as ImageView>⟧.image opener) path.now building.now) }
+        (HasKeeperOf ((⟦<I as ImageView>⟧.image opener).is_to_be_served path.now)
+        (⟦<I as ImageView>⟧.image opener).served_state building.now) }
     ensures failure { IfErr result
         (IsServingKeeperFailure (⟦<I as ImageView>⟧.image opener) path.now building.now) }
 {

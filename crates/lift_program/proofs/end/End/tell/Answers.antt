@@ -3,7 +3,7 @@ use Rattle.std.specs.Prelude.{IfSome, Ok}
 use Rattle.lift_program.specs.Ends.{line_at_end}
 use Rattle.lift_program.specs.Output.{IsWrittenOrFailed}
 use Rattle.lift_program.specs.declared.end.End.TheVariants.{Served}
-use Rattle.lift_program.proofs.Telling.{told_at_end}
+use Rattle.lift_program.proofs.Telling.{told_later}
 use Rattle.lift_program.proofs.end.End.tell.Goals as goal
 
 pub returns-in-OtherWords-clause-told : goal.returns-in-OtherWords-clause-told
@@ -16,9 +16,9 @@ pub returns-in_default : goal.returns-in_default
 returns-in_default g c =
     let a = c.args.errors.now in
     let b = c.tell-in_default.new.errors in
-    let told = told_at_end g.E.Write.contents a b c.in-Some.fault c.in_default.not-Journal c.tell-in_default.ensures in
+    let later = told_later c.in-Some.fault c.in_default.not-Journal in
     let is : c.args.self.now ≡ Served (Ok c.in-Served-Ok.serving) = search rules in
     record {
-      told = subst (λ e. IfSome (line_at_end e) (IsWrittenOrFailed g.E.Write.contents a b)) (sym is) (rw c.in-Some.is told.0);
-      quiet = subst (λ e. line_at_end e ≡ None → b ≡ a) (sym is) (rw c.in-Some.is told.1);
+      told = subst (λ e. IfSome (line_at_end e) (IsWrittenOrFailed g.E.Write.contents a b)) (sym is) (rw (c.in-Some.is, later) c.tell-in_default.ensures);
+      quiet = subst (λ e. line_at_end e ≡ None → b ≡ a) (sym is) (rw (c.in-Some.is, later) (λ none. cc));
     }

@@ -2,7 +2,6 @@ use Rattle.std.proofs.Common.{◌≡◌, rules, ap, subst}
 use Rattle.lift_base.specs.Input.{InputState}
 use Rattle.lift_program.specs.Ends.{ReportsAll}
 use Rattle.lift_program.specs.declared.words.Request.TheVariants.{Replay, Format, Show}
-use Rattle.lift_program.proofs.Asked.{formatted_end, shown_end}
 use Rattle.lift_program.proofs.given.Given.prepare.Goals as goal
 
 pub returns-in-Replay-clause-end : goal.returns-in-Replay-clause-end
@@ -18,11 +17,10 @@ returns-in-Replay-clause-output g c =
 pub returns-in-Format-clause-end : goal.returns-in-Format-clause-end
 returns-in-Format-clause-end g c =
     let asked = c.in-Format in
-    let written = g.W.Outflow.contents c.args.writer.now in
-    (Format asked.image asked.building asked.half, search rules, formatted_end _ written written asked.image asked.building asked.half c.format-outcome.result c.format-outcome.ensures.made c.format-outcome.ensures.failure)
+    (Format asked.image asked.building asked.half, search rules, (c.format-outcome.ensures.made, c.format-outcome.ensures.failure))
 
 pub returns-in-Show-clause-end : goal.returns-in-Show-clause-end
 returns-in-Show-clause-end g c =
     let asked = c.in-Show in
     let shown = c.show-outcome.ensures in
-    (Show asked.image asked.building, search rules, shown_end _ _ _ asked.image asked.building c.show-outcome.result shown.shown shown.failure shown.portless shown.front)
+    (Show asked.image asked.building, search rules, (shown.shown, shown.failure, shown.portless, shown.front))

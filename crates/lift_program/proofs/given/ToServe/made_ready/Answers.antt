@@ -8,7 +8,7 @@ use Rattle.lift_program.specs.Unwritten.{unwritten_state_of}
 use Rattle.lift_program.specs.declared.fault.Fault.TheVariants.{Memory, Network}
 use Rattle.lift_program.specs.declared.fault.Role.TheVariants.{Output}
 use Rattle.lift_program.proofs.Flushing.{building_no_network, file_no_network, keeper_failure_no_network}
-use Rattle.lift_program.proofs.Stages.{group_left, is_ready, keeper_failure, keeper_report, kept_left, output_left, report_of, said_report, stands_so}
+use Rattle.lift_program.proofs.Stages.{group_left, is_ready, keeper_failure, keeper_report, kept_left, output_left, output_report, report_of, stands_so}
 use Rattle.lift_program.proofs.given.ToServe.made_ready.Goals as goal
 
 pub returns-clause-ready : goal.returns-clause-ready
@@ -38,14 +38,14 @@ returns-in-Err-listen_here-clause-refused g c = λ same. c.in-Err-listen_here.en
 
 pub returns-in-Err-listen_here-clause-failure : goal.returns-in-Err-listen_here-clause-failure
 returns-in-Err-listen_here-clause-failure g c =
-    kept_left _ _ c.args.self.image.now c.insert-standing.result.now c.in-Ok-keeper_in.keeper _ c.in-Err-listen_here.fault Network (stands_so _ c.in-Ok.building c.insert-standing.result.now c.insert-standing.ensures.value c.in-Ok.ensures.found) c.in-Ok-keeper_in.ensures.opened c.left_by.ensures c.in-Err-listen_here.ensures.fault (λ old new recovered. recovered)
+    kept_left _ _ _ _ c.insert-standing.result.now c.in-Ok-keeper_in.keeper _ c.in-Err-listen_here.fault Network (stands_so _ c.in-Ok.building c.insert-standing.result.now c.insert-standing.ensures.value c.in-Ok.ensures.found) c.in-Ok-keeper_in.ensures.opened c.left_by.ensures c.in-Err-listen_here.ensures.fault (λ old new recovered. recovered)
 
 pub returns-in-Err-prepare-clause-refused : goal.returns-in-Err-prepare-clause-refused
 returns-in-Err-prepare-clause-refused g c = λ same. absurd (file_no_network Output _ (inr c.unprepared.ensures) same)
 
 pub returns-in-Err-prepare-clause-failure : goal.returns-in-Err-prepare-clause-failure
 returns-in-Err-prepare-clause-failure g c =
-    output_left _ _ c.args.self.image.now c.insert-standing.result.now c.in-Ok-keeper_in.keeper _ c.unprepared.result (stands_so _ c.in-Ok.building c.insert-standing.result.now c.insert-standing.ensures.value c.in-Ok.ensures.found) c.in-Ok-keeper_in.ensures.opened
+    output_left _ _ _ _ c.insert-standing.result.now c.in-Ok-keeper_in.keeper _ c.unprepared.result (stands_so _ c.in-Ok.building c.insert-standing.result.now c.insert-standing.ensures.value c.in-Ok.ensures.found) c.in-Ok-keeper_in.ensures.opened
     (c.left_by-in-Err-prepare.ensures ∙ ap (λ (k : KeeperView _). k.writer.device) c.in-Err-prepare.ensures.refused) (inr c.unprepared.ensures)
 
 pub returns-in-Err-say-clause-refused : goal.returns-in-Err-say-clause-refused
@@ -53,7 +53,7 @@ returns-in-Err-say-clause-refused g c = λ same. absurd (file_no_network Output 
 
 pub returns-in-Err-say-clause-failure : goal.returns-in-Err-say-clause-failure
 returns-in-Err-say-clause-failure g c =
-    output_left _ _ c.args.self.image.now c.insert-standing.result.now c.in-Ok-keeper_in.keeper _ c.in-Err-say.fault (stands_so _ c.in-Ok.building c.insert-standing.result.now c.insert-standing.ensures.value c.in-Ok.ensures.found) c.in-Ok-keeper_in.ensures.opened (group_left _ c.args.self.policy c.in-Ok-keeper_in.keeper c.in-Ok-prepare.group.allocator c.in-Ok-prepare.group.flusher _ c.in-Ok-prepare.ensures.group c.left_unserved.ensures) c.in-Err-say.ensures.fault
+    output_left _ _ _ _ c.insert-standing.result.now c.in-Ok-keeper_in.keeper _ c.in-Err-say.fault (stands_so _ c.in-Ok.building c.insert-standing.result.now c.insert-standing.ensures.value c.in-Ok.ensures.found) c.in-Ok-keeper_in.ensures.opened (group_left _ c.args.self.policy c.in-Ok-keeper_in.keeper c.in-Ok-prepare.group.allocator c.in-Ok-prepare.group.flusher _ c.in-Ok-prepare.ensures.group c.left_unserved.ensures) c.in-Err-say.ensures.fault
 
 pub returns-in-Err-keeper_in-clause-report : goal.returns-in-Err-keeper_in-clause-report
 returns-in-Err-keeper_in-clause-report g c = keeper_report _ _ _ c.insert-standing.result.now _ c.in-Err-keeper_in.failure _ c.in-Err-keeper_in.ensures.failure
@@ -66,7 +66,7 @@ returns-in-Err-prepare-clause-report g c = report_of _ c.unprepared.result (Memo
 
 pub returns-in-Err-say-clause-report : goal.returns-in-Err-say-clause-report
 returns-in-Err-say-clause-report g c =
-    said_report _ c.in-Err-say.fault c.left_unserved.result _ _ c.in-Err-say.ensures.failed c.in-Err-say.ensures.fault
+    output_report _ c.in-Err-say.fault c.left_unserved.result _ _ (λ is. c.in-Err-say.ensures.failed) (inr c.in-Err-say.ensures.failed) c.in-Err-say.ensures.fault
 
 pub returns-in-Err-say-clause-front : goal.returns-in-Err-say-clause-front
 returns-in-Err-say-clause-front g c = inr (c.in-Ok-listen_here.listening, c.in-Ok-listen_here.ensures.here, c.in-Err-say.ensures.front)

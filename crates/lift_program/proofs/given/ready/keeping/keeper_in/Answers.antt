@@ -1,12 +1,15 @@
-use Rattle.std.proofs.Common.{◌∙◌, refl}
-use Rattle.lift_program.proofs.Stages.{has_keeper, has_no_image, has_no_keeper, is_opened}
+use Rattle.std.proofs.Common.{◌∙◌}
+use Rattle.lift_program.proofs.Stages.{has_no_image, has_no_keeper, is_opened}
 use Rattle.lift_program.proofs.given.ready.keeping.keeper_in.Goals as goal
 
 pub returns-in-Ok-open-clause-opened : goal.returns-in-Ok-open-clause-opened
 returns-in-Ok-open-clause-opened g c =
-    has_keeper _ c.args.path.now c.args.building.now c.over.result c.in-Ok-open.keeper _ refl
-    (is_opened _ _ _ _ _ _ c.in-Ok.file _ c.args.path.now c.over.ensures.below c.over.ensures.calls (c.over.ensures.failures ∙ c.in-Ok.ensures.failures) c.in-Ok.ensures.calls c.in-Ok.ensures.measured c.over.ensures.honest c.over.ensures.held)
-    c.in-Ok-open.ensures.opens.reopens c.in-Ok-open.ensures.state c.in-Ok-open.ensures.opens.whole.0 c.in-Ok-open.ensures.opens.whole.1 c.in-Ok-open.ensures.opens.plan
+    let opens = c.in-Ok-open.ensures.opens in
+    record {
+      opened = c.over.result;
+      fresh = is_opened _ _ _ _ _ _ c.in-Ok.file _ c.args.path.now c.over.ensures.below c.over.ensures.calls (c.over.ensures.failures ∙ c.in-Ok.ensures.failures) c.in-Ok.ensures.calls c.in-Ok.ensures.measured c.over.ensures.honest c.over.ensures.held;
+      is_kept = record { recovers = opens.reopens; starts = c.in-Ok-open.ensures.state; whole = opens.whole.0; no_doubt = opens.whole.1; own = opens.plan };
+    }
 
 pub returns-in-Err-clause-failure : goal.returns-in-Err-clause-failure
 returns-in-Err-clause-failure g c =
