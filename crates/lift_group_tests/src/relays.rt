@@ -4,7 +4,6 @@ ghost use Rattle.lift_parts.specs.Parts.{AreOfOne};
 
 use crate::device::Device;
 use crate::gate::{Below, Counter};
-use core::mem::replace_with;
 use lift_clerk::{Clerk, Counts};
 use lift_disk::Disk;
 use lift_keeper::KeeperFault;
@@ -44,14 +43,7 @@ impl<'d, 'b, D: Disk + Drop, P: Policy + Drop> Relay<'d, 'b, D, P> {
     }
 
     pub(crate) fn tell(&mut self) {
-        replace_with(self, (), |relay: Self, _: ()| -> (Self, ()) {
-            let Relay {
-                mut allocator,
-                flusher,
-            } = relay;
-            let flusher = tell(&mut allocator, flusher);
-            (Relay { allocator, flusher }, ())
-        })
+        tell(&mut self.allocator, &mut self.flusher)
     }
 
     /// Whether this many batches were sent and received, and whether one is in hand just where one
@@ -68,16 +60,13 @@ impl<'d, 'b, D: Disk + Drop, P: Policy + Drop> Relay<'d, 'b, D, P> {
         P: Send,
         ensures { self.new.allocator.desk ≡ self.old.allocator.desk }
     {
-        replace_with(
-            self,
-            Counter { gate },
-            |relay: Self, witness: Counter| -> (Self, Option<RunFault>)
-                ensures { result.0.allocator.desk ≡ relay.entry.allocator.desk }
-            {
-                let Relay { allocator, flusher } = relay;
-                let (allocator, flusher, _, fault) = run(rt, allocator, flusher, gate, witness);
-                (Relay { allocator, flusher }, fault)
-            },
+        let mut witness = Counter { gate };
+        run(
+            rt,
+            &mut self.allocator,
+            &mut self.flusher,
+            gate,
+            &mut witness,
         )
     }
 

@@ -91,7 +91,7 @@ run_of {D} {P} chooses state a b c f g h first fault turns flushes rest drain no
 )
 
 -- a run of the same parts, as they stand now
-pub run_is : {D P : Type 0} (chooses : P → Choice) (state : D → DiskState) (o a b c : AllocatorState P) (f g h : FlusherState D) (fault : Option RunFault) → o ≡ a → c ≡ b → h ≡ g
-    → IsRun (chooses o.policy) state o b f g fault → IsRun (chooses a.policy) state a c f h fault
-run_is {D} {P} chooses state o a b c f g h fault asks same_a same_f run =
-    subst (λ (p : AllocatorState P × AllocatorState P × FlusherState D). IsRun (chooses p.0.policy) state p.0 p.1 f p.2 fault) (λ i. (asks i, sym same_a i, sym same_f i)) run
+pub run_is : {D P : Type 0} (state : D → DiskState) (choice : Choice) (a b c : AllocatorState P) (f g h : FlusherState D) (fault : Option RunFault) → c ≡ b → h ≡ g
+    → IsRun choice state a b f g fault → IsRun choice state a c f h fault
+run_is {D} {P} state choice a b c f g h fault same_a same_f run =
+    subst (λ (p : AllocatorState P × FlusherState D). IsRun choice state a p.0 f p.1 fault) (λ i. (sym same_a i, sym same_f i)) run

@@ -128,26 +128,26 @@ impl<'d, 'b, P: Policy + Drop> Allocator<'d, 'b, P> {
     }
 
     /// Compares it with the other end of its line. Both stay as they are.
-    pub(crate) fn compare(&mut self, receiver: ReceiveEnd) -> ReceiveEnd
-        requires line { receiver.line ≡ self.old.end.line }
-        requires building { receiver.building ≡ self.old.plan }
-        requires desk { receiver.desk ≡ self.old.desk }
+    pub(crate) fn compare(&mut self, receiver: &mut ReceiveEnd)
+        requires line { receiver.old.line ≡ self.old.end.line }
+        requires building { receiver.old.building ≡ self.old.plan }
+        requires desk { receiver.old.desk ≡ self.old.desk }
         ensures allocator { self.new ≡ self.old }
-        ensures receiver { result ≡ receiver }
-        ensures queued { Queued self.new.end result }
+        ensures receiver { receiver.new ≡ receiver.old }
+        ensures queued { Queued self.new.end receiver.new }
     {
         self.end.compare(receiver)
     }
 
     /// Tells it how much was received, and the other end of its line how much was sent.
-    pub(crate) fn tell(&mut self, receiver: ReceiveEnd) -> ReceiveEnd
-        requires line { receiver.line ≡ self.old.end.line }
-        requires building { receiver.building ≡ self.old.plan }
-        requires desk { receiver.desk ≡ self.old.desk }
+    pub(crate) fn tell(&mut self, receiver: &mut ReceiveEnd)
+        requires line { receiver.old.line ≡ self.old.end.line }
+        requires building { receiver.old.building ≡ self.old.plan }
+        requires desk { receiver.old.desk ≡ self.old.desk }
         ensures allocator { self.new
-            ≡ record self.old { end = record self.old.end { gone = receiver.received } } }
-        ensures receiver { result ≡ record receiver { known = self.old.end.sent } }
-        ensures queued { Queued self.new.end result }
+            ≡ record self.old { end = record self.old.end { gone = receiver.old.received } } }
+        ensures receiver { receiver.new ≡ record receiver.old { known = self.old.end.sent } }
+        ensures queued { Queued self.new.end receiver.new }
     {
         self.end.tell(receiver)
     }

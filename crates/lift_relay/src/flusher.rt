@@ -123,29 +123,25 @@ impl<'d, 'b, D: Disk, K> Flusher<'d, 'b, D, K> {
     }
 
     /// Compares it with the other part, at the other end of its line. Both stay as they are.
-    pub(crate) fn compare<P: Policy + Drop>(self, allocator: &mut Allocator<'_, '_, P>) -> Self
-        requires of_one { AreOfOne allocator.old self }
-        ensures flusher { result ≡ self.entry }
+    pub(crate) fn compare<P: Policy + Drop>(&mut self, allocator: &mut Allocator<'_, '_, P>)
+        requires of_one { AreOfOne allocator.old self.old }
+        ensures flusher { self.new ≡ self.old }
         ensures allocator { allocator.new ≡ allocator.old }
-        ensures queued { Queued allocator.new.end result.end }
+        ensures queued { Queued allocator.new.end self.new.end }
     {
-        let Flusher { settler, end } = self;
-        let end = allocator.compare(end);
-        Flusher { settler, end }
+        allocator.compare(&mut self.end)
     }
 
     /// Tells it and the other part, at the other end of its line, how much was sent and how much
     /// was received.
-    pub(crate) fn tell<P: Policy + Drop>(self, allocator: &mut Allocator<'_, '_, P>) -> Self
-        requires of_one { AreOfOne allocator.old self }
-        ensures flusher { result
-            ≡ record self.entry { end = record self.entry.end { known = allocator.old.end.sent } } }
-        ensures allocator { allocator.new ≡ record allocator.old { end = record allocator.old.end { gone = self.entry.end.received } } }
-        ensures queued { Queued allocator.new.end result.end }
+    pub(crate) fn tell<P: Policy + Drop>(&mut self, allocator: &mut Allocator<'_, '_, P>)
+        requires of_one { AreOfOne allocator.old self.old }
+        ensures flusher { self.new
+            ≡ record self.old { end = record self.old.end { known = allocator.old.end.sent } } }
+        ensures allocator { allocator.new ≡ record allocator.old { end = record allocator.old.end { gone = self.old.end.received } } }
+        ensures queued { Queued allocator.new.end self.new.end }
     {
-        let Flusher { settler, end } = self;
-        let end = allocator.tell(end);
-        Flusher { settler, end }
+        allocator.tell(&mut self.end)
     }
 
     /// Tells it what a terminal has asked so far, and the terminal what was answered there so far. By

@@ -10,6 +10,7 @@ mod flusher;
 mod gate;
 mod line;
 mod pair;
+mod places;
 mod queue;
 mod refused;
 mod relay;

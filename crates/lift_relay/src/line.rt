@@ -205,34 +205,27 @@ impl SendEnd {
     }
 
     /// Compares it with the other end of its line. Both stay as they are.
-    pub fn compare(&mut self, receiver: ReceiveEnd) -> ReceiveEnd
-        requires line { receiver.line ≡ self.old.line }
-        requires building { receiver.building ≡ self.old.building }
-        requires desk { receiver.desk ≡ self.old.desk }
+    pub fn compare(&mut self, receiver: &mut ReceiveEnd)
+        requires line { receiver.old.line ≡ self.old.line }
+        requires building { receiver.old.building ≡ self.old.building }
+        requires desk { receiver.old.desk ≡ self.old.desk }
         ensures sender { self.new ≡ self.old }
-        ensures receiver { result ≡ receiver }
-        ensures queued { Queued self.new result }
+        ensures receiver { receiver.new ≡ receiver.old }
+        ensures queued { Queued self.new receiver.new }
     {
-        let ReceiveEnd { side, count } = receiver;
-        let met = self.side.meet::<EndView, EndView>(side);
-        ReceiveEnd { side: met, count }
+        self.side.meet::<EndView, EndView>(&mut receiver.side);
     }
 
     /// Tells each end of its line where the other stands.
-    pub fn tell(&mut self, receiver: ReceiveEnd) -> ReceiveEnd
-        requires line { receiver.line ≡ self.old.line }
-        requires building { receiver.building ≡ self.old.building }
-        requires desk { receiver.desk ≡ self.old.desk }
-        ensures sender { self.new ≡ record self.old { gone = receiver.received } }
-        ensures receiver { result ≡ record receiver { known = self.old.sent } }
-        ensures queued { Queued self.new result }
+    pub fn tell(&mut self, receiver: &mut ReceiveEnd)
+        requires line { receiver.old.line ≡ self.old.line }
+        requires building { receiver.old.building ≡ self.old.building }
+        requires desk { receiver.old.desk ≡ self.old.desk }
+        ensures sender { self.new ≡ record self.old { gone = receiver.old.received } }
+        ensures receiver { receiver.new ≡ record receiver.old { known = self.old.sent } }
+        ensures queued { Queued self.new receiver.new }
     {
-        let ReceiveEnd {
-            side: theirs,
-            count,
-        } = receiver;
-        let told = self.side.meet::<SendEnd, EndView>(theirs);
-        ReceiveEnd { side: told, count }
+        self.side.meet::<SendEnd, EndView>(&mut receiver.side);
     }
 }
 

@@ -17,6 +17,7 @@ ghost use Rattle.lift_parts.specs.History.{GoesOnTo, group_after};
 use crate::allocator::Allocator;
 use crate::flusher::Flusher;
 use crate::gate::{AskingAllocator, Gate, GatedAllocator};
+use crate::places::with_both;
 use crate::refused::{NoThread, spawn};
 use crate::tie::turns_keep_parts;
 use crate::witness::{HeardBy, Witness};
@@ -88,6 +89,8 @@ fn flush<R: Wait, G: Gate, D: Disk, K: HeardBy<V>, V: Witness>(
     gate: &G,
     witness: &mut V,
 ) -> Option<KeeperFault>
+    // A run that never returns has told it too.
+    requires told { G.knows_both_run gate.now }
     ensures turns { FlusherTurns D.state flusher.old None flusher.new result }
     ensures heard { FailureHeard V.hears
         flusher.old.writer.is_broken flusher.new.writer.is_broken witness.old witness.new }
@@ -105,48 +108,34 @@ fn flush<R: Wait, G: Gate, D: Disk, K: HeardBy<V>, V: Witness>(
     first
 }
 
-/// Both parts after a run, with its witness, and why the run was not all it should be.
-type Ran<'d, 'b, D, P, K, V> = (
-    Allocator<'d, 'b, P>,
-    Flusher<'d, 'b, D, K>,
-    V,
-    Option<RunFault>,
-);
-
 /// Sends the batch in hand and receives all that was sent, by turns of the flusher. Tells the first
 /// fault of all turns, of which one may be there already.
-fn drain<'a, 'c, 'd, 'b, R: Wait, D: Disk, P: Policy + Drop, K: HeardBy<V>, V: Witness>(
+fn drain<'d, 'b, R: Wait, D: Disk, P: Policy + Drop, K: HeardBy<V>, V: Witness>(
     rt: &R,
-    mut allocator: GatedAllocator<'a, 'c, P>,
-    mut flusher: Flusher<'d, 'b, D, K>,
+    mut allocator: GatedAllocator<'d, 'b, P>,
+    flusher: &mut Flusher<'_, '_, D, K>,
     mut first: Option<KeeperFault>,
-    mut witness: V,
-) -> (
-    Allocator<'a, 'c, P>,
-    Flusher<'d, 'b, D, K>,
-    V,
-    Option<RunFault>,
-)
+    witness: &mut V,
+) -> (Allocator<'d, 'b, P>, Option<RunFault>)
     requires closed { allocator.goes_on ≡ false }
     ensures allocator { AllocatorTurns (P.chooses allocator.entry.allocator.policy)
         allocator.entry.allocator result.0 }
     ensures flusher { (last : Option KeeperFault)
-        × FlusherTurns D.state flusher.entry first result.1 last
-        × (result.3 ≡ option_map (λ (fault : KeeperFault). RunFault.Keeper fault) last) }
+        × FlusherTurns D.state flusher.old first flusher.new last
+        × (result.1 ≡ option_map (λ (fault : KeeperFault). RunFault.Keeper fault) last) }
     ensures heard { FailureHeard V.hears
-        flusher.entry.writer.is_broken result.1.writer.is_broken witness result.2 }
+        flusher.old.writer.is_broken flusher.new.writer.is_broken witness.old witness.new }
     // It takes nothing.
     ensures sends { IsSending allocator.entry.allocator result.0 }
     ensures nothing_in_hand { result.0.hand ≡ [] }
-    ensures all_received { length result.0.end.sent ≡ length result.1.end.received }
+    ensures all_received { length result.0.end.sent ≡ length flusher.new.end.received }
 {
     for _ in rt.forever() {
         let is_sent = allocator.send_hand(rt);
         if is_sent && allocator.sent() == flusher.received() {
-            let fault = first.map(RunFault::Keeper);
-            return (allocator.drained(&flusher), flusher, witness, fault);
+            return (allocator.drained(flusher), first.map(RunFault::Keeper));
         }
-        first = first.or(flusher.turn(rt, &mut witness).err());
+        first = first.or(flusher.turn(rt, witness).err());
     }
     unreachable!()
 }
@@ -165,13 +154,16 @@ impl<'d, 'b, P: Policy + Drop> Promise<Allocating<'d, 'b, P>> for OfPart<'d, 'b,
 
 /// Both parts after their turns on two threads, once what was in hand is sent and all that was sent is
 /// received. Where no thread could be made, they are as they were.
-fn run_both<'d, 'b, R, G, D, P, K, V>(
+fn run_both<'x, 'd, 'b, R, G, D, P, K, V>(
     rt: &R,
     allocator: AskingAllocator<'d, 'b, P>,
     mut flusher: Flusher<'d, 'b, D, K>,
     gate: &G,
-    mut witness: V,
-) -> Ran<'d, 'b, D, P, K, V>
+    witness: &'x mut V,
+) -> (
+    Flusher<'d, 'b, D, K>,
+    (Allocator<'d, 'b, P>, (&'x mut V, Option<RunFault>)),
+)
 where
     R: Threads + Wait + Sync,
     G: Gate + Sync,
@@ -179,23 +171,25 @@ where
     P: Policy + Drop + Send,
     K: HeardBy<V> + Drop,
     V: Witness + Drop,
-    ensures ran { IsRun (P.chooses allocator.entry.policy) D.state allocator.entry result.0
-        flusher.entry result.1 result.3 }
-    ensures heard { FailureHeard V.hears
-        flusher.entry.writer.is_broken result.1.writer.is_broken witness result.2 }
-    ensures closed { result.3 ≢ Some (RunFault.Spawn tt) → G.closed gate.now }
+    ensures same { result.1.1.0.ghost_name ≡ witness.entry.ghost_name }
+    ensures ran { IsRun (P.chooses allocator.entry.policy) D.state allocator.entry result.1.0
+        flusher.entry result.0 result.1.1.1 }
+    ensures heard { FailureHeard V.hears flusher.entry.writer.is_broken
+        result.0.writer.is_broken witness.entry.now result.1.1.0.now }
+    ensures closed { result.1.1.1 ≢ Some (RunFault.Spawn tt) → G.closed gate.now }
 {
     let may_run = AtomicBool::new(true);
     let flag = &may_run;
     thread::scope(
         thread::scope_env(),
         rt,
-        move |scope| -> (Allocator<P>, Flusher<D, K>, V, Option<RunFault>)
+        move |scope| -> (Flusher<D, K>, (Allocator<P>, (&mut V, Option<RunFault>)))
+            ensures same { result.1.1.0.ghost_name ≡ witness.entry.ghost_name }
             ensures ran { IsRun (P.chooses allocator.entry.policy) D.state allocator.entry
-                result.0 flusher.entry result.1 result.3 }
-            ensures heard { FailureHeard V.hears
-                flusher.entry.writer.is_broken result.1.writer.is_broken witness result.2 }
-            ensures closed { result.3 ≢ Some (RunFault.Spawn tt) → G.closed gate.entry.now }
+                result.1.0 flusher.entry result.0 result.1.1.1 }
+            ensures heard { FailureHeard V.hears flusher.entry.writer.is_broken
+                result.0.writer.is_broken witness.entry.now result.1.1.0.now }
+            ensures closed { result.1.1.1 ≢ Some (RunFault.Spawn tt) → G.closed gate.entry.now }
         {
             let promise = OfPart(Snapshot::of(&allocator));
             let work = move || -> Allocating<P>
@@ -208,24 +202,29 @@ where
                     Err(allocator)
                 }
             };
-            match spawn(scope, promise, work, gate) {
-                Ok(child) => {
-                    let first = flush(rt, &mut flusher, gate, &mut witness);
+            match spawn(scope, promise, work) {
+                Ok((child, both)) => {
+                    gate.both_run(both);
+                    let first = flush(rt, &mut flusher, gate, witness);
                     let ran = match child.join(rt) {
                         Ok(ran) => ran,
                         Err(idle) => allocate(rt, idle, gate),
                     };
-                    drain(rt, ran, flusher, first, witness)
+                    let (allocator, fault) = drain(rt, ran, &mut flusher, first, witness);
+                    (flusher, (allocator, (witness, fault)))
                 }
                 Err((unmade, no_thread)) => {
                     // The closure alone has the allocator, and hands it back unturned.
                     flag.store(false, Ordering::SeqCst);
                     match unmade() {
                         // (never: the flag is down, so it has not run; its gate was told nothing)
-                        Ok(ran) => drain(rt, ran, flusher, None, witness),
+                        Ok(ran) => {
+                            let (allocator, fault) = drain(rt, ran, &mut flusher, None, witness);
+                            (flusher, (allocator, (witness, fault)))
+                        }
                         Err(idle) => {
                             let fault = Some(RunFault::Spawn(no_thread));
-                            (idle.back(no_thread), flusher, witness, fault)
+                            (flusher, (idle.back(no_thread), (witness, fault)))
                         }
                     }
                 }
@@ -244,15 +243,14 @@ where
 ///
 /// A device fault doesn't end it: the flusher's first is the answer, of which the witness is
 /// notified in the very turn, and what was received from then on was answered Unknown. `Spawn`
-/// where the thread couldn't be started; then it returns at once. The parts and the witness are given
-/// back.
+/// where the thread couldn't be started; then it returns at once.
 pub fn run<'d, 'b, R, G, D, P, K, V>(
     rt: &R,
-    allocator: Allocator<'d, 'b, P>,
-    flusher: Flusher<'d, 'b, D, K>,
+    allocator: &mut Allocator<'d, 'b, P>,
+    flusher: &mut Flusher<'d, 'b, D, K>,
     gate: &G,
-    witness: V,
-) -> Ran<'d, 'b, D, P, K, V>
+    witness: &mut V,
+) -> Option<RunFault>
 where
     R: Threads + Wait + Sync,
     G: Gate + Sync,
@@ -260,37 +258,55 @@ where
     P: Policy + Drop + Send,
     K: HeardBy<V> + Drop,
     V: Witness + Drop,
-    requires of_one { AreOfOne allocator flusher }
-    ensures refused { result.3 ≡ Some (RunFault.Spawn tt)
-        → (result.0 ≡ allocator.entry) × (result.1 ≡ flusher.entry) }
-    ensures ran { result.3 ≢ Some (RunFault.Spawn tt)
-        → HaveRun (P.chooses allocator.entry.policy) D.state allocator.entry result.0 flusher.entry
-        result.1 result.3 }
+    requires of_one { AreOfOne allocator.old flusher.old }
+    ensures refused { result ≡ Some (RunFault.Spawn tt)
+        → (allocator.new ≡ allocator.old) × (flusher.new ≡ flusher.old) }
+    ensures ran { result ≢ Some (RunFault.Spawn tt)
+        → HaveRun (P.chooses allocator.old.policy) D.state allocator.old allocator.new flusher.old
+        flusher.new result }
     // The witness was notified that the device failed, once, where it did first in the run; else it
     // is as it was.
     ensures heard { FailureHeard V.hears
-        flusher.entry.writer.is_broken result.1.writer.is_broken witness result.2 }
+        flusher.old.writer.is_broken flusher.new.writer.is_broken witness.old witness.new }
     // It ends only once the gate has said not to go on, or where no thread could be made.
-    ensures closed { result.3 ≢ Some (RunFault.Spawn tt) → G.closed gate.now }
-    ensures broken { (fault : KeeperFault) → result.3 ≡ Some (RunFault.Keeper fault)
-        → result.1.writer.is_broken ≡ true }
+    ensures closed { result ≢ Some (RunFault.Spawn tt) → G.closed gate.now }
+    ensures broken { (fault : KeeperFault) → result ≡ Some (RunFault.Keeper fault)
+        → flusher.new.writer.is_broken ≡ true }
     // They can be joined, or run again.
-    ensures stay { AreSameParts allocator.entry result.0 flusher.entry result.1 }
+    ensures stay { AreSameParts allocator.old allocator.new flusher.old flusher.new }
     // What was received, and then what the line holds, is what was sent; after a run it holds
     // nothing.
-    ensures queued { Queued result.0.end result.1.end }
-    ensures received { result.3 ≢ Some (RunFault.Spawn tt)
-        → result.0.end.sent ≡ result.1.end.received }
+    ensures queued { Queued allocator.new.end flusher.new.end }
+    ensures received { result ≢ Some (RunFault.Spawn tt)
+        → allocator.new.end.sent ≡ flusher.new.end.received }
     // Whatever has happened before, the group's history goes on by just the batches that the run
     // received.
     ensures history { (base : RegisterState) (safe : List Entry) (given : List Taken)
-        → History base (group_after flusher.entry) safe given
-        → GoesOnTo flusher.entry result.1 base safe given }
+        → History base (group_after flusher.old) safe given
+        → GoesOnTo flusher.old flusher.new base safe given }
 {
     flushes_are_steps::<D>();
     turns_keep_parts::<D, P>();
-    let asking = AskingAllocator::new(allocator);
-    let (mut allocator, flusher, witness, fault) = run_both(rt, asking, flusher, gate, witness);
-    let flusher = flusher.compare(&mut allocator);
-    (allocator, flusher, witness, fault)
+    let (witness, fault) = with_both(
+        allocator,
+        flusher,
+        witness,
+        |flusher: Flusher<D, K>, given: (Allocator<P>, &mut V)| -> (
+            Flusher<D, K>,
+            (Allocator<P>, (&mut V, Option<RunFault>)),
+        )
+            ensures same { result.1.1.0.ghost_name ≡ given.entry.1.ghost_name }
+            ensures ran { IsRun (P.chooses given.entry.0.policy) D.state given.entry.0 result.1.0
+                flusher.entry result.0 result.1.1.1 }
+            ensures heard { FailureHeard V.hears flusher.entry.writer.is_broken
+                result.0.writer.is_broken given.entry.1.now result.1.1.0.now }
+            ensures closed { result.1.1.1 ≢ Some (RunFault.Spawn tt) → G.closed gate.entry.now }
+        {
+            let (allocator, witness) = given;
+            run_both(rt, AskingAllocator::new(allocator), flusher, gate, witness)
+        },
+    );
+    let _same = &*witness;
+    flusher.compare(allocator);
+    fault
 }

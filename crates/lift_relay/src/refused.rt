@@ -2,7 +2,6 @@
 
 ghost use Rattle.std.specs.Prelude.{◌≡◌, IfOk, IfErr};
 
-use crate::gate::Gate;
 use std::marker::Model;
 use std::thread::{Promise, PromisedHandle, Scope, SpawnError};
 
@@ -22,35 +21,30 @@ impl Model for NoThread {
 }
 
 /// Evidence that both parts of a run have a thread. Only `spawn` below makes one, where it got the
-/// thread.
-#[derive(Clone, Copy)]
+/// thread, and who is told by it uses it up.
+#[derive(Drop)]
 pub struct BothRun {
     made: (),
 }
 
-/// A thread of a scope, for this work, whose result keeps the promise: the gate is told that both parts
-/// have one. The work comes back where no thread could be made.
-pub(crate) fn spawn<'s, E, P, F, T, G: Gate>(
+/// A thread of a scope, for this work, whose result keeps the promise. The work comes back where no
+/// thread could be made.
+pub(crate) fn spawn<'s, E, P, F, T>(
     scope: &Scope<'s, E>,
     promise: P,
     work: F,
-    gate: &G,
-) -> Result<PromisedHandle<T, P>, (F, NoThread)>
+) -> Result<(PromisedHandle<T, P>, BothRun), (F, NoThread)>
 where
     P: Promise<T> + Drop,
     F: FnOnce() -> T + Send + 's,
     T: Send + Drop + 's,
     requires runs { F.pre work }
     requires keeps { (made : T) → F.post work made → P.kept_by promise made }
-    ensures promised { IfOk result (λ child. child.promise ≡ promise) }
-    ensures told { IfOk result (λ _. G.knows_both_run gate.now) }
+    ensures promised { IfOk result (λ made. made.0.promise ≡ promise) }
     ensures back { IfErr result (λ refused. refused.0 ≡ work) }
 {
     match scope.spawn_with(promise, work) {
-        Ok(child) => {
-            gate.both_run(BothRun { made: () });
-            Ok(child)
-        }
+        Ok(child) => Ok((child, BothRun { made: () })),
         Err(SpawnError { value }) => Err((value, NoThread { made: () })),
     }
 }

@@ -105,17 +105,17 @@ pub fn split_for<'d, 'b, D: Disk, P: Policy + Drop, K>(
 /// receives where one does. It changes nothing else.
 pub fn tell<'d, 'b, D: Disk, P: Policy + Drop, K>(
     allocator: &mut Allocator<'d, 'b, P>,
-    flusher: Flusher<'d, 'b, D, K>,
-) -> Flusher<'d, 'b, D, K>
-    requires of_one { AreOfOne allocator.old flusher }
-    ensures allocator { allocator.new ≡ record allocator.old { end = record allocator.old.end { gone = flusher.entry.end.received } } }
-    ensures flusher { result
-        ≡ record flusher.entry { end = record flusher.entry.end { known = allocator.old.end.sent } } }
+    flusher: &mut Flusher<'d, 'b, D, K>,
+)
+    requires of_one { AreOfOne allocator.old flusher.old }
+    ensures allocator { allocator.new ≡ record allocator.old { end = record allocator.old.end { gone = flusher.old.end.received } } }
+    ensures flusher { flusher.new
+        ≡ record flusher.old { end = record flusher.old.end { known = allocator.old.end.sent } } }
     // What was received, and then what the line holds, is what was sent.
-    ensures queued { Queued allocator.new.end result.end }
-    ensures of_one { AreOfOne allocator.new result }
+    ensures queued { Queued allocator.new.end flusher.new.end }
+    ensures of_one { AreOfOne allocator.new flusher.new }
     // Nothing happens by it.
-    ensures history { group_after result ≡ group_after flusher.entry }
+    ensures history { group_after flusher.new ≡ group_after flusher.old }
 {
     flusher.tell(allocator)
 }
@@ -126,7 +126,7 @@ pub fn tell<'d, 'b, D: Disk, P: Policy + Drop, K>(
 /// two never happen between turns. Over a writer that a fault has broken the clerk is broken.
 pub fn rejoin<'d, 'b, D: Disk, P: Policy + Drop>(
     mut allocator: Allocator<'d, 'b, P>,
-    flusher: Flusher<'d, 'b, D>,
+    mut flusher: Flusher<'d, 'b, D>,
 ) -> Result<Clerk<'d, 'b, D, P>, (Allocator<'d, 'b, P>, Flusher<'d, 'b, D>)>
     requires of_one { AreOfOne allocator flusher }
     ensures joined { IfOk result (λ clerk. IsRejoined allocator.entry flusher.entry clerk) }
@@ -144,7 +144,7 @@ pub fn rejoin<'d, 'b, D: Disk, P: Policy + Drop>(
         → History base (group_of clerk) safe given) }
 {
     parts_are_clerks::<D, P>();
-    let flusher = flusher.compare(&mut allocator);
+    flusher.compare(&mut allocator);
     if allocator.sent() != flusher.received()
         || allocator.has_batch_in_hand()
         || flusher.owes()

@@ -8,6 +8,7 @@ ghost use Rattle.std.specs.Prelude.{◌≡◌, is_err, is_none, MatchResult, Mat
 ghost use Rattle.std.specs.Arc.{arc_value};
 ghost use Rattle.lift_parts.specs.Line.{tried, no_tries};
 
+use core::mem::replace_with;
 use std::marker::Model;
 use std::sync::{Arc, Wait};
 
@@ -123,15 +124,27 @@ impl<Q, S> Side<Q, S> {
 
     /// Its pass meets the other side's, by which each may learn where the other stands. That tries
     /// nothing.
-    pub fn meet<J, K>(&mut self, other: Side<Q, S>) -> Side<Q, S>
+    pub fn meet<J, K>(&mut self, other: &mut Side<Q, S>)
     where
         Q: MetBy<S, J, K>,
-        requires { Q.may_meet self.old.line self.old.pass other.pass }
-        ensures line { (self.new.line ≡ self.old.line) × (result.line ≡ other.line) }
-        ensures met { Q.met self.old.line self.old.pass other.pass self.new.pass result.pass }
-        ensures tries { (self.new.tries ≡ self.old.tries) × (result.tries ≡ other.tries) }
+        requires { Q.may_meet self.old.line self.old.pass other.old.pass }
+        ensures line { (self.new.line ≡ self.old.line) × (other.new.line ≡ other.old.line) }
+        ensures met { Q.met
+            self.old.line self.old.pass other.old.pass self.new.pass other.new.pass }
+        ensures tries { (self.new.tries ≡ self.old.tries) × (other.new.tries ≡ other.old.tries) }
     {
-        let pass = self.line.meet_by(&mut self.pass, other.pass);
-        Side { pass, ..other }
+        let line = &*self.line;
+        let _mine = replace_with(
+            &mut other.pass,
+            &mut self.pass,
+            |theirs: S, mine: &mut S| -> (S, &mut S)
+                requires { Q.may_meet line.now mine.old theirs }
+                ensures met { Q.met line.entry.now mine.entry.now theirs result.1.now result.0 }
+                ensures same { result.1.ghost_name ≡ mine.entry.ghost_name }
+            {
+                let theirs = line.meet_by(mine, theirs);
+                (theirs, mine)
+            },
+        );
     }
 }

@@ -105,8 +105,8 @@ impl<'s> Pace<'s> {
     }
 
     /// Whether both parts have a thread.
-    pub(crate) fn begun(&self) -> Option<BothRun> {
-        self.both.get().copied()
+    pub(crate) fn begun(&self) -> Option<&BothRun> {
+        self.both.get()
     }
 
     /// Waits until both parts have a thread, or somebody rings at the doors.

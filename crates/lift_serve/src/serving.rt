@@ -171,12 +171,12 @@ where
                 Err(over) => return (unrun(parts), over),
             };
             let Parts {
-                allocator,
-                flusher,
-                witness,
+                mut allocator,
+                mut flusher,
+                mut witness,
             } = parts;
             let pace = &hall.pace;
-            let (allocator, flusher, witness, fault) = run(rt, allocator, flusher, pace, witness);
+            let fault = run(rt, &mut allocator, &mut flusher, pace, &mut witness);
             let over = match Over::by(&hall.bound, fault) {
                 Some(given_up) => {
                     hall.give_up(rt, &given_up);

@@ -79,7 +79,7 @@ pub(crate) struct Arrival {
 
 impl Arrival {
     /// The next one at the socket of a serving that is bound so, both of whose parts have a thread.
-    pub(crate) fn at(bound: &ServingTerms, _both: BothRun) -> io::Result<Arrival> {
+    pub(crate) fn at(bound: &ServingTerms, _both: &BothRun) -> io::Result<Arrival> {
         let (stream, _address) = bound.listening().listener.accept()?;
         Ok(Arrival { stream })
     }

@@ -65,7 +65,7 @@ impl<'d, 'b> Hall<'d, 'b> {
     }
 
     /// Waits until both parts have a thread; or all are given up, since one was refused.
-    pub(crate) fn wait_for_both<R: Wait>(&self, rt: &R) -> Result<BothRun, Over>
+    pub(crate) fn wait_for_both<R: Wait>(&self, rt: &R) -> Result<&BothRun, Over>
         ensures { IfErr result (IsEndAt self.now.bound) }
     {
         for _ in rt.forever() {

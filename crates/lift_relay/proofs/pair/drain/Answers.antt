@@ -7,7 +7,7 @@ use Rattle.lift_relay.proofs.Ran.{one_flush}
 use Rattle.lift_relay.proofs.pair.drain.Goals as goal
 
 pub loop-init : goal.loop-init
-loop-init g c = record { closed = c.requires.closed; allocator = NoMore; sends = inl refl; heard = heard_none g.V.Witness.hears c.args.flusher.writer.is_broken c.args.witness; flusher = NoFlush }
+loop-init g c = record { closed = c.requires.closed; allocator = NoMore; sends = inl refl; heard = heard_none g.V.Witness.hears c.args.flusher.now.writer.is_broken c.args.witness.now; flusher = NoFlush }
 
 pub loop-preserved : goal.loop-preserved
 loop-preserved g c =
@@ -19,7 +19,7 @@ loop-preserved g c =
       closed = sent.ensures.closed;
       allocator = sending_more (g.P.Policy.chooses a.policy) a c.loop.allocator.allocator sent.new.self.allocator sent.result i.allocator sent.ensures.sent sent.ensures.full;
       sends = sends_on a c.loop.allocator.allocator sent.new.self.allocator sent.result i.sends (λ is. (sent.ensures.sent is).1) (λ no. waits_by _ _ (sent.ensures.full no));
-      heard = heard_on g.V.Witness.hears _ _ _ c.args.witness c.loop.witness c.turn.new.witness
+      heard = heard_on g.V.Witness.hears _ _ _ c.args.witness.now c.loop.witness c.turn.new.witness
           (turns_stay g.D.Disk.state _ _ _ _ i.flusher) (flush_stays g.D.Disk.state _ _ _ e.turn) i.heard e.heard;
       flusher = one_flush g.D.Disk.state _ _ _ _ _ _ _ _ i.flusher e.turn c.err.ensures.value c.or-first.ensures;
     }

@@ -7,8 +7,8 @@ use Rattle.lift_relay.proofs.relay.rejoin.Goals as goal
 
 pub returns-clause-joined : goal.returns-clause-joined
 returns-clause-joined g c =
-    let a = c.compare-flusher.new.allocator in
-    let f = c.compare-flusher.result in
+    let a = c.compare.new.allocator in
+    let f = c.compare.new.self in
     let counts : length a.end.sent ≡ length f.end.received = search rules in
     let none : a.hand ≡ [] = search rules in
     let joined : IsRejoined a f c.join.result = record {
@@ -17,14 +17,14 @@ returns-clause-joined g c =
       state = search rules;
       writer = search rules;
       policy = search rules;
-      all_received = all_received a.end f.end c.compare-flusher.ensures.queued counts;
+      all_received = all_received a.end f.end c.compare.ensures.queued counts;
       nothing_in_hand = none;
       all_answered = search rules;
       all_safe = search rules;
-      same_state = c.register.ensures.behind none ∙ sym (same_state a.end f.end c.compare-flusher.ensures.queued counts);
+      same_state = c.register.ensures.behind none ∙ sym (same_state a.end f.end c.compare.ensures.queued counts);
     } in
     subst (λ (p : AllocatorState g.row.P.Denot × FlusherState g.row.D.Denot). IsRejoined p.0 p.1 c.join.result)
-    (λ i. (c.compare-flusher.ensures.allocator i, c.compare-flusher.ensures.flusher i)) joined
+    (λ i. (c.compare.ensures.allocator i, c.compare.ensures.flusher i)) joined
 
 pub returns-clause-history : goal.returns-clause-history
 returns-clause-history g c = λ base safe given h.

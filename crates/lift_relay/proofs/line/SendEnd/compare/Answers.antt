@@ -3,8 +3,8 @@ use Rattle.lift_parts.specs.Line.{SendState, ReceiveState}
 use Rattle.lift_relay.proofs.Moves.{joins, both_learn, ends}
 use Rattle.lift_relay.proofs.line.SendEnd.compare.Goals as goal
 
-pub meet-met-requires : goal.meet-met-requires
-meet-met-requires c =
+pub meet-requires : goal.meet-requires
+meet-requires c =
     let mine = c.self.invariant in
     let theirs = c.receiver.invariant in
     let same = ap (λ (x : ReceiveState). x.line) c.receiver.view_is ∙ c.requires.line ∙ sym (ap (λ (x : SendState). x.line) c.self.view_is) in (

@@ -1,4 +1,4 @@
-use Rattle.std.proofs.Common.{rules, ◌≡◌, [], ◌∷◌, sym, subst}
+use Rattle.std.proofs.Common.{rules, ◌≡◌, [], ◌∷◌, refl, sym, subst}
 use mir.Syntax.{Sym}
 use denote.RattleType.{RattleType}
 use denote.Exit.{no}
@@ -31,11 +31,13 @@ returns-after-join g c =
           (subst (λ (x : GatedAllocator g.row.P.Denot). AllocatorTurns (chooses w.in-Err-join.idle.policy) w.in-Err-join.idle x.allocator) (sym w.ran-is) w.allocate-ran.ensures.turns))
     ] in
     let first = c.flush-first.ensures in
-    let e = c.drain.ensures in
+    let drained = c.drain-allocator in
+    let e = drained.ensures in
     record {
-      ran = run_of chooses state a ran.allocator c.drain.result.0 c.captures.flusher c.flush-first.new.flusher c.drain.result.1 c.flush-first.result c.drain.result.3
+      same = refl;
+      ran = run_of chooses state a ran.allocator drained.result.0 c.captures.flusher c.flush-first.new.flusher drained.new.flusher c.flush-first.result drained.result.1
           turned first.turns e.allocator e.flusher e.nothing_in_hand e.all_received;
-      heard = heard_on g.V.Witness.hears _ _ _ c.captures.witness c.flush-first.new.witness c.drain.result.2
+      heard = heard_on g.V.Witness.hears _ _ _ c.captures.witness.now c.flush-first.new.witness drained.new.witness
           (turns_stay state _ _ _ _ first.turns) (turns_stay state _ _ _ _ e.flusher.1) first.heard e.heard;
       closed = λ _. first.closed;
     }
@@ -47,10 +49,11 @@ returns-in-Ok-2 g c =
     let back : c.in-Err.unmade.2 ≡ a = search rules in
     let gate : c.in-Err.unmade.3 ≡ c.captures.gate = search rules in
     let ran = c.in-Ok-2.ran.allocator in
-    let drained = c.drain-in-Ok-2 in
+    let drained = c.drain-allocator-in-Ok-2 in
     let e = drained.ensures in
     record {
-      ran = run_of chooses g.D.Disk.state a ran drained.result.0 c.captures.flusher c.captures.flusher drained.result.1 _ drained.result.3
+      same = refl;
+      ran = run_of chooses g.D.Disk.state a ran drained.result.0 c.captures.flusher c.captures.flusher drained.new.flusher _ drained.result.1
           (subst (λ (x : AllocatorState g.row.P.Denot). AllocatorTurns (chooses x.policy) x ran) back c.in-Ok-2.ensures.comes.0)
           NoFlush e.allocator e.flusher e.nothing_in_hand e.all_received;
       heard = e.heard;
