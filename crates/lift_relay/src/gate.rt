@@ -1,9 +1,9 @@
 //! What says whether a run goes on, and an allocator that turns only where it said so.
 //!
 //! Only a turn asks the gate anew, once it told it what it did, and each call requires the answer that
-//! allows it: so but within a turn a thread that has an allocator can't have one after a no before all
-//! that was sent was received, also where it never returns. The allocator turns in place, and a turn
-//! copies nothing of it.
+//! allows it: so a thread that has an allocator can't have a turn after a no before all that was sent
+//! was received, also where it never returns, except within a turn. The allocator turns in place, and
+//! a turn copies nothing of it.
 
 ghost use Rattle.std.specs.Prelude.{◌≡◌, ◌<◌, ◌≤◌, ℕ, [], length, true, false};
 ghost use Rattle.lift_clerk.specs.declared.counts.Counts.{Counts};
