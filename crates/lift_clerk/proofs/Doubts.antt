@@ -1,204 +1,101 @@
 -- Turns that fail, and turns of a broken clerk.
-use Rattle.std.proofs.Common.{ℕ, ◌≡◌, ◌-◌, ◌<◌, List, [], ◌∷◌, ◌++◌, length, map, take, drop, Option, Some, refl, sym, ap, ◌∙◌, arith}
-use Rattle.std.specs.Prelude.{IsTrue}
-use Rattle.std.specs.List.{AllByRecursion}
-use Rattle.std.proofs.Math.Seq.{take-length, drop-length, take-append_seam, drop-append_seam}
-use Rattle.std.proofs.lemmas.List.{append-nil, length-append, length-drop, take-append-le, drop-append-le}
+use Rattle.std.proofs.Common.{ℕ, ◌≡◌, ◌≢◌, ◌+◌, ◌<◌, true, false, List, [], ◌∷◌, ◌++◌, length, map, Option, refl, sym, ap, subst, ◌∙◌, arith, append_assoc}
+use Rattle.std.specs.Prelude.{replicate}
 use Rattle.lift_base.specs.declared.command.Reply.{Reply}
 use Rattle.lift_base.specs.declared.history.Entry.{Entry}
-use Rattle.lift_building.specs.Plan.{Plan}
-use Rattle.lift_register.specs.Register.{RegisterState}
-use Rattle.lift_register.specs.Register.{register_of}
+use Rattle.lift_desk.specs.Seats.{view_at}
 use Rattle.lift_policy.specs.Eligible.{Choice, any_eligible}
 use Rattle.lift_policy.specs.Step.{State}
 use Rattle.lift_policy.specs.Run.{Run, unknowns}
 use Rattle.lift_policy.specs.declared.command.Command.{Command}
+use Rattle.lift_keeper.specs.Writer.{WriterView}
 use Rattle.lift_world.specs.declared.event.Event.{Event}
-use Rattle.lift_world.specs.declared.event.Kept.TheVariants.{WithBatch}
+use Rattle.lift_world.specs.declared.event.Event.TheVariants.{Seal, Pull, Fold, Fault}
 use Rattle.lift_world.specs.declared.event.Phase.TheVariants.{GateWritten}
 use Rattle.lift_world.specs.declared.event.Taken.{Taken}
-use Rattle.lift_world.specs.World.{World, state_of, safe_list, batch_in_flight, may_keep}
-use Rattle.lift_world.specs.Next.{goes, answer_of, unknown_to}
-use Rattle.lift_world.specs.Asking.{asked_on}
-use Rattle.lift_world.specs.Beside.{is_of_terminals}
+use Rattle.lift_world.specs.World.{World, state_of, safe_list}
+use Rattle.lift_world.specs.Next.{unknown_to, sectors_for_body}
 use Rattle.lift_world.specs.Policies.{RunsAreAny}
-use Rattle.lift_world.specs.Turns.{IsAtRest, IsBrokenAtRest, with_replies, failed, failed_events, turned_broken, broken_events, HasRun}
-use Rattle.lift_clerk.specs.Machine.{IsMachineOf, LooksAgree, LeadsToClerk, ShowsWhole, ShowsBroken, events_while_broken, FailuresAreFailures, BrokenTurnsAreBroken}
+use Rattle.lift_world.specs.Turns.{with_replies, take_events, calls_to, failed_events, broken_events}
+use Rattle.lift_world.specs.Relay.{failing_flush, broken_flush}
+use Rattle.lift_clerk.specs.Machine.{IsMachineOf, LooksAgree, LeadsToClerk, events_while_broken, FailuresAreFailures, BrokenTurnsAreBroken}
 use Rattle.lift_clerk.specs.Clerk.{ClerkState}
+use Rattle.lift_clerk.specs.Turn.{without_batch}
+use Rattle.lift_clerk.specs.TakenAndAnswered.{TakesAndAnswers}
+use Rattle.lift_clerk.specs.Tied.{SentBatch, command_of, all_found, LeadsTo}
 use Rattle.lift_clerk.specs.Steps.{LeavesInDoubt, AnswersUnknown}
-use Rattle.lift_keeper.specs.Writer.{WriterView}
 use Rattle.lift_clerk.specs.Laws.{Laws}
 use Rattle.lift_clerk.specs.lemmas.Adding.{leaves_in_doubt, answers_unknown}
-use Rattle.lift_clerk.specs.lemmas.Standing.{fresh}
-use Rattle.lift_clerk.specs.lemmas.Words.{Ends}
-use Rattle.lift_world.specs.lemmas.Goes.{joined}
-use Rattle.lift_clerk.specs.lemmas.Asked.{Asked, ask, rests, rests_broken, not_both}
-use Rattle.lift_clerk.specs.lemmas.Turned.{splits, follows, safe_all, asked_rests, decided_in}
+use Rattle.lift_clerk.specs.lemmas.Tied.{not_both}
+use Rattle.lift_clerk.specs.lemmas.Allocated.{DecidesSo, run_commands, nothing_decided}
+use Rattle.lift_clerk.specs.lemmas.Flushed.{answer_all, unknown_same, flush_fails, flush_broken}
+use Rattle.lift_clerk.specs.lemmas.Turned.{held, decided_in, rested, w1, scan, answers_are, leads_through}
 
--- what was decided is no matter where each is answered Unknown
-forgotten : (plan : Plan) (choice : Choice) (state next : State) (cs : List Command) (rs : List Reply) → Run plan choice state cs rs next
-    → map unknown_to (with_replies cs rs) ≡ with_replies cs (unknowns cs)
-forgotten plan choice state next [] [] r = refl
-forgotten plan choice state next [] (reply ∷ rs) r = absurd r
-forgotten plan choice state next (c ∷ cs) [] r = absurd r
-forgotten plan choice state next (c ∷ cs) (reply ∷ rs) r =
-    ap (λ (ts : List Taken). unknown_to (record { terminal = c.terminal; number = c.number; body = c.body; reply = reply }) ∷ ts) (forgotten plan choice r.0 next cs rs r.2)
+-- Unknown to each
+unknown_again : (cs : List Command) → map unknown_to (with_replies cs (unknowns cs)) ≡ with_replies cs (unknowns cs)
+unknown_again [] = refl
+unknown_again (c ∷ cs) = ap (λ (xs : List Taken). unknown_to (record { terminal = c.terminal; number = c.number; body = c.body; reply = Rattle.lift_base.specs.declared.command.Reply.TheVariants.Unknown }) ∷ xs) (unknown_again cs)
 
--- what a turn leads to that ends broken
-pub record EndsBroken (w : World) (own : List Event) (cs : List Command) (end : World) : Type 0 where
-  pub first : List Event
-  pub theirs : AllByRecursion (λ (e : Event). IsTrue (is_of_terminals e)) first
-  pub possible : goes (first ++ own) w ≡ Some end
-  pub ends : Ends w cs (unknowns cs) end
-  pub alone : fresh w cs ≡ [] → (first ≡ []) × (end.heard ≡ w.heard)
+all_unknown : (cs : List Command) (rs : List Reply) → map command_of (with_replies cs rs) ≡ cs → length (unknowns cs) ≡ length cs → map unknown_to (with_replies cs rs) ≡ with_replies cs (unknowns cs)
+all_unknown cs rs e long = unknown_same (with_replies cs rs) (with_replies cs (unknowns cs)) (e ∙ sym (held cs (unknowns cs) long)) ∙ unknown_again cs
 
-pub record Doubts (end : World) (safe batch : List Entry) : Type 0 where
-  pub rest : IsBrokenAtRest end
-  pub safe_is : safe_list end ≡ safe
-  pub batch_is : batch_in_flight end ≡ batch
-
-module _ (w : World) (batch : List Entry) (rest : IsAtRest w) where
-  abbrev pub now : List Entry
-  now = w.accepted ++ batch
-
-  pub was_safe : take w.safe now ≡ w.accepted
-  was_safe = ap (λ (n : ℕ). take n now) rest.all_safe ∙ take-append_seam w.accepted batch
-
-  pub in_doubt : take (length now - w.safe) (drop w.safe now) ≡ batch
-  in_doubt =
-      let l = length-append w.accepted batch in
-      let count : length now - length w.accepted ≡ length batch = omega arith in
-      ap (λ (n : ℕ). take (length now - n) (drop n now)) rest.all_safe
-      ∙ ap (λ (xs : List Entry). take (length now - length w.accepted) xs) (drop-append_seam w.accepted batch)
-      ∙ ap (λ (n : ℕ). take n batch) count ∙ take-length batch
-
-module _ (w : World) (batch : List Entry) (rest : IsBrokenAtRest w) where
-  still_safe : take w.safe (w.accepted ++ batch) ≡ take w.safe w.accepted
-  still_safe = take-append-le w.safe w.accepted batch rest.safe_in_range
-
-  still_in_doubt : take (w.flight.upto - w.safe) (drop w.safe (w.accepted ++ batch)) ≡ take (w.flight.upto - w.safe) (drop w.safe w.accepted)
-  still_in_doubt =
-      let l = length-drop w.safe w.accepted in
-      let upto = rest.doubt_in_range in
-      ap (take (w.flight.upto - w.safe)) (drop-append-le w.safe w.accepted batch rest.safe_in_range)
-      ∙ take-append-le (w.flight.upto - w.safe) (drop w.safe w.accepted) batch (omega arith)
-
-module _ (laws : Laws) (w : World) where
-  ends_in_doubt : IsAtRest w → (cs : List Command) (rs : List Reply) (state : State) → Asked w cs → Run w.building any_eligible (state_of w) cs rs state → 0 < length state.batch
-      → (letters : List (Option ℕ)) × ((folds : ℕ) → (end : World) × EndsBroken w (failed_events cs letters folds GateWritten (length state.batch)) cs end
-      × Doubts end (safe_list w) state.batch × IsTrue (may_keep end WithBatch))
-  ends_in_doubt rest [] [] state a r some =
-      let none : state.batch ≡ [] = ap (λ (s : State). s.batch) r ∙ ap (λ (n : ℕ). drop n w.accepted) rest.all_sealed ∙ drop-length w.accepted in
-      let zero_long : length state.batch ≡ 0 = ap length none in
-      absurd (omega arith)
-  ends_in_doubt rest [] (reply ∷ rs) state a r some = absurd r
-  ends_in_doubt rest (c ∷ cs) [] state a r some = absurd r
-  ends_in_doubt rest (c ∷ cs) (reply ∷ rs) state a r some =
-      let w1 : World = asked_on w (fresh w (c ∷ cs)) a.heard in
-      let rest1 : IsAtRest w1 = asked_rests w (c ∷ cs) a rest in
-      let t = laws.failures w1 c cs reply rs state GateWritten rest1 a.found r some tt in
-      let unknown = forgotten w.building any_eligible (state_of w) state (c ∷ cs) (reply ∷ rs) r in (
-        t.0,
-        λ folds. (
-          failed w1 (c ∷ cs) (reply ∷ rs) state GateWritten,
-          record {
-            first = a.events;
-            theirs = a.theirs;
-            possible = joined a.events (failed_events (c ∷ cs) t.0 folds GateWritten (length state.batch)) w w1 a.possible ∙ t.1 folds;
-            ends = record {
-              building = refl;
-              base = refl;
-              asked = refl;
-              answered = ap (λ (ts : List Taken). w.answered ++ map answer_of ts) unknown;
-              given = ap (λ (ts : List Taken). w.given ++ ts) unknown;
-            };
-            alone = a.alone;
-          },
-          record {
-            rest = laws.failures_rest w1 (c ∷ cs) (reply ∷ rs) state GateWritten rest1;
-            safe_is = was_safe w state.batch rest ∙ sym (safe_all w rest);
-            batch_is = in_doubt w state.batch rest;
-          },
-          refl,
-        ),
+module _ {D P : Type 0} (laws : Laws) (w : World) (before after : ClerkState D P) (m : IsMachineOf w before) where
+  -- one that the device fails
+  failed_turn : (cs : List Command) (rs : List Reply) (state : State) → after.keeper.writer.plan ≡ before.keeper.writer.plan → TakesAndAnswers before.seat after.seat cs (unknowns cs) → LooksAgree w cs
+      → before.keeper.writer.is_broken ≡ false → after.keeper.writer.is_broken ≡ true → after.keeper.writer.register ≡ before.keeper.writer.register → after.keeper.writer.doubt ≡ state.batch
+      → Run w.building any_eligible (state_of w) cs rs state → 0 < length state.batch
+      → (letters : List (Option ℕ)) × ((folds : ℕ) → LeadsToClerk w (failed_events cs letters folds GateWritten (length state.batch)) (with_replies cs (unknowns cs)) (safe_list w) after)
+  failed_turn [] rs state plan answers agree whole breaks register doubt run some = absurd (omega (arith, ap length (nothing_decided w [] rs state refl m.between run)))
+  failed_turn (c ∷ cs) rs state plan answers agree whole breaks register doubt run some =
+      let all : List Command = c ∷ cs in
+      let any : all ≢ [] = λ none. cc in
+      let batch : SentBatch = record { commands = with_replies all rs; entries = state.batch } in
+      let same : map command_of batch.commands ≡ all = run_commands w.building any_eligible (state_of w) state all rs run in
+      let decides : DecidesSo (w1 laws w before after m plan all any (unknowns all) answers agree) all batch (without_batch state) =
+      record { replies = rs; decided = state; run = run; commands = refl; entries = refl; after = refl } in
+      let k = scan laws w before after m plan all any (unknowns all) answers agree batch same (without_batch state) (λ e. decides) in
+      let f = flush_fails laws k.1.shows (view_at after.seat) after.keeper.state after.keeper.writer plan (with_replies all (unknowns all)) (all_unknown all rs same answers.one_each)
+      (answers_are laws w before after m plan all any (unknowns all) answers agree batch same) whole breaks register doubt (λ none. absurd (omega (arith, ap length none))) in (
+        k.0,
+        λ folds.
+            let calls : List Event = calls_to (sectors_for_body (length state.batch) + 1) GateWritten in
+            let flush : List Event = failing_flush all_found f.0 folds GateWritten (length state.batch) in
+            leads_through laws w before after m plan all any (unknowns all) answers agree k.0 batch (without_batch state) flush (failed_events all k.0 folds GateWritten (length state.batch)) (safe_list w) k.1
+            (subst (λ (es : List Entry). LeadsTo k.1.end flush (with_replies all (unknowns all)) es (λ (v : World). IsMachineOf v after)) k.1.safe_is (f.2 folds))
+            (append_assoc (take_events all k.0) (Seal ∷ []) flush
+            ∙ ap (λ (es : List Event). take_events all k.0 ++ (Seal ∷ Pull ∷ (replicate folds Fold ++ (calls ++ Fault ∷ es)))) (answer_all all f.0.commands (f.1 ∙ same))),
       )
 
-  broken_asked : (cs : List Command) (a : Asked w cs) → IsBrokenAtRest w → IsBrokenAtRest (asked_on w (fresh w cs) a.heard)
-  broken_asked cs a k = record {
-    broken = k.broken;
-    nothing_flies = k.nothing_flies;
-    nothing_queued = k.nothing_queued;
-    nothing_taken = k.nothing_taken;
-    nothing_due = k.nothing_due;
-    all_sealed = k.all_sealed;
-    safe_in_range = k.safe_in_range;
-    doubt_in_range = k.doubt_in_range;
-  }
-
-  ends_still_broken : IsBrokenAtRest w → (cs : List Command) → Asked w cs
-      → (letters : List (Option ℕ)) × (end : World) × EndsBroken w (events_while_broken cs letters) cs end × Doubts end (safe_list w) (batch_in_flight w) × (may_keep end WithBatch ≡ may_keep w WithBatch)
-  ends_still_broken rest [] a = (
+  -- one of a broken clerk
+  broken_turn : (cs : List Command) → TakesAndAnswers before.seat after.seat cs (unknowns cs) → LooksAgree w cs → before.keeper.writer.is_broken ≡ true → after.keeper.writer ≡ before.keeper.writer
+      → (letters : List (Option ℕ)) × LeadsToClerk w (events_while_broken cs letters) (with_replies cs (unknowns cs)) (safe_list w) after
+  broken_turn [] answers agree was rests = (
     [],
-    w,
-    record {
-      first = [];
-      theirs = tt;
-      possible = refl;
-      ends = record { building = refl; base = refl; asked = sym (append-nil w.asked); answered = sym (append-nil w.answered); given = sym (append-nil w.given) };
-      alone = λ none. (refl, refl);
-    },
-    record { rest = rest; safe_is = refl; batch_is = refl },
-    refl,
+    rested laws w before after m (ap (λ (x : WriterView D). x.plan) rests) [] answers
+        (λ e q. not_both before.keeper.writer.is_broken (ap (λ (x : WriterView D). x.is_broken) (sym rests) ∙ e) was)
+        (ap (λ (x : WriterView D). x.register) rests) (ap (λ (x : WriterView D). x.doubt) rests) (ap (λ (x : WriterView D). x.is_broken) rests),
   )
-  ends_still_broken rest (c ∷ cs) a = by_run (laws.decided w.building (state_of w) (c ∷ cs))
-    where
-      by_replies : (rs : List Reply) (state : State) → Run w.building any_eligible (state_of w) (c ∷ cs) rs state
-          → (letters : List (Option ℕ)) × (end : World) × EndsBroken w (events_while_broken (c ∷ cs) letters) (c ∷ cs) end × Doubts end (safe_list w) (batch_in_flight w) × (may_keep end WithBatch ≡ may_keep w WithBatch)
-      by_replies [] state r = absurd r
-      by_replies (reply ∷ rs) state r =
-          let w1 : World = asked_on w (fresh w (c ∷ cs)) a.heard in
-          let rest1 : IsBrokenAtRest w1 = broken_asked (c ∷ cs) a rest in
-          let t = laws.broken w1 c cs reply rs state rest1 a.found r in (
-            t.0,
-            turned_broken w1 (c ∷ cs) state,
-            record {
-              first = a.events;
-              theirs = a.theirs;
-              possible = joined a.events (broken_events (c ∷ cs) t.0) w w1 a.possible ∙ t.1;
-              ends = record { building = refl; base = refl; asked = refl; answered = refl; given = refl };
-              alone = a.alone;
-            },
-            record { rest = laws.broken_rest w1 (c ∷ cs) state rest1; safe_is = still_safe w state.batch rest; batch_is = still_in_doubt w state.batch rest },
-            refl,
-          )
-
-      by_run : HasRun w.building (state_of w) (c ∷ cs)
-          → (letters : List (Option ℕ)) × (end : World) × EndsBroken w (events_while_broken (c ∷ cs) letters) (c ∷ cs) end × Doubts end (safe_list w) (batch_in_flight w) × (may_keep end WithBatch ≡ may_keep w WithBatch)
-      by_run r = by_replies r.0 r.1 r.2
+  broken_turn (c ∷ cs) answers agree was rests =
+      let all : List Command = c ∷ cs in
+      let any : all ≢ [] = λ none. cc in
+      let plan : after.keeper.writer.plan ≡ before.keeper.writer.plan = ap (λ (x : WriterView D). x.plan) rests in
+      let batch : SentBatch = record { commands = with_replies all (unknowns all); entries = [] } in
+      let same : map command_of batch.commands ≡ all = held all (unknowns all) answers.one_each in
+      let k = scan laws w before after m plan all any (unknowns all) answers agree batch same after.keeper.state (λ e. not_both before.keeper.writer.is_broken e was) in
+      let f = flush_broken laws k.1.shows (view_at after.seat) after.keeper.state after.keeper.writer plan (with_replies all (unknowns all)) (unknown_again all)
+      (answers_are laws w before after m plan all any (unknowns all) answers agree batch same) was rests in (
+        k.0,
+        leads_through laws w before after m plan all any (unknowns all) answers agree k.0 batch after.keeper.state (broken_flush all_found f.0) (broken_events all k.0) (safe_list w) k.1
+            (subst (λ (es : List Entry). LeadsTo k.1.end (broken_flush all_found f.0) (with_replies all (unknowns all)) es (λ (v : World). IsMachineOf v after)) k.1.safe_is (f.2 0))
+            (append_assoc (take_events all k.0) (Seal ∷ []) (broken_flush all_found f.0) ∙ ap (λ (es : List Event). take_events all k.0 ++ (Seal ∷ Pull ∷ es)) (answer_all all f.0.commands (f.1 ∙ same))),
+      )
 
 -- A batch that the device fails is a failed turn of the machine.
 pub failed_batches_are_failures : {D P : Type 0} → Laws → (w : World) (before after : ClerkState D P) → (t : LeavesInDoubt before after) → IsMachineOf w before → LooksAgree w t.may.0.commands
     → (letters : List (Option ℕ)) × ((folds : ℕ) → LeadsToClerk w (failed_events t.may.0.commands letters folds GateWritten (length t.may.0.decided.batch)) (with_replies t.may.0.commands (unknowns t.may.0.commands)) (safe_list w) after)
 failed_batches_are_failures laws w before after t m agree =
-    let cs : List Command = t.may.0.commands in
-    let state : State = t.may.0.decided in
-    let wh : ShowsWhole w before.keeper = m.whole t.may.0.was_whole in
-    let a : Asked w cs = ask laws w m.reached (splits laws w before after m) (rests w wh.at_rest) cs agree t.answers.apart in
-    let run : Run w.building any_eligible (state_of w) cs t.may.0.replies state = decided_in w before m.building wh.state t.may.0 in
-    let e = ends_in_doubt laws w wh.at_rest cs t.may.0.replies state a run t.some in (
-      e.0,
-      λ folds.
-          let k = e.1 folds in
-          follows laws w before after m cs (unknowns cs) t.answers agree t.same_plan (failed_events cs e.0 folds GateWritten (length state.batch)) k.0
-          (record { first = k.1.first; theirs = k.1.theirs; possible = k.1.possible; ends = k.1.ends; alone = k.1.alone }) (safe_list w) k.2.safe_is
-          (λ whole. not_both after.keeper.writer.is_broken whole t.breaks)
-          (λ broken. record {
-            at_rest = k.2.rest;
-            safe = ap (λ (r : RegisterState). register_of r (safe_list k.0)) k.1.ends.base ∙ ap (register_of w.base) k.2.safe_is ∙ wh.safe ∙ sym t.same_register;
-            doubt = k.2.batch_is ∙ t.may.1;
-            may_be_kept = λ some. k.3;
-          }),
-    )
+    let d = t.may.0 in
+    failed_turn laws w before after m d.commands d.replies d.decided t.same_plan t.answers agree d.was_whole t.breaks t.same_register (sym t.may.1) (decided_in w before m d) t.some
 
 pub failures_are_failures : {D P : Type 0} → Laws → (choice : Choice) → RunsAreAny choice → FailuresAreFailures D P choice
 failures_are_failures laws choice any w before after t m agree = failed_batches_are_failures laws w before after (leaves_in_doubt choice any before after t) m agree
@@ -206,22 +103,7 @@ failures_are_failures laws choice any w before after t m agree = failed_batches_
 -- What is answered after a fault is a turn of the broken machine.
 pub unknowns_are_broken_turns : {D P : Type 0} → Laws → (w : World) (before after : ClerkState D P) → (t : AnswersUnknown before after) → IsMachineOf w before → LooksAgree w t.commands
     → (letters : List (Option ℕ)) × LeadsToClerk w (events_while_broken t.commands letters) (with_replies t.commands (unknowns t.commands)) (safe_list w) after
-unknowns_are_broken_turns {D} laws w before after t m agree =
-    let cs : List Command = t.commands in
-    let br : ShowsBroken w before.keeper = m.broken t.was_broken in
-    let a : Asked w cs = ask laws w m.reached (splits laws w before after m) (rests_broken w br.at_rest) cs agree t.answers.apart in
-    let k = ends_still_broken laws w br.at_rest cs a in (
-      k.0,
-      follows laws w before after m cs (unknowns cs) t.answers agree (ap (λ (x : WriterView D). x.plan) t.rests) (events_while_broken cs k.0) k.1
-          (record { first = k.2.first; theirs = k.2.theirs; possible = k.2.possible; ends = k.2.ends; alone = k.2.alone }) (safe_list w) k.3.safe_is
-          (λ whole. not_both before.keeper.writer.is_broken (ap (λ (x : WriterView D). x.is_broken) (sym t.rests) ∙ whole) t.was_broken)
-          (λ broken. record {
-            at_rest = k.3.rest;
-            safe = ap (λ (r : RegisterState). register_of r (safe_list k.1)) k.2.ends.base ∙ ap (register_of w.base) k.3.safe_is ∙ br.safe ∙ ap (λ (x : WriterView D). x.register) (sym t.rests);
-            doubt = k.3.batch_is ∙ br.doubt ∙ ap (λ (x : WriterView D). x.doubt) (sym t.rests);
-            may_be_kept = λ some. k.4 ∙ br.may_be_kept (λ none. some (ap (λ (x : WriterView D). x.doubt) t.rests ∙ none));
-          }),
-    )
+unknowns_are_broken_turns laws w before after t m agree = broken_turn laws w before after m t.commands t.answers agree t.was_broken t.rests
 
 pub broken_turns_are_broken : {D P : Type 0} → Laws → BrokenTurnsAreBroken D P
 broken_turns_are_broken laws w before after t was m agree = unknowns_are_broken_turns laws w before after (answers_unknown before after t was) m agree

@@ -22,18 +22,15 @@ use Rattle.lift_world.specs.declared.event.Answer.{Answer}
 use Rattle.lift_world.specs.declared.event.Event.TheVariants.{Ask as Asking, Hear}
 use Rattle.lift_world.specs.Decided.{when}
 use Rattle.lift_world.specs.World.{World, asks, is_answer_to, is_off, safe_list}
-use Rattle.lift_world.specs.Headline.{HearsInOrder, AllAskOneByOne}
 use Rattle.lift_world.specs.Next.{next, goes, may_ask, asking, hearing, next_answer}
-use Rattle.lift_clerk.specs.Clerk.{ClerkState}
 use Rattle.lift_clerk.specs.Steps.{GroupState}
 use Rattle.lift_clerk.specs.Laws.{Laws}
-use Rattle.lift_clerk.specs.Machine.{IsReached, IsMachineOf}
 use Rattle.lift_clerk.specs.Group.{Terminals, ShowsTerminal, IsGroup, ChangesAt, TerminalAsks, TerminalHears, HearsAnswers}
 use Rattle.lift_clerk.specs.Group.{ToldAnswersAreHeard, IsRead, HeardNothing, Met, ToldAnswers}
-use Rattle.lift_clerk.specs.lemmas.Asked.{rests, rests_broken}
-use Rattle.lift_clerk.specs.lemmas.Reopened.{goes_once}
+use Rattle.lift_clerk.specs.lemmas.Tied.{hears, one_by_one, is_queued}
+use Rattle.lift_world.specs.lemmas.Goes.{one}
 use Rattle.lift_clerk.specs.lemmas.Words.{last_has, asks_both, asks_count, answers_both, answers_long}
-use Rattle.lift_clerk.proofs.Terminals.{terminals_keep_it}
+use Rattle.lift_clerk.specs.lemmas.Between.{terminals_keep}
 
 at_least : (a b : ℕ) → ¬ (a < b) → b ≤ a
 at_least a b h = omega arith
@@ -52,19 +49,6 @@ at_seam (x ∷ xs) ys y = at_seam xs ys y
 
 pub cons-head : (x y : ℕ) (xs ys : List ℕ) → x ∷ xs ≡ y ∷ ys → x ≡ y
 cons-head x y xs ys e = cc
-
--- the power is on between calls
-pub is_on : {D P : Type 0} (w : World) (clerk : ClerkState D P) → IsMachineOf w clerk → (b : Bool)
-    → clerk.keeper.writer.is_broken ≡ b → is_off w.power ≡ false
-is_on w clerk m false e = (rests w (m.whole e).at_rest).on
-is_on w clerk m true e = (rests_broken w (m.broken e).at_rest).on
-
-module _ (laws : Laws) (w : World) (reached : IsReached w) where
-  pub hears : HearsInOrder w
-  hears = subst HearsInOrder reached.1 (laws.hears w.building w.base reached.0)
-
-  pub one_by_one : AllAskOneByOne w
-  one_by_one = subst AllAskOneByOne reached.1 (laws.one_by_one w.building w.base reached.0)
 
 -- how many words a terminal has
 module _ (w : World) (t : ℕ) (view : TerminalView) (s : ShowsTerminal w t view) where
@@ -92,7 +76,7 @@ same_terminal w end t old new a h na nh s = record {
 module _ {D : Type 0} (laws : Laws) (w : World) (clerk : GroupState D) (before after : Terminals)
     (t : ℕ) (g : IsGroup w clerk before) where
   on : is_off w.power ≡ false
-  on = is_on w clerk g.machine clerk.keeper.writer.is_broken refl
+  on = (is_queued g.machine).on
 
   order : (rest : List Answer)
       × (filter (is_answer_to t) w.heard ++ rest ≡ filter (is_answer_to t) w.answered)
@@ -175,9 +159,9 @@ module _ {D : Type 0} (laws : Laws) (w : World) (clerk : GroupState D) (before a
         × (end.base ≡ w.base)
     asks_is_ask = (
       asked_then,
-      goes_once w asked_then (Asking t ask.number ask.body) possible,
+      one (Asking t ask.number ask.body) [] w asked_then possible,
       record {
-        machine = terminals_keep_it laws w asked_then clerk
+        machine = terminals_keep laws w asked_then
             (Asking t ask.number ask.body) refl possible g.machine;
         theirs = λ u.
             each_asked u (eqb u t) refl;
@@ -273,9 +257,9 @@ module _ {D : Type 0} (laws : Laws) (w : World) (clerk : GroupState D) (before a
           × (safe_list end ≡ safe_list w) × (end.given ≡ w.given) × (end.base ≡ w.base)
       hears_this = (
         heard_then,
-        goes_once w heard_then (Hear t) can_hear,
+        one (Hear t) [] w heard_then can_hear,
         record {
-          machine = terminals_keep_it laws w heard_then clerk (Hear t) refl can_hear g.machine;
+          machine = terminals_keep laws w heard_then (Hear t) refl can_hear g.machine;
           theirs = λ u. each_heard u (eqb u t) refl;
         },
         refl,

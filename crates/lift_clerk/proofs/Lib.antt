@@ -2,7 +2,6 @@ pub mod Answered
 pub mod Turning
 pub mod Doubts
 pub mod Crashes
-pub mod Terminals
 pub mod Told
 pub mod Histories
 pub mod Moments

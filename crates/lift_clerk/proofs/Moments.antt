@@ -23,7 +23,7 @@ use Rattle.lift_clerk.specs.History.{History, Turned}
 use Rattle.lift_clerk.specs.Keeping.{ImageKeeps, CrashesKeep, LeavesSafe, AdvancesFrom}
 use Rattle.lift_clerk.specs.Once.{TurnsOnce, TurnAdvances}
 use Rattle.lift_clerk.specs.lemmas.Adding.{added}
-use Rattle.lift_clerk.specs.lemmas.Asked.{not_both}
+use Rattle.lift_clerk.specs.lemmas.Tied.{not_both}
 use Rattle.lift_clerk.specs.lemmas.Committed.{moment_of}
 use Rattle.lift_clerk.specs.lemmas.Keeps.{kept_now}
 use Rattle.lift_clerk.proofs.Histories.{moments_stand}

@@ -23,7 +23,8 @@ use Rattle.lift_world.specs.World.{World, start, asks, is_answer_to, safe_list}
 use Rattle.lift_world.specs.Next.{goes}
 use Rattle.lift_clerk.specs.TakenAndAnswered.{TakesAndAnswers, answer_words, ask_of}
 use Rattle.lift_clerk.specs.Steps.{GroupState, Safe, MayAdd}
-use Rattle.lift_clerk.specs.Machine.{IsReached, IsMachineOf, ShowsWords, LeadsToClerk, WaitsNowhere, waiting_in, IsNewClerk, kept_after}
+use Rattle.lift_clerk.specs.Tied.{IsReached}
+use Rattle.lift_clerk.specs.Machine.{IsMachineOf, LeadsToClerk, WaitsNowhere, waiting_in, IsNewClerk, kept_after}
 use Rattle.lift_clerk.specs.Laws.{Laws}
 use Rattle.lift_policy.specs.Run.{unknowns as all_unknown}
 use Rattle.lift_clerk.specs.History.{History, Began, Turned, Reopened, Rested, Cut, BeginsOver}
@@ -34,34 +35,13 @@ use Rattle.lift_world.specs.lemmas.Goes.{joined}
 use Rattle.lift_clerk.specs.lemmas.Adding.{failed, turned_while_broken}
 use Rattle.lift_clerk.specs.lemmas.Turned.{batches_are_turns}
 use Rattle.lift_clerk.specs.lemmas.Reopened.{new_view, reopenings_are_reopenings, rests_are_no_events, faults_are_events, begins_at_start}
+use Rattle.lift_clerk.specs.lemmas.Found.{few}
 use Rattle.lift_clerk.specs.lemmas.Words.{asks_count}
 use Rattle.lift_clerk.proofs.Doubts.{failed_batches_are_failures, unknowns_are_broken_turns}
 use Rattle.lift_clerk.proofs.Crashes.{IsCutAt, IsKept, crashes_are_cuts, cuts_at, begins_after_crash}
-use Rattle.lift_clerk.proofs.Groups.{hears, one_by_one, same_terminal, asks_is_ask, hears_is_hear, told_answers_are_heard, reads_are_no_events as reads_change_nothing}
+use Rattle.lift_clerk.specs.lemmas.Tied.{hears, empty_of}
+use Rattle.lift_clerk.proofs.Groups.{same_terminal, asks_is_ask, hears_is_hear, told_answers_are_heard, reads_are_no_events as reads_change_nothing}
 use Rattle.lift_clerk.proofs.Stood.{Stand, stand_agree, stand_waits, asked_stand, taken_asked}
-
-empty_of : {A : Type 0} (xs : List A) → length xs ≡ 0 → xs ≡ []
-empty_of [] e = refl
-empty_of (x ∷ xs) e = absurd (omega arith)
-
--- a new desk
-module _ (laws : Laws) where
-  -- an ask waits at most at each terminal
-  few : (w : World) → IsReached w → (t : ℕ) (v : ClerkView) (k : ShowsWords w t v) → length k.waiting ≤ 1
-  few w reached t v k =
-      let one = (one_by_one laws w reached t).asked in
-      let order = hears laws w reached t in
-      let even = k.even in
-      omega (
-        arith,
-        length-append (filter (is_answer_to t) w.heard) order.0,
-        ap length order.1,
-        length-filter (is_answer_to t) w.heard,
-        length-filter (is_answer_to t) w.answered,
-        length-filter (asks t) w.asked,
-        ap length k.asked,
-        length-append k.first k.waiting,
-      )
 
 module _ {D : Type 0} (laws : Laws) where
   -- at a new desk nothing was asked
@@ -73,7 +53,7 @@ module _ {D : Type 0} (laws : Laws) where
     nothing_answered =
         let k = m.words t in
         let even = k.even in
-        omega (arith, ap length (sym k.taken ∙ ap (λ (v : ClerkView). v.taken) no_words), asks_count 1 (map ask_of k.first), length-map k.first ask_of)
+        omega (arith, ap length (sym k.looked ∙ ap (λ (v : ClerkView). v.taken) no_words), asks_count 1 (map ask_of k.first), length-map k.first ask_of)
 
     nothing_asked : filter (asks t) w.asked ≡ []
     nothing_asked = ap (λ (n : ℕ). drop n (filter (asks t) w.asked)) (sym nothing_answered) ∙ none t
@@ -137,11 +117,14 @@ module _ {D : Type 0} (laws : Laws) where
       → LeadsToPast w own after terminals safe given → LeadsToPast w own after terminals (safe ++ []) given
   none_safe w own given safe after terminals k = subst (λ (xs : List Entry). LeadsToPast w own after terminals xs given) (sym (append-nil safe)) k
 
+  at_most : (w : World) (clerk : GroupState D) (m : IsMachineOf w clerk) (t : ℕ) → length (m.words t).waiting ≤ 1
+  at_most w clerk m t = let one = few laws w m.reached t (m.words t) in omega arith
+
   -- what a step takes stands
   stood : (w : World) (before after : GroupState D) (terminals : Terminals) (cs : List Command) (rs : List Reply) → IsGroup w before terminals → TakesAndAnswers before.seat after.seat cs rs
       → TakesAsks after terminals → Stand w cs
   stood w before after terminals cs rs g answers takes =
-      asked_stand w before terminals g (few laws w g.machine.reached) cs answers.apart (taken_asked before after terminals cs rs answers takes)
+      asked_stand w before terminals g (at_most w before g.machine) cs answers.apart (taken_asked before after terminals cs rs answers takes)
 
   begin : PastsBegin D
   begin group terminals sound of b new =
@@ -233,7 +216,7 @@ module _ {D : Type 0} (laws : Laws) where
       ([], refl, k.kept, over w w [] before after terminals fresh safe batch given image p (inl same) doubt b new refl refl refl refl m.reached k)
   cuts w before after terminals fresh safe batch given image p (inr a) asked doubt b new =
       let m = p.shows.machine in
-      let stand : Stand w a.0.commands = asked_stand w before terminals p.shows (few laws w m.reached) a.0.commands a.0.apart asked in
+      let stand : Stand w a.0.commands = asked_stand w before terminals p.shows (at_most w before m) a.0.commands a.0.apart asked in
       let c : IsCutAt w (kept_after (safe_list w) batch doubt) image = cuts_at laws w before batch image m (inr a) (stand_agree w a.0.commands stand) doubt in
       (c.before, tt, c.keeps.kept, over w c.there c.before before after terminals fresh safe batch given image p (inr a) doubt b new c.possible c.same_building c.same_base c.given_is c.reached c.keeps)
 

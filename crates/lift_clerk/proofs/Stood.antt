@@ -1,8 +1,8 @@
 -- What a step takes was asked before it, by the desk's rule.
-use Rattle.std.proofs.Common.{◌≡◌, ◌≢◌, inr, ℕ, suc, ◌+◌, ◌≤◌, Bool, true, false, cond, eqb, List, [], ◌∷◌, ◌++◌, map, length, refl, sym, ap, ◌∙◌, subst, arith, append_assoc}
+use Rattle.std.proofs.Common.{◌≡◌, ◌≢◌, inr, ℕ, suc, ◌+◌, ◌≤◌, Bool, true, false, eqb, List, [], ◌∷◌, ◌++◌, map, length, refl, sym, ap, ◌∙◌, subst, arith, append_assoc}
 use Rattle.std.specs.Prelude.{All, filter}
 use Rattle.std.specs.List.{AllByRecursion}
-use Rattle.std.proofs.lemmas.Bool.{eqb-true, ne_eqb, eq-eqb, false≢true}
+use Rattle.std.proofs.lemmas.Bool.{eqb-true, eq-eqb, false≢true}
 use Rattle.std.proofs.lemmas.List.{append_cancel_left, append-nil}
 use Rattle.std.proofs.lemmas.List.Elements.{filter_passes}
 use mathlib.Core.List.{IsPrefix, map-append}
@@ -18,12 +18,12 @@ use Rattle.lift_world.specs.declared.event.Taken.{Taken}
 use Rattle.lift_world.specs.World.{World, asks}
 use Rattle.lift_world.specs.Turns.{with_replies}
 use Rattle.lift_clerk.specs.TakenAndAnswered.{ask_of, AreApart, TakesAndAnswers}
-use Rattle.lift_clerk.specs.Machine.{waiting_in, LooksAgree, ShowsWords}
+use Rattle.lift_clerk.specs.Machine.{waiting_in, LooksAgree}
 use Rattle.lift_clerk.specs.Steps.{GroupState}
 use Rattle.lift_clerk.specs.Group.{Terminals, ShowsTerminal, IsGroup, TakesAsks, WereAsked}
 use Rattle.lift_clerk.specs.lemmas.Lists.{AreOthers, no_asks}
-use Rattle.lift_clerk.specs.lemmas.Standing.{waiting_is}
-use Rattle.lift_clerk.specs.lemmas.Words.{last_has, one_ask, asks_both, asks_count, splits_of}
+use Rattle.lift_clerk.specs.lemmas.Standing.{Splits, splits_of, waiting_is, own_alone, not_own}
+use Rattle.lift_clerk.specs.lemmas.Words.{last_has, one_ask, asks_both, asks_count}
 use Rattle.lift_clerk.proofs.Groups.{cons-head}
 
 -- the ask of each command waits in this world
@@ -40,7 +40,7 @@ stand_waits w (c ∷ cs) [] h = tt
 stand_waits w (c ∷ cs) (r ∷ rs) h = ((λ none. let wrong : c ∷ [] ≡ [] = sym h.0 ∙ none in cc), stand_waits w cs rs h.1)
 
 -- one command, of a terminal that asked at most one more than was answered
-module _ (w : World) (c : Command) (view : ClerkView) (own : TerminalView) (shows : ShowsWords w c.terminal view) (theirs : ShowsTerminal w c.terminal own) (few : length shows.waiting ≤ 1)
+module _ (w : World) (c : Command) (view : ClerkView) (own : TerminalView) (shows : Splits w c.terminal) (looked : view.taken ≡ ask_words 1 (map ask_of shows.first)) (theirs : ShowsTerminal w c.terminal own) (few : length shows.waiting ≤ 1)
     (spelled : IsAsk (ask_of c)) (fits : IsPrefix (view.taken ++ ask_words (suc (length view.taken)) (ask_of c ∷ [])) own.asked) where
   abbrev t : ℕ
   t = c.terminal
@@ -57,7 +57,7 @@ module _ (w : World) (c : Command) (view : ClerkView) (own : TerminalView) (show
   begins : word ∷ fits.0 ≡ ask_words (1 + length firsts) (map ask_of shows.waiting)
   begins =
       append_cancel_left (ask_words 1 firsts) (word ∷ fits.0) (ask_words (1 + length firsts) (map ask_of shows.waiting))
-      (ap (λ (xs : List ℕ). xs ++ word ∷ fits.0) (sym shows.taken) ∙ sym (append_assoc view.taken (word ∷ []) fits.0) ∙ fits.1 ∙ theirs.asked ∙ ap (ask_words 1) all_asks
+      (ap (λ (xs : List ℕ). xs ++ word ∷ fits.0) (sym looked) ∙ sym (append_assoc view.taken (word ∷ []) fits.0) ∙ fits.1 ∙ theirs.asked ∙ ap (ask_words 1) all_asks
       ∙ asks_both 1 firsts (map ask_of shows.waiting))
 
   one : (d : Command) → shows.waiting ≡ d ∷ [] → waiting_in w t ≡ c ∷ []
@@ -66,12 +66,12 @@ module _ (w : World) (c : Command) (view : ClerkView) (own : TerminalView) (show
       let at : d.terminal ≡ t =
       eqb-true d.terminal t (last_has (λ (x : Command). asks t x ≡ true) shows.first d [] (subst (All (λ (x : Command). asks t x ≡ true)) asked (filter_passes (asks t) w.asked))) in
       let theirs_spelled : IsAsk (ask_of d) = last_has IsAsk firsts (ask_of d) [] (subst (All IsAsk) (all_asks ∙ ap (λ (cs : List Command). firsts ++ map ask_of cs) e) theirs.in_range) in
-      let count : suc (length view.taken) ≡ 1 + length firsts = omega (arith, ap length shows.taken, asks_count 1 firsts) in
+      let count : suc (length view.taken) ≡ 1 + length firsts = omega (arith, ap length looked, asks_count 1 firsts) in
       let first : word ≡ ask_word (1 + length firsts) d.number d.body =
       cons-head word (ask_word (1 + length firsts) d.number d.body) fits.0 [] (begins ∙ ap (λ (cs : List Command). ask_words (1 + length firsts) (map ask_of cs)) e) in
       let same = one_ask (1 + length firsts) (1 + length firsts) (ask_of c) (ask_of d) spelled theirs_spelled (ap (λ (n : ℕ). ask_word n c.number c.body) (sym count) ∙ first) in
       let is : d ≡ c = λ i. record { terminal = at i; number = sym same.0 i; body = sym same.1 i } in
-      waiting_is w t (splits_of w t view shows) ∙ e ∙ ap (λ (x : Command). x ∷ []) is
+      waiting_is w t shows ∙ e ∙ ap (λ (x : Command). x ∷ []) is
 
   by_waiting : (waiting : List Command) → shows.waiting ≡ waiting → waiting_in w t ≡ c ∷ []
   by_waiting [] e = let wrong : word ∷ fits.0 ≡ [] = begins ∙ ap (λ (cs : List Command). ask_words (1 + length firsts) (map ask_of cs)) e in cc
@@ -81,20 +81,11 @@ module _ (w : World) (c : Command) (view : ClerkView) (own : TerminalView) (show
   pub stands : waiting_in w t ≡ c ∷ []
   stands = by_waiting shows.waiting refl
 
--- one of each terminal at most
-own_alone : (c : Command) (cs : List Command) → AreOthers c.terminal cs → filter (asks c.terminal) (c ∷ cs) ≡ c ∷ []
-own_alone c cs others =
-    ap (λ (b : Bool). cond b (c ∷ filter (asks c.terminal) cs) (filter (asks c.terminal) cs)) (eq-eqb c.terminal c.terminal refl)
-    ∙ ap (λ (xs : List Command). c ∷ xs) (no_asks c.terminal cs others)
-
-not_own : (t : ℕ) (c : Command) (cs : List Command) → c.terminal ≢ t → filter (asks t) (c ∷ cs) ≡ filter (asks t) cs
-not_own t c cs apart = ap (λ (b : Bool). cond b (c ∷ filter (asks t) cs) (filter (asks t) cs)) (ne_eqb c.terminal t apart)
-
 shorter : (xs ys zs : List ℕ) → IsPrefix (xs ++ ys) zs → IsPrefix (xs ++ []) zs
 shorter xs ys zs p = (ys ++ p.0, ap (λ (ns : List ℕ). ns ++ (ys ++ p.0)) (append-nil xs) ∙ sym (append_assoc xs ys p.0) ∙ p.1)
 
 module _ {D : Type 0} (w : World) (group : GroupState D) (terminals : Terminals) (g : IsGroup w group terminals)
-    (few : (t : ℕ) (v : ClerkView) (k : ShowsWords w t v) → length k.waiting ≤ 1) where
+    (few : (t : ℕ) → length (g.machine.words t).waiting ≤ 1) where
   abbrev taken : ℕ → List ℕ
   taken t = (view_at group.seat t).taken
 
@@ -113,9 +104,8 @@ module _ {D : Type 0} (w : World) (group : GroupState D) (terminals : Terminals)
   stand_all : (cs : List Command) → AreApart cs → All IsAsk (map ask_of cs) → Front cs → Stand w cs
   stand_all [] apart spelled front = tt
   stand_all (c ∷ cs) apart spelled front =
-      let t : ℕ = c.terminal in
-      let shows : ShowsWords w t (view_at group.seat t) = g.machine.words t in (
-        stands w c (view_at group.seat t) (terminals t) shows (g.theirs t) (few t (view_at group.seat t) shows) (spelled 0 (ask_of c) (omega arith))
+      let t : ℕ = c.terminal in (
+        stands w c (view_at group.seat t) (terminals t) (splits_of g.machine t) (g.machine.words t).looked (g.theirs t) (few t) (spelled 0 (ask_of c) (omega arith))
             (subst (FrontAt t) (own_alone c cs apart.0) (front t)),
         stand_all cs apart.1 (λ k d below. spelled (suc k) d (omega arith)) (λ u. later_at c cs apart.0 front u (eqb c.terminal u) refl),
       )

@@ -14,10 +14,10 @@ use Rattle.lift_world.specs.Asking.{AsksStand}
 use Rattle.lift_world.specs.Beside.{GoesAreRuns, EventsJoin}
 use Rattle.lift_world.specs.Headline.{HearsInOrder, AllAskOneByOne, RecoversAcknowledged}
 use Rattle.lift_world.specs.Headline.{RecoversLetters}
-use Rattle.lift_world.specs.Possible.{ReopensAfterCut, Seals, PullsInTurn, CallsInOrder}
-use Rattle.lift_world.specs.Turns.{IsAtRest, HasRun, RunsAreTakes, TurnsAreRuns, FailuresAreRuns}
-use Rattle.lift_world.specs.Turns.{BrokenTurnsAreRuns, TurnsEndAtRest, FailuresEndAtRest}
-use Rattle.lift_world.specs.Turns.{BrokenTurnsEndAtRest, ReopeningsEndAtRest}
+use Rattle.lift_world.specs.Possible.{ReopensAfterCut, PullsInTurn, CallsInOrder}
+use Rattle.lift_world.specs.Relay.{IsQueueInOrder, AllocationsAreEvents, FlushesAreEvents}
+use Rattle.lift_world.specs.Relay.{FailedFlushesAreEvents, BrokenFlushesAreEvents, PartsMeet}
+use Rattle.lift_world.specs.Turns.{IsAtRest, HasRun, ReopeningsEndAtRest}
 use Rattle.lift_world.specs.Turns.{RunningReopeningsEndAtRest, FailedReopeningsEndAtRest}
 use Rattle.lift_world.specs.Turns.{CutsEndAtRest}
 use Rattle.lift_world.specs.Headline.{IsOfBuilding}
@@ -27,14 +27,15 @@ use Rattle.lift_clerk.specs.Machine.{TerminalsKeepIt}
 pub record Laws : Type 0 where
   pub asks : (w : World) → AsksStand w
   pub looks : (w : World) (t : ℕ) (c : Command) → LooksFindAsks w t c
-  pub turns : (w : World) → TurnsAreRuns w
-  pub failures : (w : World) → FailuresAreRuns w
-  pub broken : (w : World) → BrokenTurnsAreRuns w
+  pub allocations : (w : World) → AllocationsAreEvents w
+  pub flushes : (w : World) → FlushesAreEvents w
+  pub failed_flushes : (w : World) → FailedFlushesAreEvents w
+  pub broken_flushes : (w : World) → BrokenFlushesAreEvents w
+  pub parts : (w : World) → PartsMeet w
+  pub in_order : (building : Plan) (base : RegisterState) (events : List Event)
+      → IsQueueInOrder (run events (start building base))
   pub decided : (building : Plan) (state : State) (commands : List Command)
       → HasRun building state commands
-  pub turns_rest : (w : World) → TurnsEndAtRest w
-  pub failures_rest : (w : World) → FailuresEndAtRest w
-  pub broken_rest : (w : World) → BrokenTurnsEndAtRest w
   pub hears : (building : Plan) (base : RegisterState) (events : List Event) → HearsInOrder (run events (start building base))
   pub one_by_one : (building : Plan) (base : RegisterState) (events : List Event)
       → AllAskOneByOne (run events (start building base))
@@ -44,8 +45,6 @@ pub record Laws : Type 0 where
   pub reopenings : (w : World) → ReopeningsEndAtRest w
   pub cuts : (w : World) → CutsEndAtRest w
   pub after_cut : (w : World) → ReopensAfterCut w
-  pub scans : (w : World) → RunsAreTakes w
-  pub seals : (w : World) → Seals w
   pub pulls : (w : World) → PullsInTurn w
   pub calls : (w : World) → CallsInOrder w
   pub acknowledged : (building : Plan) (base : RegisterState) (events : List Event)

@@ -4,6 +4,7 @@ pub mod Turn
 pub mod Answering
 pub mod Scanning
 pub mod TakenAndAnswered
+pub mod Tied
 pub mod Steps
 pub mod Machine
 pub mod Once

@@ -1,74 +1,36 @@
 -- What the machine of events is while a clerk runs, and which of its events the clerk's calls are.
 use Rattle.std.specs.Prelude.{ℕ, ◌≡◌, ◌≢◌, ◌⊎◌, true, false, List, [], ◌∷◌, ◌++◌}
-use Rattle.std.specs.Prelude.{length, map, filter, drop, count_by, Option, Some}
+use Rattle.std.specs.Prelude.{length, filter, drop, count_by, Option, Some}
 use Rattle.std.specs.Prelude.{IsTrue}
 use Rattle.std.specs.List.{AllByRecursion}
 use mathlib.Core.Logic.{inl, inr}
 use Rattle.lift_base.specs.declared.history.Entry.{Entry}
 use Rattle.lift_register.specs.Register.{register_of}
-use Rattle.lift_desk.specs.declared.view.ClerkView.{ClerkView}
-use Rattle.lift_desk.specs.Spelled.{ask_words}
 use Rattle.lift_desk.specs.Seats.{view_at, clerk_of}
 use Rattle.lift_policy.specs.Eligible.{Choice}
 use Rattle.lift_policy.specs.declared.command.Command.{Command}
 use Rattle.lift_policy.specs.Run.{unknowns}
 use Rattle.lift_decider.specs.Decider.{starting}
-use Rattle.lift_keeper.specs.Keeper.{KeeperView}
 use Rattle.lift_world.specs.declared.event.Event.{Event}
-use Rattle.lift_world.specs.declared.event.Kept.TheVariants.{WithBatch}
 use Rattle.lift_world.specs.declared.event.Phase.TheVariants.{GateWritten}
 use Rattle.lift_world.specs.declared.event.Taken.{Taken}
-use Rattle.lift_world.specs.World.{World, start, asks, is_answer_to, state_of}
-use Rattle.lift_world.specs.World.{safe_list, batch_in_flight, may_keep}
-use Rattle.lift_world.specs.Next.{next, run, goes}
+use Rattle.lift_world.specs.World.{World, asks, is_answer_to}
+use Rattle.lift_world.specs.World.{safe_list}
+use Rattle.lift_world.specs.Next.{next, goes}
 use Rattle.lift_world.specs.Beside.{is_of_terminals}
-use Rattle.lift_world.specs.Turns.{IsAtRest, IsBrokenAtRest, with_replies}
+use Rattle.lift_world.specs.Turns.{with_replies}
 use Rattle.lift_world.specs.Turns.{turn_events, failed_events, broken_events}
-use Rattle.lift_clerk.specs.TakenAndAnswered.{ask_of, answer_words}
+use Rattle.lift_clerk.specs.Tied.{IsTied}
 use Rattle.lift_clerk.specs.declared.counts.Counts.{Counts}
 use Rattle.lift_clerk.specs.Clerk.{ClerkState}
 use Rattle.lift_clerk.specs.Turn.{IsTurn, IsFailedTurn, IsBrokenTurn}
 use Rattle.lift_clerk.specs.Visits.{commands_of}
 
--- The clerk's words of a terminal: what it took is the first of what the machine's terminal asked,
--- and what it answered is what the machine answered there, to all of that. What the terminal asked
--- since may wait.
-pub record ShowsWords (w : World) (terminal : ℕ) (view : ClerkView) : Type 0 where
-  pub first : List Command
-  pub waiting : List Command
-  pub asked : filter (asks terminal) w.asked ≡ first ++ waiting
-  pub taken : view.taken ≡ ask_words 1 (map ask_of first)
-  pub answered : view.answered ≡ answer_words 1 (filter (is_answer_to terminal) w.answered)
-  pub even : length first ≡ count_by (is_answer_to terminal) w.answered
-
--- While nothing has failed the machine is at rest, decides on what the keeper shows, and its safe
--- list is what is safe.
-pub record ShowsWhole {D : Type 0} (w : World) (keeper : KeeperView D) : Type 0 where
-  pub at_rest : IsAtRest w
-  pub state : state_of w ≡ keeper.state
-  pub safe : register_of w.base (safe_list w) ≡ keeper.writer.register
-  pub no_doubt : keeper.writer.doubt ≡ []
-
--- After a fault its safe list is what was safe before it, and its batch in doubt is the keeper's: a
--- reopening may keep it. What it decides on is no matter: each command is answered Unknown, and a
--- reopening forgets what was decided.
-pub record ShowsBroken {D : Type 0} (w : World) (keeper : KeeperView D) : Type 0 where
-  pub at_rest : IsBrokenAtRest w
-  pub safe : register_of w.base (safe_list w) ≡ keeper.writer.register
-  pub doubt : batch_in_flight w ≡ keeper.writer.doubt
-  pub may_be_kept : keeper.writer.doubt ≢ [] → IsTrue (may_keep w WithBatch)
-
--- Some run of the machine leads to this world, from what its journal began with.
-abbrev pub IsReached : World → Type 0
-IsReached w = (events : List Event) × (run events (start w.building w.base) ≡ w)
-
--- The world is what this clerk's group is between two of its calls.
-pub record IsMachineOf {D P : Type 0} (w : World) (clerk : ClerkState D P) : Type 0 where
-  pub building : w.building ≡ clerk.keeper.writer.plan
-  pub reached : IsReached w
-  pub words : (terminal : ℕ) → ShowsWords w terminal (view_at clerk.seat terminal)
-  pub whole : clerk.keeper.writer.is_broken ≡ false → ShowsWhole w clerk.keeper
-  pub broken : clerk.keeper.writer.is_broken ≡ true → ShowsBroken w clerk.keeper
+-- The world is what this clerk's group is between two of its calls: of each terminal its words are
+-- the world's, it decides on what the keeper shows, and nothing is on its way.
+abbrev pub IsMachineOf : {D P : Type 0} → World → ClerkState D P → Type 0
+IsMachineOf w clerk = IsTied w (λ (t : ℕ). (view_at clerk.seat t).taken) (view_at clerk.seat)
+    clerk.keeper.state clerk.keeper.writer []
 
 -- It stays so whatever terminals ask and hear between.
 abbrev pub TerminalsKeepIt : (D P : Type 0) → Type 0

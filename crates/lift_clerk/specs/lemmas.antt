@@ -4,8 +4,13 @@ pub mod Scanned
 pub mod Lists
 pub mod Served
 pub mod Stored
-pub mod Standing
+pub mod Seated
 pub mod Words
+pub mod Tied
+pub mod Found
+pub mod Allocated
+pub mod Flushed
+pub mod Standing
 pub mod Asked
 pub mod Between
 pub mod Turned

@@ -19,5 +19,5 @@ pub use history::{
     begin_over, crash_shows_letters, histories_are_runs, reopening_shows_letters,
     turn_is_of_the_history, turn_shows_letters,
 };
-pub use machine::turns_are_the_machines;
+pub use machine::{machine_laws, turns_are_the_machines};
 pub use scan::{DeskScan, scan_desk};

@@ -12,12 +12,12 @@ use lift_keeper::KeeperFault;
 use lift_policy::Policy;
 use lift_register::registers_join;
 use lift_world::{
-    events_are_possible, every_run, parts_interleave, policies_are_covered, terminals_pass,
-    turns_are_events, turns_end_at_rest,
+    events_are_possible, every_run, parts_interleave, policies_are_covered, relays_are_events,
+    terminals_pass, turns_are_events, turns_end_at_rest,
 };
 
-// What is proved of the machine, by this or any policy.
-fn machine_laws<P: Policy>()
+/// What is proved of the machine, by this or any policy: what a tie to it stands on.
+pub fn machine_laws<P: Policy>()
     ensures laws { Laws }
     ensures covered { (policy : P) → RunsAreAny (P.chooses policy) }
 {
@@ -32,6 +32,7 @@ pub(crate) fn laws()
     every_run();
     events_are_possible();
     turns_are_events();
+    relays_are_events();
     turns_end_at_rest();
     parts_interleave();
     terminals_pass();

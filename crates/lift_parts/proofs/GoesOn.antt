@@ -38,12 +38,12 @@ use Rattle.lift_clerk.specs.lemmas.Adding.{failed, turned_while_broken}
 use Rattle.lift_clerk.specs.lemmas.Keeps.{kept_now}
 use Rattle.lift_parts.specs.declared.counts.FlushCounts.{FlushCounts}
 use Rattle.lift_parts.specs.Batch.{BatchState, AreBelow, commands_in, replies_in, entries_of_batches}
-use Rattle.lift_clerk.specs.lemmas.Asked.{not_both}
+use Rattle.lift_clerk.specs.lemmas.Tied.{not_both}
 use Rattle.lift_parts.specs.Flusher.{FlusherState, IsFlusher, IsEmptyTurn, IsBatchTurn, AnswersBatch, entries_received}
 use Rattle.lift_parts.specs.Turns.{NoFlush, OneFlush}
 use Rattle.lift_parts.specs.History.{group_after, held_in, GoesOnTo, FlushStands, FlushesStand, TurnsGoOn, SplitsGoOn, JoinedGoOn}
 use Rattle.lift_parts.specs.Past.{flush_events, FlushLeadsOn, FlushesLeadOn, SplitsKeepPasts, JoinedKeepPasts}
-use Rattle.lift_parts.specs.Line.{ReceiveState, tried}
+use Rattle.lift_parts.specs.Line.{tried}
 use Rattle.lift_parts.specs.lemmas.Received.{entries_between, commits_to, none_received, one_received}
 use Rattle.lift_parts.proofs.Answering.{replies_of, held_is, answers_them}
 

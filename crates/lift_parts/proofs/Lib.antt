@@ -3,7 +3,6 @@ pub mod TiedScan
 pub mod TiedTake
 pub mod Answering
 pub mod TiedFlush
-pub mod TiedTerminals
 pub mod GoesOn
 pub mod Keeps
 pub mod OrderedAhead

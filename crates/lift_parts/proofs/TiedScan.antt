@@ -1,12 +1,10 @@
 -- A scan is the machine's.
-use Rattle.lift_clerk.specs.TakenAndAnswered.{AreApart, ask_of}
-use Rattle.std.proofs.Common.{ℕ, zero, suc, ◌≡◌, ◌≢◌, ◌+◌, ◌*◌, ◌^◌, ◌<◌, ◌≤◌, Bool, true, false, cond, eqb, List, [], ◌∷◌, ◌++◌, length, map, Option, Some, None, refl, sym, ap, subst, ◌∙◌, arith, append_assoc}
-use Rattle.std.specs.Prelude.{filter, count_by, All, Contains}
-use Rattle.std.specs.List.{AllByRecursion, flat_map}
-use Rattle.std.proofs.lemmas.Bool.{ne_eqb, eq-eqb, eqb-true, false≢true}
+use Rattle.lift_clerk.specs.TakenAndAnswered.{ask_of}
+use Rattle.std.proofs.Common.{ℕ, zero, suc, ◌≡◌, ◌+◌, ◌*◌, ◌^◌, ◌<◌, ◌≤◌, Bool, true, cond, List, [], ◌∷◌, ◌++◌, length, map, Option, Some, None, refl, sym, ap, subst, ◌∙◌, arith, append_assoc}
+use Rattle.std.specs.Prelude.{filter, All, Contains}
+use Rattle.std.proofs.lemmas.Bool.{ne_eqb, eq-eqb, eqb-true}
 use Rattle.std.proofs.lemmas.List.{append-nil, length-append, length-map}
 use Rattle.std.proofs.lemmas.List.Elements.{filter_passes}
-use Rattle.std.proofs.lemmas.List.Sums.{length-filter}
 use mathlib.Core.List.{map-append}
 use Rattle.lift_base.specs.declared.travel.Dir.{Dir}
 use Rattle.lift_base.specs.declared.travel.Dir.TheVariants.{Up, Down}
@@ -27,18 +25,15 @@ use Rattle.lift_policy.specs.Eligible.{Choice}
 use Rattle.lift_policy.specs.Step.{State}
 use Rattle.lift_policy.specs.Run.{Run}
 use Rattle.lift_policy.specs.declared.command.Command.{Command}
-use Rattle.lift_world.specs.declared.event.Taken.{Taken}
-use Rattle.lift_world.specs.World.{World, SealedBatch, asks, is_off, is_answer_to, is_taken_of}
-use Rattle.lift_world.specs.Next.{unanswered}
-use Rattle.lift_world.specs.Among.{StandsAsk}
-use Rattle.lift_world.specs.Headline.{AsksOneByOne}
-use Rattle.lift_world.specs.Turns.{AreFound}
+use Rattle.lift_world.specs.World.{World, asks}
 use Rattle.lift_clerk.specs.Turn.{without_batch}
 use Rattle.lift_clerk.specs.Visits.{Visit, AreLooksAt, command_at, commands_of, looked_at}
-use Rattle.lift_clerk.specs.Machine.{IsReached}
+use Rattle.lift_clerk.specs.Tied.{IsReached, on_way, ShowsBoth}
+use Rattle.lift_clerk.specs.Laws.{Laws}
+use Rattle.lift_clerk.specs.lemmas.Tied.{nothing_gathered}
 use Rattle.lift_clerk.specs.lemmas.Lists.{AreOthers, no_asks}
 use Rattle.lift_clerk.specs.lemmas.Served.{behind}
-use Rattle.lift_clerk.specs.lemmas.Standing.{finds_last}
+use Rattle.lift_clerk.specs.lemmas.Found.{AllWait, few}
 use Rattle.lift_clerk.specs.lemmas.Words.{last_has, one_ask, asks_both, asks_count}
 use Rattle.lift_clerk.specs.lemmas.Visiting.{taken-new, taken-old}
 use Rattle.lift_clerk.specs.declared.counts.Counts.{Counts}
@@ -46,66 +41,13 @@ use Rattle.lift_parts.specs.Batch.{BatchState, AreBelow, replies_in}
 use Rattle.lift_parts.specs.Scan.{TakesAt}
 use Rattle.lift_clerk.specs.lemmas.Looking.{length-looked}
 use Rattle.lift_parts.specs.Allocator.{AllocatorState, IsScanTurn}
-use Rattle.lift_parts.specs.Flusher.{FlusherState}
-use Rattle.lift_parts.specs.Laws.{RelayLaws}
-use Rattle.lift_parts.specs.Tie.{command_of, queued_in, on_way, ShowsBoth, IsRelayOf, TakesAsked, QueuedHaveRoom, NothingTakenIsNoEvent}
+use Rattle.lift_parts.specs.Tie.{TakesAsked, QueuedHaveRoom, NothingTakenIsNoEvent}
 use Rattle.lift_parts.specs.lemmas.Used.{below_is}
-use Rattle.lift_parts.proofs.Tied.{hears, one_by_one, shown_same, nothing_gathered}
+use Rattle.lift_parts.proofs.Tied.{shown_same}
 
 -- each look takes the word of its place's next turn, or nothing
 abbrev pub Reads : List ClerkPlace → List Visit → Type 0
 Reads places visits = AreLooksAt (λ p v. TakesOf p.view v.word v.found) places visits
-
--- ---- what is on its way of a terminal
-module _ (t : ℕ) where
-  -- no command is of the terminal
-  none_passes : (x : Taken) (b : Bool) (xs : List Taken) → eqb x.terminal t ≡ b → cond b (command_of x ∷ filter (asks t) (map command_of xs)) (filter (asks t) (map command_of xs)) ≡ []
-      → (x.terminal ≢ t) × (filter (asks t) (map command_of xs) ≡ [])
-  none_passes x true xs e none = absurd (cc)
-  none_passes x false xs e none = ((λ same. let yes : eqb x.terminal t ≡ true = eq-eqb x.terminal t same in absurd (false≢true (sym e ∙ yes))), none)
-
-  pub none_of : (xs : List Taken) → filter (asks t) (map command_of xs) ≡ [] → AllByRecursion (λ (x : Taken). x.terminal ≢ t) xs
-  none_of [] none = tt
-  none_of (x ∷ xs) none = let k = none_passes x (eqb x.terminal t) xs refl none in (k.0, none_of xs k.1)
-
-  -- how many there are
-  one_counted : (x : Taken) (xs : List Taken) (b : Bool) → length (filter (asks t) (map command_of xs)) ≡ length (filter (is_taken_of t) xs)
-      → length (cond b (command_of x ∷ filter (asks t) (map command_of xs)) (filter (asks t) (map command_of xs))) ≡ length (cond b (x ∷ filter (is_taken_of t) xs) (filter (is_taken_of t) xs))
-  one_counted x xs true e = ap suc e
-  one_counted x xs false e = e
-
-  pub same_count : (xs : List Taken) → length (filter (asks t) (map command_of xs)) ≡ length (filter (is_taken_of t) xs)
-  same_count [] = refl
-  same_count (x ∷ xs) = one_counted x xs (eqb x.terminal t) (same_count xs)
-
-abbrev pub flat : List SealedBatch → List Taken
-flat queue = flat_map (λ (q : SealedBatch). q.commands) queue
-
-pub queued_is : (queue : List SealedBatch) → queued_in queue ≡ map command_of (flat queue)
-queued_is [] = refl
-queued_is (q ∷ queue) = ap (λ (cs : List Command). map command_of q.commands ++ cs) (queued_is queue) ∙ sym (map-append command_of q.commands (flat queue))
-
--- all that is on its way is queued
-pub record OnlyQueued (w : World) : Type 0 where
-  pub on : is_off w.power ≡ false
-  pub all : unanswered w ≡ flat w.queue
-
-pub only_queued : (w : World) → w.due ≡ [] → w.flight.commands ≡ [] → w.taken ≡ [] → unanswered w ≡ flat w.queue
-only_queued w d f t =
-    ap (λ (xs : List Taken). xs ++ w.flight.commands ++ flat w.queue ++ w.taken) d
-    ∙ ap (λ (xs : List Taken). xs ++ flat w.queue ++ w.taken) f
-    ∙ ap (λ (xs : List Taken). flat w.queue ++ xs) t ∙ append-nil (flat w.queue)
-
-pub is_queued : {D P : Type 0} (w : World) (a : AllocatorState P) (f : FlusherState D) → IsRelayOf w a f → OnlyQueued w
-is_queued w a f m = by_state f.writer.is_broken refl
-  where
-    by_state : (b : Bool) → f.writer.is_broken ≡ b → OnlyQueued w
-    by_state false e =
-        let k = (m.whole e).between in
-        record { on = ap is_off k.running; all = only_queued w m.nothing_due (ap (λ (b : SealedBatch). b.commands) k.nothing_flies) m.between.nothing_taken }
-    by_state true e =
-        let k = (m.broken e).between in
-        record { on = ap is_off k.broken; all = only_queued w m.nothing_due k.nothing_flies m.between.nothing_taken }
 
 -- ---- one look
 dir_small : (d : Dir) → dir_bit d ≤ 1
@@ -127,71 +69,12 @@ turns_count first (a ∷ asks) in_range =
     let one : IsAsk a = in_range 0 a (omega arith) in
     (word_turn first a.number (body_bits a.body) one.0 (bits_small a.body one.1), turns_count (suc first) asks (λ k d below. in_range (suc k) d (omega arith)))
 
--- the ask of a command stands, which is the only one that waits
-pub record Stands (w : World) (t : ℕ) (waiting : List Command) (c : Command) : Type 0 where
-  pub stands : StandsAsk w t c
-  pub only : waiting ≡ c ∷ []
-
-module _ (laws : RelayLaws) (w : World) (reached : IsReached w) (only : OnlyQueued w) (t : ℕ) (p : ClerkPlace) (after_it : ClerkView) (s : ShowsBoth w t p.view after_it) where
+module _ (laws : Laws) (w : World) (reached : IsReached w) (t : ℕ) (p : ClerkPlace) (after_it : ClerkView) (s : ShowsBoth w t p.view.taken after_it) where
   abbrev fa : List Command
   fa = s.first ++ on_way w t
 
   all_asks : map ask_of (filter (asks t) w.asked) ≡ map ask_of fa ++ map ask_of s.waiting
   all_asks = ap (map ask_of) s.asked ∙ map-append ask_of fa s.waiting
-
-  on_way_is : length (on_way w t) ≡ count_by (is_taken_of t) (unanswered w)
-  on_way_is =
-      ap (λ (cs : List Command). length (filter (asks t) cs)) (queued_is w.queue) ∙ same_count t (flat w.queue) ∙ ap (λ (xs : List Taken). length (filter (is_taken_of t) xs)) (sym only.all)
-      ∙ length-filter (is_taken_of t) (unanswered w)
-
-  -- at most one ask waits, and then nothing is on its way
-  few : length s.first + length (on_way w t) + length s.waiting ≤ length s.first + 1
-  few =
-      let one : AsksOneByOne w t = one_by_one laws w reached t in
-      let heard = hears laws w reached t in
-      let asked = one.asked in
-      let even = s.even in
-      omega (
-        arith,
-        ap length s.asked,
-        length-append (s.first ++ on_way w t) s.waiting,
-        length-append s.first (on_way w t),
-        length-filter (asks t) w.asked,
-        ap length heard.1,
-        length-append (filter (is_answer_to t) w.heard) heard.0,
-        length-filter (is_answer_to t) w.heard,
-        length-filter (is_answer_to t) w.answered,
-      )
-
-  -- the one that waits stands
-  pub stands_where : (command : Command) → s.waiting ≡ command ∷ [] → Stands w t s.waiting command
-  stands_where command is =
-      let lw : length s.waiting ≡ 1 = ap length is in
-      let le = few in
-      let none : length (on_way w t) ≡ 0 = omega arith in
-      let empty : on_way w t ≡ [] = no_length (on_way w t) none in
-      let split : filter (asks t) w.asked ≡ fa ++ command ∷ [] = s.asked ∙ ap (λ (cs : List Command). fa ++ cs) is in
-      let even = s.even in
-      record {
-        stands = record {
-          powered = only.on;
-          asks_more = omega (
-            arith,
-            ap length s.asked,
-            length-append (s.first ++ on_way w t) s.waiting,
-            length-append s.first (on_way w t),
-            length-filter (asks t) w.asked,
-          );
-          not_taken = subst (λ (xs : List Taken). AllByRecursion (λ (x : Taken). x.terminal ≢ t) xs) (sym only.all)
-              (none_of t (flat w.queue) (ap (filter (asks t)) (sym (queued_is w.queue)) ∙ empty));
-          asked_last = finds_last (asks t) w.asked fa command split;
-        };
-        only = is;
-      }
-    where
-      no_length : (xs : List Command) → length xs ≡ 0 → xs ≡ []
-      no_length [] e = refl
-      no_length (x ∷ xs) e = absurd (omega arith)
 
   module _ (word : ℕ) (ask : Ask) (at : TakesAt p (record { word = word; found = Some ask })) (asked : TakesAsked w.asked t (with_taking p.view word)) where
     abbrev command : Command
@@ -253,16 +136,16 @@ module _ (laws : RelayLaws) (w : World) (reached : IsReached w) (only : OnlyQueu
           turn = first ∙ (λ i. ask_word (suc (length p.view.taken)) (sym same.0 i) (sym same.1 i));
         }
 
-    one : (d : Command) → s.waiting ≡ d ∷ [] → Next d → Stands w t s.waiting command × (word ≡ ask_word (suc (length p.view.taken)) ask.number ask.body)
+    one : (d : Command) → s.waiting ≡ d ∷ [] → Next d → (s.waiting ≡ command ∷ []) × (word ≡ ask_word (suc (length p.view.taken)) ask.number ask.body)
     one d e n =
-        (stands_where command (e ∙ ap (λ (x : Command). x ∷ []) n.is), n.turn)
+        (e ∙ ap (λ (x : Command). x ∷ []) n.is, n.turn)
 
-    by_waiting : (waiting : List Command) → s.waiting ≡ waiting → Stands w t s.waiting command × (word ≡ ask_word (suc (length p.view.taken)) ask.number ask.body)
+    by_waiting : (waiting : List Command) → s.waiting ≡ waiting → (s.waiting ≡ command ∷ []) × (word ≡ ask_word (suc (length p.view.taken)) ask.number ask.body)
     by_waiting [] e = let up = above in let le = most in let all = long in absurd (omega (arith, ap length e))
     by_waiting (d ∷ []) e = one d e (next_is d e)
-    by_waiting (d ∷ x ∷ more) e = let le = few in absurd (omega (arith, ap length e))
+    by_waiting (d ∷ x ∷ more) e = let le = few laws w reached t s in absurd (omega (arith, ap length e))
 
-    pub stands : Stands w t s.waiting command × (word ≡ ask_word (suc (length p.view.taken)) ask.number ask.body)
+    pub stands : (s.waiting ≡ command ∷ []) × (word ≡ ask_word (suc (length p.view.taken)) ask.number ask.body)
     stands = by_waiting s.waiting refl
 
 -- ---- all looks
@@ -284,16 +167,13 @@ looked_after place places word found visits k = refl
 pub asked_same : (w : World) (t : ℕ) (u v : ClerkView) → u.taken ≡ v.taken → TakesAsked w.asked t u → TakesAsked w.asked t v
 asked_same w t u v e k = record { ahead = subst (λ (xs : List ℕ). IsAhead (ask_words 1 (map ask_of (filter (asks t) w.asked))) xs) e k.ahead; in_range = k.in_range }
 
-module _ (laws : RelayLaws) (w : World) (reached : IsReached w) (only : OnlyQueued w) (ahead later : ℕ → ClerkView) (s : (t : ℕ) → ShowsBoth w t (ahead t) (later t)) where
-  abbrev pub AllStand : List Command → Type 0
-  AllStand cs = AllByRecursion (λ (c : Command). Stands w c.terminal (s c.terminal).waiting c) cs
-
-  all_both : (xs ys : List Command) → AllStand xs → AllStand ys → AllStand (xs ++ ys)
+module _ (laws : Laws) (w : World) (reached : IsReached w) (ahead later : ℕ → ClerkView) (s : (t : ℕ) → ShowsBoth w t (ahead t).taken (later t)) where
+  all_both : (xs ys : List Command) → AllWait s xs → AllWait s ys → AllWait s (xs ++ ys)
   all_both [] ys h k = k
   all_both (x ∷ xs) ys h k = (h.0, all_both xs ys h.1 k)
 
   -- at a place that has these words
-  abbrev shows_at : (t : ℕ) (p : ClerkPlace) → p.view ≡ ahead t → ShowsBoth w t p.view (later t)
+  abbrev shows_at : (t : ℕ) (p : ClerkPlace) → p.view ≡ ahead t → ShowsBoth w t p.view.taken (later t)
   shows_at t p e = record {
     first = (s t).first;
     waiting = (s t).waiting;
@@ -305,14 +185,14 @@ module _ (laws : RelayLaws) (w : World) (reached : IsReached w) (only : OnlyQueu
   }
 
   look_at : (t : ℕ) (p : ClerkPlace) → p.view ≡ ahead t → (word : ℕ) (found : Option Ask) → TakesAt p (record { word = word; found = found })
-      → TakesAsked w.asked t (with_taking p.view word) → TakesOf p.view word found × AllStand (command_at t found)
+      → TakesAsked w.asked t (with_taking p.view word) → TakesOf p.view word found × AllWait s (command_at t found)
   look_at t p e word None at asked = (at.reads, tt)
   look_at t p e word (Some ask) at asked =
-      let k = stands laws w reached only t p (later t) (shows_at t p e) word ask at asked in
+      let k = stands laws w reached t p (later t) (shows_at t p e) word ask at asked in
       ((at.reads.0, k.1), (k.0, tt))
 
   pub looks_from : (first : ℕ) (places : List ClerkPlace) (visits : List Visit) → ((k t : ℕ) → t ≡ first + k → view_at places k ≡ ahead t) → AreLooksAt TakesAt places visits
-      → ((k t : ℕ) → t ≡ first + k → TakesAsked w.asked t (view_at (looked_at places visits) k)) → Reads places visits × AllStand (commands_of first visits)
+      → ((k t : ℕ) → t ≡ first + k → TakesAsked w.asked t (view_at (looked_at places visits) k)) → Reads places visits × AllWait s (commands_of first visits)
   looks_from first places [] same takes asked = (tt, tt)
   looks_from first [] (u ∷ visits) same takes asked = absurd takes
   looks_from first (p ∷ places) (u ∷ visits) same takes asked =
@@ -321,23 +201,6 @@ module _ (laws : RelayLaws) (w : World) (reached : IsReached w) (only : OnlyQueu
       let rest = looks_from (suc first) places visits (λ k t e. same (suc k) t (omega arith)) takes.1
       (λ k t e. subst (TakesAsked w.asked t) (looked_after p places u.word u.found visits k) (asked (suc k) t (omega arith))) in
       ((here.0, rest.0), all_both (command_at first u.found) (commands_of (suc first) visits) here.1 rest.1)
-
-  -- so they are found
-  pub found : (cs : List Command) → length w.queue ≤ 4 → AllStand cs → AreApart cs → AreFound w cs
-  found [] room h apart = tt
-  found (c ∷ cs) room h apart = ((laws.looks w c.terminal c).finds h.0.stands room, apart.0, found cs room h.1 apart.1)
-
-  -- of what waits at a terminal they are the first
-  first_waits : (t : ℕ) (c : Command) (cs : List Command) (b : Bool) → eqb c.terminal t ≡ b → Stands w c.terminal (s c.terminal).waiting c → AreOthers c.terminal cs
-      → (rest : List Command) × ((s t).waiting ≡ filter (asks t) cs ++ rest) → (rest : List Command) × ((s t).waiting ≡ cond b (c ∷ filter (asks t) cs) (filter (asks t) cs) ++ rest)
-  first_waits t c cs true e h others rest =
-      let at : c.terminal ≡ t = eqb-true c.terminal t e in
-      ([], ap (λ (n : ℕ). (s n).waiting) (sym at) ∙ h.only ∙ ap (λ (xs : List Command). (c ∷ xs) ++ []) (sym (no_asks t cs (subst (λ (n : ℕ). AreOthers n cs) at others))))
-  first_waits t c cs false e h others rest = rest
-
-  pub waits : (t : ℕ) (cs : List Command) → AllStand cs → AreApart cs → (rest : List Command) × ((s t).waiting ≡ filter (asks t) cs ++ rest)
-  waits t [] h apart = ((s t).waiting, refl)
-  waits t (c ∷ cs) h apart = first_waits t c cs (eqb c.terminal t) refl h.0 apart.0 (waits t cs h.1 apart.1)
 
 -- ---- what the looks leave
 abbrev Later : List ClerkPlace → List Visit → ℕ → Type 0
@@ -418,7 +281,7 @@ nothing_taken {D} {P} choice w a b f counts t none m =
     shown_same w a b f t.same_place.1
     (λ e q.
     let same : t.decided ≡ a.state = empty_run a.plan choice a.state t.decided (commands_of 0 t.visits) (replies_in t.batch.commands) none t.run in
-    let empty : a.state.batch ≡ [] = ap (λ (x : State). x.batch) (sym q) ∙ nothing_gathered w m.between in
+    let empty : a.state.batch ≡ [] = ap (λ (x : State). x.batch) (sym q) ∙ nothing_gathered w m.tied.between in
     t.after ∙ ap without_batch same ∙ ap (λ (xs : List Entry). record a.state { batch = xs }) (sym empty))
     (ap (λ (x : List ClerkPlace). length x) t.looked ∙ length-looked a.seat t.visits)
     (t.nothing none).0

@@ -1,5 +1,5 @@
 -- The part that makes batches safe and answers.
-use Rattle.std.specs.Prelude.{ℕ, ◌≡◌, ◌≢◌, Bool, true, false, List, [], ◌∷◌, length, drop, map}
+use Rattle.std.specs.Prelude.{ℕ, ◌≡◌, ◌≢◌, Bool, true, false, List, [], length, drop, map}
 use Rattle.std.specs.Prelude.{fold, slice_index_or, Some, Result, Ok, Err, is_ok, All}
 use Rattle.std.specs.List.{AllByRecursion}
 use Rattle.atomic_table.specs.Seated.{TableId}

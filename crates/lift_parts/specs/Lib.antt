@@ -6,7 +6,6 @@ pub mod Allocator
 pub mod Flusher
 pub mod Parts
 pub mod Turns
-pub mod Laws
 pub mod Tie
 pub mod History
 pub mod Past

@@ -1,10 +1,9 @@
 -- What the machine of events is while the two parts run, and which of its events their turns are.
-use Rattle.lift_clerk.specs.TakenAndAnswered.{answer_words, ask_of}
-use Rattle.std.specs.Prelude.{ℕ, ◌≡◌, ◌≢◌, ◌<◌, ◌≤◌, ◌+◌, Bool, true, false, List, [], ◌∷◌, ◌++◌, length}
-use Rattle.std.specs.Prelude.{map, filter, count_by, All, IsTrue, Some, Option, Result, Ok, Err}
-use Rattle.std.specs.List.{flat_map}
+use Rattle.lift_clerk.specs.TakenAndAnswered.{ask_of}
+use Rattle.std.specs.Prelude.{ℕ, ◌≡◌, ◌≢◌, ◌<◌, ◌≤◌, ◌+◌, true, false, List, [], ◌++◌, length}
+use Rattle.std.specs.Prelude.{map, filter, All, IsTrue, Some, Option, Result, Ok, Err}
+use Rattle.std.specs.List.{AllByRecursion}
 use Rattle.lift_base.specs.declared.history.Entry.{Entry}
-use Rattle.lift_register.specs.Register.{register_of}
 use Rattle.lift_journal.specs.declared.fault.JournalFault.TheVariants.{Disk, Broken}
 use Rattle.lift_desk.specs.declared.view.ClerkView.{ClerkView}
 use Rattle.lift_desk.specs.Rule.{IsAhead}
@@ -16,23 +15,21 @@ use Rattle.lift_policy.specs.declared.command.Command.{Command}
 use Rattle.lift_keeper.specs.declared.fault.KeeperFault.{KeeperFault}
 use Rattle.lift_keeper.specs.declared.fault.KeeperFault.TheVariants.{Journal}
 use Rattle.lift_world.specs.declared.event.Event.{Event}
-use Rattle.lift_world.specs.declared.event.Kept.TheVariants.{WithBatch}
 use Rattle.lift_world.specs.declared.event.Phase.TheVariants.{GateWritten}
 use Rattle.lift_world.specs.declared.event.Taken.{Taken}
-use Rattle.lift_world.specs.World.{World, SealedBatch, asks, is_answer_to, state_of}
-use Rattle.lift_world.specs.World.{safe_list, batch_in_flight, may_keep}
-use Rattle.lift_world.specs.Next.{next, goes, answer_of, unknown_to}
+use Rattle.lift_world.specs.World.{World, SealedBatch, asks, safe_list}
+use Rattle.lift_world.specs.Next.{next, unknown_to}
 use Rattle.lift_world.specs.Beside.{is_of_terminals}
-use Rattle.lift_world.specs.Relay.{IsBetweenScans, IsBetweenFlushes, IsBrokenBetween}
 use Rattle.lift_world.specs.Relay.{allocator_events, flusher_events, failing_flush, broken_flush}
 use Rattle.lift_clerk.specs.declared.counts.Counts.{Counts}
 use Rattle.lift_clerk.specs.Clerk.{ClerkState}
 use Rattle.lift_clerk.specs.Group.{Terminals, ShowsTerminal}
 use Rattle.lift_clerk.specs.Visits.{commands_of}
-use Rattle.lift_clerk.specs.Machine.{IsReached, IsMachineOf}
+use Rattle.lift_clerk.specs.Tied.{SentBatch, IsTied, LeadsTo, all_found}
+use Rattle.lift_clerk.specs.Machine.{IsMachineOf}
 use Rattle.lift_parts.specs.declared.taken.NotedCommand.{NotedCommand}
 use Rattle.lift_parts.specs.declared.counts.FlushCounts.{FlushCounts}
-use Rattle.lift_parts.specs.Batch.{BatchState, AreBelow, commands_in, entries_of_batches}
+use Rattle.lift_parts.specs.Batch.{BatchState, AreBelow, commands_in}
 use Rattle.lift_parts.specs.Line.{Begins}
 use Rattle.lift_parts.specs.Queued.{Queued}
 use Rattle.lift_parts.specs.Allocator.{AllocatorState, IsFullTurn, IsScanTurn}
@@ -49,96 +46,30 @@ held_as t = record {
   reply = t.reply;
 }
 
-abbrev pub command_of : Taken → Command
-command_of h = record { terminal = h.terminal; number = h.number; body = h.body }
-
--- the commands of the machine's queue, and those of one terminal
-abbrev pub queued_in : List SealedBatch → List Command
-queued_in queue = flat_map (λ (q : SealedBatch). map command_of q.commands) queue
-
-abbrev pub on_way : World → ℕ → List Command
-on_way w terminal = filter (asks terminal) (queued_in w.queue)
-
--- the machine's queue has the commands of these batches, which are of so many terminals
-abbrev pub AreQueued : ℕ → List BatchState → List SealedBatch → Type 0
-AreQueued count [] [] = Unit {0}
-AreQueued count (b ∷ batches) (q ∷ queue) = (map command_of q.commands ≡ commands_in b.commands)
-    × AreBelow count (commands_in b.commands) × AreQueued count batches queue
-AreQueued count [] (q ∷ queue) = ⊥
-AreQueued count (b ∷ batches) [] = ⊥
-
--- with their replies, and each ends where its entries do, from here on
-abbrev pub AreDecided : ℕ → List BatchState → List SealedBatch → Type 0
-AreDecided from [] [] = Unit {0}
-AreDecided from (b ∷ batches) (q ∷ queue) = (q.commands ≡ map held_as b.commands)
-    × (q.upto ≡ from + length b.entries) × AreDecided (from + length b.entries) batches queue
-AreDecided from [] (q ∷ queue) = ⊥
-AreDecided from (b ∷ batches) [] = ⊥
-
--- The words of a terminal at both parts. Of what it asked the first was answered, then comes what
--- is on its way, and the rest may wait. The allocator took all but what waits, and the flusher what
--- it answered.
-pub record ShowsBoth (w : World) (terminal : ℕ) (ahead behind : ClerkView) : Type 0 where
-  pub first : List Command
-  pub waiting : List Command
-  pub asked : filter (asks terminal) w.asked ≡ (first ++ on_way w terminal) ++ waiting
-  pub taken : ahead.taken ≡ ask_words 1 (map ask_of (first ++ on_way w terminal))
-  pub looked : behind.taken ≡ ask_words 1 (map ask_of first)
-  pub answered : behind.answered ≡ answer_words 1 (filter (is_answer_to terminal) w.answered)
-  pub even : length first ≡ count_by (is_answer_to terminal) w.answered
-
--- While nothing has failed the machine decides on what the allocator shows. What is accepted is
--- what is safe, and then the entries of the batches that wait, which the machine holds with their
--- replies.
-pub record RunsWhole {D P : Type 0} (w : World) (a : AllocatorState P) (f : FlusherState D)
-    (waiting : List BatchState) : Type 0 where
-  pub between : IsBetweenFlushes w
-  pub state : state_of w ≡ a.state
-  pub accepted : w.accepted ≡ safe_list w ++ entries_of_batches waiting
-  pub decided : AreDecided (length (safe_list w)) waiting w.queue
-  pub register : f.writer.register ≡ f.end.state.register
-  pub no_doubt : f.writer.doubt ≡ []
-
--- After a fault the machine's batch in doubt is the writer's: a crash may keep it. What is decided
--- is no matter: each command is answered Unknown.
-pub record RunsBroken {D : Type 0} (w : World) (f : FlusherState D) : Type 0 where
-  pub between : IsBrokenBetween w
-  pub doubt : batch_in_flight w ≡ f.writer.doubt
-  pub may_be_kept : f.writer.doubt ≢ [] → IsTrue (may_keep w WithBatch)
+-- a batch on its way, as the machine holds it
+abbrev pub sent_as : BatchState → SentBatch
+sent_as b = record { commands = map held_as b.commands; entries = b.entries }
 
 -- The world is what this group's two parts are, each between two of its turns. What was sent, with
--- a batch in hand, is what was received and the batches that wait; these are the machine's queue.
+-- a batch in hand, is what was received and the batches that wait; these are on their way, and of
+-- the terminals of the desk.
 pub record IsRelayOf {D P : Type 0} (w : World) (a : AllocatorState P)
     (f : FlusherState D) : Type 0 where
   pub building : w.building ≡ a.plan
-  pub same_plan : w.building ≡ f.writer.plan
-  pub reached : IsReached w
-  pub between : IsBetweenScans w
-  pub nothing_due : w.due ≡ []
-  pub safe : register_of w.base (safe_list w) ≡ f.writer.register
   pub seats : length a.seat ≡ length f.seat
   pub waiting : List BatchState
   pub line : a.end.sent ++ a.hand ≡ f.end.received ++ waiting
-  pub queue : AreQueued (length f.seat) waiting w.queue
-  pub words : (terminal : ℕ)
-      → ShowsBoth w terminal (view_at a.seat terminal) (view_at f.seat terminal)
-  pub whole : f.writer.is_broken ≡ false → RunsWhole w a f waiting
-  pub broken : f.writer.is_broken ≡ true → RunsBroken w f
+  pub below : AllByRecursion (λ (b : BatchState).
+      AreBelow (length f.seat) (commands_in b.commands)) waiting
+  pub received : f.writer.is_broken ≡ false → f.writer.register ≡ f.end.state.register
+  pub tied : IsTied w (λ (t : ℕ). (view_at a.seat t).taken) (view_at f.seat) a.state f.writer
+      (map sent_as waiting)
 
--- These events, each possible in its place, lead to a world that is these parts'. These commands
--- were given their answers meanwhile, and these entries are safe then. Terminals did nothing.
-pub record LeadsOn {D P : Type 0} (w : World) (events : List Event) (given : List Taken)
-    (safe : List Entry) (a : AllocatorState P) (f : FlusherState D) : Type 0 where
-  pub end : World
-  pub possible : goes events w ≡ Some end
-  pub given_is : end.given ≡ w.given ++ given
-  pub safe_is : safe_list end ≡ safe
-  pub same_building : end.building ≡ w.building
-  pub same_base : end.base ≡ w.base
-  pub answered_is : end.answered ≡ w.answered ++ map answer_of given
-  pub same_asked : end.asked ≡ w.asked
-  pub same_heard : end.heard ≡ w.heard
-  pub shows : IsRelayOf end a f
+-- These events lead to a world that is these parts'.
+abbrev pub LeadsOn : {D P : Type 0} → World → List Event → List Taken → List Entry
+    → AllocatorState P → FlusherState D → Type 0
+LeadsOn w events given safe a f =
+    LeadsTo w events given safe (λ (end : World). IsRelayOf end a f)
 
 -- A split of a clerk is no event.
 abbrev pub SplitsAreNoEvents : (D P : Type 0) → Type 0
@@ -237,10 +168,6 @@ ScansAreAllocations D P choice =
     → AllTakesAsked w.asked b.seat → HasRoom b f → IsRelayOf w a f
     → (letters : List (Option ℕ))
     × LeadsOn w (allocator_events (commands_of 0 t.visits) letters) [] (safe_list w) b f
-
--- each ask is found by the flusher's own look
-abbrev pub all_found : ℕ → Bool
-all_found terminal = true
 
 -- what a flusher's turn gives where it receives this batch and answers Ok
 pub record Flushes {D : Type 0} (f g : FlusherState D) (batch : BatchState)

@@ -1,5 +1,5 @@
 -- Any number of turns of each part.
-use Rattle.std.specs.Prelude.{◌≡◌, ◌⊎◌, ◌++◌, [], length, Option, Some, None, Result, Ok, Err}
+use Rattle.std.specs.Prelude.{◌≡◌, ◌⊎◌, ◌++◌, [], length, Option, Some, None, Result, Err}
 use Rattle.lift_disk.specs.Disk.{DiskState}
 use Rattle.lift_policy.specs.Eligible.{Choice}
 use Rattle.lift_keeper.specs.Commits.{Commits}

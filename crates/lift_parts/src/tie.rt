@@ -1,6 +1,5 @@
 //! What the machine of events is while the two parts run.
 
-ghost use Rattle.lift_parts.specs.Laws.{RelayLaws};
 ghost use Rattle.lift_parts.specs.History.{FlushesStand, TurnsGoOn, SplitsGoOn, JoinedGoOn};
 ghost use Rattle.lift_parts.specs.Tie.{SplitsAreNoEvents, RejoiningsAreNoEvents};
 ghost use Rattle.lift_parts.specs.Tie.{IdleTurnsAreNoEvents, TerminalsKeepParts};
@@ -11,27 +10,10 @@ ghost use Rattle.lift_parts.specs.Tie.{BrokenFlushesAreBroken};
 ghost use Rattle.lift_parts.specs.Keeping.{TurnsKeep};
 ghost use Rattle.lift_parts.specs.Past.{FlushesLeadOn, SplitsKeepPasts, JoinedKeepPasts};
 
-use lift_clerk::{histories_are_runs, pasts_go_on};
+use lift_clerk::{histories_are_runs, machine_laws, pasts_go_on};
 use lift_desk::seats_agree;
 use lift_disk::Disk;
 use lift_policy::Policy;
-use lift_register::registers_join;
-use lift_world::{
-    every_run, parts_interleave, policies_are_covered, relays_are_events, terminals_pass,
-    turns_are_events,
-};
-
-// What is proved of the machine, whatever runs it.
-fn relay_laws()
-    ensures { RelayLaws }
-{
-    every_run();
-    turns_are_events();
-    relays_are_events();
-    parts_interleave();
-    terminals_pass();
-    registers_join();
-}
 
 /// What a scan's law wants of what the allocator took is what the desk's rule says of a terminal's seat
 /// and the one ahead of the clerk, at each moment and whoever holds them.
@@ -62,8 +44,7 @@ pub fn relays_are_the_machines<D: Disk, P: Policy>()
     ensures failures { FailedFlushesAreFailures D P }
     ensures broken { BrokenFlushesAreBroken D P }
 {
-    policies_are_covered::<P>();
-    relay_laws();
+    machine_laws::<P>();
 }
 
 /// A flusher's turns are steps of its group's history, which goes on over a split, over any number

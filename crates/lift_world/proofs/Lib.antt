@@ -18,6 +18,7 @@ pub mod Carried
 pub mod Beside
 pub mod Owing
 pub mod Relay
+pub mod Whole
 pub mod Ahead
 pub mod Interleaved
 pub mod ScansAmong

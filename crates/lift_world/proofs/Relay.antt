@@ -28,7 +28,7 @@ use Rattle.lift_world.specs.lemmas.Looks.{can_be_looked_at, takes_need_looks}
 use Rattle.lift_world.proofs.Possibilities.{seals}
 use Rattle.lift_world.proofs.Turns.{runs, folded, reached, made_safe, fails, keep_one, others-first, answering_on, terminals_of, unknown_terminals, unknown_apart}
 
-answers_map : (cs : List Taken) → events_of_answers cs ≡ terminals_of cs
+pub answers_map : (cs : List Taken) → events_of_answers cs ≡ terminals_of cs
 answers_map [] = refl
 answers_map (c ∷ cs) = ap (λ (es : List Event). Answering c.terminal ∷ es) (answers_map cs)
 
@@ -252,20 +252,35 @@ module _ (w : World) (gave : ℕ → Bool) (batch : SealedBatch) (rest : List Se
   broken_at : AreApart (w.due ++ batch.commands) → goes (broken_flush gave batch) broken_between ≡ Some (flushed_broken broken_between gave batch rest)
   broken_at apart = unknown_gives gave (record broken_between { queue = rest; due = w.due ++ map unknown_to batch.commands }) batch.commands w.due w.answered w.given refl apart
 
+-- where the queue's first batch ends within what is accepted, and its commands are apart
+pub flushes_where : (w : World) (gave : ℕ → Bool) (batch : SealedBatch) (rest : List SealedBatch) (folds : ℕ) → IsBetweenFlushes w → FirstEnds w batch → AreApart (w.due ++ batch.commands) → w.queue ≡ batch ∷ rest
+    → goes (flusher_events gave batch folds (batch.upto - w.safe)) w ≡ Some (flushed w gave batch rest)
+flushes_where w gave batch rest folds k ends apart at =
+    subst (λ (v : World). goes (flusher_events gave batch folds (batch.upto - w.safe)) v ≡ Some (flushed v gave batch rest)) (is_between w gave batch rest k at)
+    (flush_at w gave batch rest folds ends apart)
+
+pub fails_where : (w : World) (gave : ℕ → Bool) (batch : SealedBatch) (rest : List SealedBatch) (folds : ℕ) (phase : Phase) → IsBetweenFlushes w → FirstEnds w batch → w.safe < batch.upto
+    → MayFailIn (sectors_for_body (batch.upto - w.safe) + 1) phase → AreApart (w.due ++ batch.commands) → w.queue ≡ batch ∷ rest
+    → goes (failing_flush gave batch folds phase (batch.upto - w.safe)) w ≡ Some (flush_failed w gave batch rest phase)
+fails_where w gave batch rest folds phase k ends more fail apart at =
+    subst (λ (v : World). goes (failing_flush gave batch folds phase (batch.upto - w.safe)) v ≡ Some (flush_failed v gave batch rest phase)) (is_between w gave batch rest k at)
+    (fall_at w gave batch rest folds phase ends.within more fail apart)
+
+pub broken_where : (w : World) (gave : ℕ → Bool) (batch : SealedBatch) (rest : List SealedBatch) → IsBrokenBetween w → AreApart (w.due ++ batch.commands) → w.queue ≡ batch ∷ rest
+    → goes (broken_flush gave batch) w ≡ Some (flushed_broken w gave batch rest)
+broken_where w gave batch rest k apart at =
+    subst (λ (v : World). goes (broken_flush gave batch) v ≡ Some (flushed_broken v gave batch rest)) (is_broken_between w gave batch rest k at) (broken_at w gave batch rest apart)
+
 pub flushes_are_events : (w : World) → FlushesAreEvents w
 flushes_are_events w gave batch rest folds k order at =
-    subst (λ (v : World). goes (flusher_events gave batch folds (batch.upto - w.safe)) v ≡ Some (flushed v gave batch rest)) (is_between w gave batch rest k at)
-    (flush_at w gave batch rest folds (first_ends w batch rest order at) (first_apart w batch rest (ap (λ (b : SealedBatch). b.commands) k.nothing_flies) at order.apart))
+    flushes_where w gave batch rest folds k (first_ends w batch rest order at) (first_apart w batch rest (ap (λ (b : SealedBatch). b.commands) k.nothing_flies) at order.apart) at
 
 pub failed_flushes_are_events : (w : World) → FailedFlushesAreEvents w
 failed_flushes_are_events w gave batch rest folds phase k order at more fail =
-    subst (λ (v : World). goes (failing_flush gave batch folds phase (batch.upto - w.safe)) v ≡ Some (flush_failed v gave batch rest phase)) (is_between w gave batch rest k at)
-    (fall_at w gave batch rest folds phase (first_ends w batch rest order at).within more fail (first_apart w batch rest (ap (λ (b : SealedBatch). b.commands) k.nothing_flies) at order.apart))
+    fails_where w gave batch rest folds phase k (first_ends w batch rest order at) more fail (first_apart w batch rest (ap (λ (b : SealedBatch). b.commands) k.nothing_flies) at order.apart) at
 
 pub broken_flushes_are_events : (w : World) → BrokenFlushesAreEvents w
-broken_flushes_are_events w gave batch rest k order at =
-    subst (λ (v : World). goes (broken_flush gave batch) v ≡ Some (flushed_broken v gave batch rest)) (is_broken_between w gave batch rest k at)
-    (broken_at w gave batch rest (first_apart w batch rest k.nothing_flies at order.apart))
+broken_flushes_are_events w gave batch rest k order at = broken_where w gave batch rest k (first_apart w batch rest k.nothing_flies at order.apart) at
 
 -- an allocator's turn
 some_more : (xs : List Taken) (c : Taken) (cs : List Taken) → xs ≡ [] → xs ++ c ∷ cs ≢ []

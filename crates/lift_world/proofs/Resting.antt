@@ -1,31 +1,24 @@
 -- Where turns begin and end, and turns while broken.
-use Rattle.std.proofs.Common.{ℕ, ◌≡◌, ◌-◌, ◌≤◌, List, [], ◌∷◌, ◌++◌, length, map, take, drop, Option, refl, sym, ap, subst, ◌∙◌, arith}
-use Rattle.std.specs.Prelude.{Some, None, option_and_then}
+use Rattle.std.proofs.Common.{ℕ, ◌≡◌, ◌-◌, ◌≤◌, List, [], ◌++◌, length, map, take, drop, refl, ap, subst, ◌∙◌, arith}
+use Rattle.std.specs.Prelude.{Some, None}
 use Rattle.std.proofs.Math.Seq.{take-length}
 use Rattle.std.proofs.lemmas.List.{length-append, length-drop, take-append-le, drop-append-le}
 use Rattle.lift_base.specs.declared.history.Entry.{Entry}
-use Rattle.lift_base.specs.declared.command.Reply.{Reply}
 use Rattle.lift_building.specs.Plan.{Plan}
 use Rattle.lift_register.specs.Register.{RegisterState}
-use Rattle.lift_policy.specs.Eligible.{any_eligible}
 use Rattle.lift_policy.specs.Step.{State}
-use Rattle.lift_policy.specs.Run.{Run}
 use Rattle.lift_policy.specs.declared.command.Command.{Command}
-use Rattle.lift_world.specs.declared.event.Event.{Event}
-use Rattle.lift_world.specs.declared.event.Event.TheVariants.{Seal, Pull, Fault, Reopen}
+use Rattle.lift_world.specs.declared.event.Event.TheVariants.{Fault, Reopen}
 use Rattle.lift_world.specs.declared.event.Kept.{Kept}
 use Rattle.lift_world.specs.declared.event.Kept.TheVariants.{Safe, WithBatch}
 use Rattle.lift_world.specs.declared.event.Taken.{Taken}
-use Rattle.lift_world.specs.declared.event.Power.{Power}
 use Rattle.lift_world.specs.declared.event.Power.TheVariants.{Broken}
-use Rattle.lift_world.specs.World.{World, SealedBatch, unplaced, start, state_of, may_keep, outcome}
-use Rattle.lift_world.specs.Next.{next, goes, cutting, reopened, may_reopen, answer_of, unknown_to}
-use Rattle.lift_world.specs.Turns.{AreFound, IsAtRest, with_replies, take_events, answer_events, IsBrokenAtRest, broken_events, with_unknown, turned_broken, BrokenTurnsAreRuns, ChangesAnswersAlone, BrokenTurnsChangeNothing, TurnsEndAtRest, FailuresEndAtRest, BrokenTurnsEndAtRest, ReopeningsEndAtRest, CutsEndAtRest, RunningReopeningsEndAtRest, FailedReopeningsEndAtRest}
-use Rattle.lift_world.proofs.Scans.{runs_are_takes, taken_as}
+use Rattle.lift_world.specs.World.{World, SealedBatch, unplaced, start, may_keep, outcome}
+use Rattle.lift_world.specs.Next.{next, cutting, reopened, may_reopen, answer_of, unknown_to}
+use Rattle.lift_world.specs.Turns.{IsAtRest, IsBrokenAtRest, with_unknown, turned_broken, ChangesAnswersAlone, BrokenTurnsChangeNothing, TurnsEndAtRest, FailuresEndAtRest, BrokenTurnsEndAtRest, ReopeningsEndAtRest, CutsEndAtRest, RunningReopeningsEndAtRest, FailedReopeningsEndAtRest}
 use Rattle.lift_world.specs.lemmas.Decisions.{true_of}
 use Rattle.lift_world.proofs.Possibilities.{broken_opens, reopens_while_quiet, when_some}
-use Rattle.lift_world.specs.lemmas.Goes.{goes-append}
-use Rattle.lift_world.proofs.Turns.{at_rest, is_at_rest, SameLength, same_length, all_apart, answered_all, answers_of, answering_on, unknown_terminals, unknown_apart}
+use Rattle.lift_world.proofs.Turns.{at_rest, is_at_rest}
 
 -- where turns begin
 pub start_rests : (building : Plan) (base : RegisterState) → IsAtRest (start building base)
@@ -126,56 +119,6 @@ failed_reopenings_rest w = record {
   only_safe = λ k. subst (λ (v : World). next (record v { power = Broken }) (Reopen WithBatch) ≡ None) (is_at_rest w k) refl;
 }
 
--- the commands answered Unknown, whatever was decided
-unknown_is : (commands : List Command) (replies : List Reply) → SameLength commands replies → map unknown_to (with_replies commands replies) ≡ with_unknown commands
-unknown_is [] replies h = refl
-unknown_is (c ∷ commands) [] h = absurd h
-unknown_is (c ∷ commands) (reply ∷ replies) h = ap (λ (cs : List Taken). unknown_to (taken_as c reply) ∷ cs) (unknown_is commands replies h)
-
--- a broken world at rest, with what that means put in
-abbrev broken_rest : World → World
-broken_rest w = record w { sealed = length w.accepted; flight = record { commands = []; upto = w.flight.upto }; queue = []; power = Broken; taken = []; due = [] }
-
-is_broken_rest : (w : World) → IsBrokenAtRest w → broken_rest w ≡ w
-is_broken_rest w k =
-    ap (λ (n : ℕ). record (broken_rest w) { sealed = n }) (sym k.all_sealed)
-    ∙ ap (λ (cs : List Taken). record (broken_rest w) { sealed = w.sealed; flight = record { commands = cs; upto = w.flight.upto } }) (sym k.nothing_flies)
-    ∙ ap (λ (q : List SealedBatch). record w { queue = q; power = Broken; taken = []; due = [] }) (sym k.nothing_queued)
-    ∙ ap (λ (p : Power). record w { power = p; taken = []; due = [] }) (sym k.broken)
-    ∙ ap (λ (xs : List Taken). record w { taken = xs; due = [] }) (sym k.nothing_taken) ∙ ap (λ (xs : List Taken). record w { due = xs }) (sym k.nothing_due)
-
-module _ (w : World) (command : Command) (commands : List Command) (reply : Reply) (replies : List Reply) (state : State) (found : AreFound (broken_rest w) (command ∷ commands))
-    (r : Run w.building any_eligible (state_of (broken_rest w)) (command ∷ commands) (reply ∷ replies) state) where
-  abbrev now : List Entry
-  now = w.accepted ++ state.batch
-
-  abbrev looked : List Taken
-  looked = taken_as command reply ∷ with_replies commands replies
-
-  -- after the scan
-  abbrev scanned_on : World
-  scanned_on = record (broken_rest w) { accepted = now; positions = state.positions; taken = looked }
-
-  -- its batch is due
-  abbrev lost : World
-  lost = record (broken_rest w) { accepted = now; positions = state.positions; sealed = length now; due = map unknown_to looked }
-
-  same : SameLength (command ∷ commands) (reply ∷ replies)
-  same = same_length w.building (state_of (broken_rest w)) state (command ∷ commands) (reply ∷ replies) r
-
-  pub broken_turn : (letters : List (Option ℕ)) × (goes (broken_events (command ∷ commands) letters) (broken_rest w) ≡ Some (turned_broken (broken_rest w) (command ∷ commands) state))
-  broken_turn =
-      let v : World = broken_rest w in
-      let s = runs_are_takes v (command ∷ commands) (reply ∷ replies) state (omega arith) found r in
-      let events : List Event = Seal ∷ Pull ∷ answer_events (command ∷ commands) in (
-        s.0,
-        goes-append (take_events (command ∷ commands) s.0) events v ∙ ap (option_and_then (goes events)) s.1
-            ∙ ap (λ (xs : List Entry). goes events (record v { accepted = xs ++ state.batch; positions = state.positions; taken = looked })) (take-length w.accepted)
-            ∙ ap (λ (es : List Event). goes (Seal ∷ Pull ∷ es) scanned_on) (answers_of (command ∷ commands) (reply ∷ replies) same ∙ sym (unknown_terminals looked))
-            ∙ answered_all lost (map unknown_to looked) w.answered w.given refl (unknown_apart looked (all_apart v (command ∷ commands) (reply ∷ replies) found))
-            ∙ ap (λ (us : List Taken). Some (answering_on lost [] (w.answered ++ map answer_of us) (w.given ++ us))) (unknown_is (command ∷ commands) (reply ∷ replies) same),
-      )
-
 -- nothing else changes
 module _ (w : World) (commands : List Command) (state : State) (k : IsBrokenAtRest w) where
   same_front : (n : ℕ) → n ≤ length w.accepted → take n (w.accepted ++ state.batch) ≡ take n w.accepted
@@ -221,13 +164,6 @@ module _ (w : World) (commands : List Command) (state : State) (k : IsBrokenAtRe
         safe_in_range = omega arith;
         doubt_in_range = omega arith;
       }
-
-pub broken_turns_are_runs : (w : World) → BrokenTurnsAreRuns w
-broken_turns_are_runs w command commands reply replies state k found r =
-    let e = is_broken_rest w k in
-    subst (λ (v : World). (letters : List (Option ℕ)) × (goes (broken_events (command ∷ commands) letters) v ≡ Some (turned_broken v (command ∷ commands) state))) e
-    (broken_turn w command commands reply replies state (subst (λ (v : World). AreFound v (command ∷ commands)) (sym e) found)
-    (subst (λ (v : World). Run v.building any_eligible (state_of v) (command ∷ commands) (reply ∷ replies) state) (sym e) r))
 
 pub broken_turns_change_nothing : (w : World) → BrokenTurnsChangeNothing w
 broken_turns_change_nothing w commands state k = answers_alone w commands state k

@@ -1,11 +1,8 @@
 -- What a clerk does, a group does.
-use Rattle.lift_building.specs.Plan.{Plan}
-use Rattle.lift_disk.specs.Disk.{Image}
 use Rattle.lift_clerk.specs.Clerk.{ClerkState}
 use Rattle.lift_clerk.specs.Steps.{group_of, TurnMakesSafe, LeavesInDoubt, AnswersUnknown}
 use Rattle.lift_clerk.specs.Steps.{ClerkRests}
 use Rattle.lift_clerk.specs.Machine.{ClerkReopens, IsNewClerk}
-use Rattle.lift_clerk.specs.History.{BeginsOver}
 
 module _ {D P : Type 0} (before after : ClerkState D P) where
   abbrev pub grouped_safe : TurnMakesSafe before after
@@ -70,13 +67,3 @@ module _ {D P : Type 0} (clerk : ClerkState D P) where
   abbrev pub grouped_begins : IsNewClerk clerk → IsNewClerk (group_of clerk)
   grouped_begins b =
       record { seat = b.seat; state = b.state; is_whole = b.is_whole; no_doubt = b.no_doubt }
-
-  abbrev pub grouped_over : (plan : Plan) (image : Image) → BeginsOver plan image clerk
-      → BeginsOver plan image (group_of clerk)
-  grouped_over plan image b =
-      record {
-        begins = grouped_begins b.begins;
-        same_plan = b.same_plan;
-        reads = b.reads;
-        only = b.only;
-      }

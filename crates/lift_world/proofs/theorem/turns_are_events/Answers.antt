@@ -1,7 +1,7 @@
 use Rattle.lift_world.specs.lemmas.Steps.{takes_are_steps, steps_are_takes}
 use Rattle.lift_world.proofs.Scans.{runs_are_takes}
-use Rattle.lift_world.proofs.Turns.{turns_are_runs, failures_are_runs}
-use Rattle.lift_world.proofs.Resting.{broken_turns_are_runs, broken_turns_change_nothing}
+use Rattle.lift_world.proofs.Whole.{turns_are_runs, failures_are_runs, broken_turns_are_runs}
+use Rattle.lift_world.proofs.Resting.{broken_turns_change_nothing}
 use Rattle.lift_world.specs.lemmas.Looks.{run_of}
 use Rattle.lift_world.proofs.Standing.{asks_stand}
 use Rattle.lift_world.proofs.theorem.turns_are_events.Goals as goal
