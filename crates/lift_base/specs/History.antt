@@ -1,4 +1,5 @@
 use Rattle.std.specs.Prelude.{ℕ, ◌≤◌, ◌==◌, ◌&&◌, List, [], ◌∷◌, nat_lt, if◌then◌else◌}
+use Rattle.lift_base.specs.declared.limits.TheConstants.{LEAST_HALF, MOST_CARS, MOST_FLOORS, MOST_KIOSKS}
 use Rattle.lift_base.specs.declared.travel.Dir.{Dir}
 use Rattle.lift_base.specs.declared.travel.Dir.TheVariants.{Up, Down}
 use Rattle.lift_base.specs.declared.history.Content.{Content}
@@ -42,7 +43,7 @@ row_after stop row =
 
 -- what the controller is made for
 pub record IsWithinLimits (shape : Shape) : Type 0 where
-  pub floors : (2 ≤ shape.floors) × (shape.floors ≤ 64)
-  pub cars : (1 ≤ shape.cars) × (shape.cars ≤ 16)
-  pub kiosks : (1 ≤ shape.kiosks) × (shape.kiosks ≤ 47)
-  pub half : (64 ≤ shape.half) × (shape.half ≤ 1000000)
+  pub floors : (2 ≤ shape.floors) × (shape.floors ≤ MOST_FLOORS)
+  pub cars : (1 ≤ shape.cars) × (shape.cars ≤ MOST_CARS)
+  pub kiosks : (1 ≤ shape.kiosks) × (shape.kiosks ≤ MOST_KIOSKS)
+  pub half : (LEAST_HALF ≤ shape.half) × (shape.half ≤ 1000000)

@@ -7,6 +7,7 @@ use Rattle.lift_base.specs.Command.{reason_number}
 use Rattle.lift_base.specs.declared.command.Reply.{Reply}
 use Rattle.lift_base.specs.declared.command.Reply.TheVariants.{Car, Stopped, Placed, Refused}
 use Rattle.lift_base.specs.declared.command.Reply.TheVariants.{Unknown}
+use Rattle.lift_base.specs.declared.limits.TheConstants.{FIRST_KIOSK}
 use Rattle.lift_base.specs.declared.travel.Stop.{Stop}
 use Rattle.lift_base.specs.declared.travel.Dir.{Dir}
 use Rattle.lift_base.specs.declared.travel.Dir.TheVariants.{Up, Down}
@@ -47,7 +48,8 @@ ArePartyWords words party = (words ≡ decimal party ∷ []) ⊎ ((words ≡ [])
 -- and kiosks K0 to K46
 abbrev pub terminal_text : ℕ → List ℕ
 terminal_text terminal =
-    if nat_lt terminal 16 then letter_text terminal else codes "K" ++ decimal (terminal - 16)
+    if nat_lt terminal FIRST_KIOSK then letter_text terminal
+    else codes "K" ++ decimal (terminal - FIRST_KIOSK)
 
 -- a car's next stop, as it is answered
 abbrev pub next_text : Option Stop → List ℕ

@@ -1,6 +1,9 @@
 //! Numbers that are always in range.
 ghost use Rattle.std.specs.Prelude.{◌≡◌, ℕ, ◌+◌, ◌-◌, ◌<◌, ◌≤◌, ◌↔◌, IsTrue, IsSome, IfSome};
+ghost use Rattle.lift_base.specs.declared.limits.TheConstants.{MOST_CARS, MOST_FLOORS};
+ghost use Rattle.lift_base.specs.declared.limits.TheConstants.{MOST_TERMINALS};
 
+use crate::limits::{FIRST_KIOSK, MOST_CARS, MOST_FLOORS, MOST_KIOSKS, MOST_TERMINALS};
 use std::marker::Model;
 
 /// A floor of a building, 0 to 63.
@@ -14,7 +17,7 @@ impl Model for Floor {
 
     ghost view = { λ f. f.number };
 
-    ghost invariant = { λ f. f.number < 64 };
+    ghost invariant = { λ f. f.number < MOST_FLOORS };
 
     ghost inverse = { λ n. record { number = n } };
 }
@@ -22,10 +25,10 @@ impl Model for Floor {
 impl Floor {
     /// The floor with this number; none above 63.
     pub fn new(number: u8) -> Option<Self>
-        ensures valid { IsSome result ↔ (number < 64) }
+        ensures valid { IsSome result ↔ (number < MOST_FLOORS) }
         ensures value { IfSome result (λ floor. floor ≡ number) }
     {
-        if number < 64 {
+        if number < MOST_FLOORS as u8 {
             Some(Floor { number })
         } else {
             None
@@ -35,7 +38,7 @@ impl Floor {
     /// Its number, 0 to 63.
     pub fn get(self) -> u8
         ensures value { result ≡ self }
-        ensures in_range { result < 64 }
+        ensures in_range { result < MOST_FLOORS }
     {
         self.number
     }
@@ -60,7 +63,7 @@ impl Model for Letter {
 
     ghost view = { λ l. l.index };
 
-    ghost invariant = { λ l. l.index < 16 };
+    ghost invariant = { λ l. l.index < MOST_CARS };
 
     ghost inverse = { λ n. record { index = n } };
 }
@@ -68,10 +71,10 @@ impl Model for Letter {
 impl Letter {
     /// The car with this index, counted from 0; none above 15.
     pub fn new(index: u8) -> Option<Self>
-        ensures valid { IsSome result ↔ (index < 16) }
+        ensures valid { IsSome result ↔ (index < MOST_CARS) }
         ensures value { IfSome result (λ letter. letter ≡ index) }
     {
-        if index < 16 {
+        if index < MOST_CARS as u8 {
             Some(Letter { index })
         } else {
             None
@@ -81,7 +84,7 @@ impl Letter {
     /// Its index, 0 to 15.
     pub fn get(self) -> u8
         ensures value { result ≡ self }
-        ensures in_range { result < 16 }
+        ensures in_range { result < MOST_CARS }
     {
         self.index
     }
@@ -106,7 +109,7 @@ impl Model for Terminal {
 
     ghost view = { λ t. t.index };
 
-    ghost invariant = { λ t. t.index < 63 };
+    ghost invariant = { λ t. t.index < MOST_TERMINALS };
 
     ghost inverse = { λ n. record { index = n } };
 }
@@ -114,10 +117,10 @@ impl Model for Terminal {
 impl Terminal {
     /// The terminal with this index, counted from 0; none above 62.
     pub fn new(index: u8) -> Option<Self>
-        ensures valid { IsSome result ↔ (index < 63) }
+        ensures valid { IsSome result ↔ (index < MOST_TERMINALS) }
         ensures value { IfSome result (λ terminal. terminal ≡ index) }
     {
-        if index < 63 {
+        if index < MOST_TERMINALS as u8 {
             Some(Terminal { index })
         } else {
             None
@@ -127,7 +130,7 @@ impl Terminal {
     /// Its index, 0 to 62.
     pub fn get(self) -> u8
         ensures value { result ≡ self }
-        ensures in_range { result < 63 }
+        ensures in_range { result < MOST_TERMINALS }
     {
         self.index
     }
@@ -135,18 +138,20 @@ impl Terminal {
     /// The terminal in the car of this letter.
     pub fn of_car(car: Letter) -> Self
         ensures value { result ≡ car }
-        ensures in_range { result < 16 }
+        ensures in_range { result < MOST_CARS }
     {
         Terminal { index: car.get() }
     }
 
     /// The terminal of the kiosk with this index, counted from 0.
     pub fn of_kiosk(kiosk: u8) -> Option<Self>
-        ensures valid { IsSome result ↔ (kiosk < 47) }
-        ensures value { IfSome result (λ terminal. terminal ≡ 16 + kiosk) }
+        ensures valid { IsSome result ↔ (kiosk < MOST_KIOSKS) }
+        ensures value { IfSome result (λ terminal. terminal ≡ FIRST_KIOSK + kiosk) }
     {
-        if kiosk < 47 {
-            Some(Terminal { index: 16 + kiosk })
+        if kiosk < MOST_KIOSKS as u8 {
+            Some(Terminal {
+                index: FIRST_KIOSK + kiosk,
+            })
         } else {
             None
         }
@@ -154,14 +159,14 @@ impl Terminal {
 
     /// Whether it is a kiosk's, 16 to 62.
     pub fn is_kiosk(self) -> bool
-        ensures { IsTrue result ↔ (16 ≤ self) }
+        ensures { IsTrue result ↔ (FIRST_KIOSK ≤ self) }
     {
-        self.index >= 16
+        self.index >= FIRST_KIOSK
     }
 
     /// The car that this terminal stands in.
     pub fn car(self) -> Option<Letter>
-        ensures valid { IsSome result ↔ (self < 16) }
+        ensures valid { IsSome result ↔ (self < MOST_CARS) }
         ensures value { IfSome result (λ car. car ≡ self) }
     {
         Letter::new(self.index)
@@ -169,11 +174,11 @@ impl Terminal {
 
     /// The index of this kiosk, counted from 0.
     pub fn kiosk(self) -> Option<u8>
-        ensures valid { IsSome result ↔ (16 ≤ self) }
-        ensures value { IfSome result (λ kiosk. (kiosk + 16 ≡ self) × (kiosk < 47)) }
+        ensures valid { IsSome result ↔ (FIRST_KIOSK ≤ self) }
+        ensures value { IfSome result (λ kiosk. (kiosk + FIRST_KIOSK ≡ self) × (kiosk < MOST_KIOSKS)) }
     {
-        if self.index >= 16 {
-            Some(self.index - 16)
+        if self.index >= FIRST_KIOSK {
+            Some(self.index - FIRST_KIOSK)
         } else {
             None
         }

@@ -8,6 +8,7 @@ ghost use Rattle.lift_base.specs.History.{dir_of, row_after, IsWithinLimits};
 ghost use Rattle.lift_base.specs.History.{terminal_of, number_of, content_of};
 
 use crate::checked::{Floor, Letter, Number, Party, Terminal};
+use crate::limits::{LEAST_HALF, MOST_CARS, MOST_FLOORS, MOST_KIOSKS};
 use crate::travel::{Dir, Stop};
 use arrayvec::ArrayVec;
 
@@ -280,9 +281,6 @@ impl Default for Record {
     }
 }
 
-/// The largest count of done calls: every call that all kiosks can number.
-pub const MOST_DONE: u32 = 788_529_105;
-
 /// The size of an installation: how many floors, cars and kiosks, and how many sectors in half of
 /// its disk.
 #[derive(Clone, Copy, Default, PartialEq, Eq)]
@@ -303,12 +301,12 @@ impl Shape {
         ensures { IsTrue result ↔ IsWithinLimits self.now }
     {
         2 <= self.floors
-            && self.floors <= 64
+            && self.floors <= MOST_FLOORS as u8
             && 1 <= self.cars
-            && self.cars <= 16
+            && self.cars <= MOST_CARS as u8
             && 1 <= self.kiosks
-            && self.kiosks <= 47
-            && 64 <= self.half
+            && self.kiosks <= MOST_KIOSKS as u8
+            && LEAST_HALF <= self.half
             && self.half <= 1_000_000
     }
 }

@@ -14,10 +14,11 @@ mod travel;
 pub use checked::{Floor, Letter, Number, Party, Terminal};
 pub use command::{Body, Reason, Reply};
 pub use count::ProofCount;
-pub use history::{Content, Entry, Last, MOST_DONE, Record, Row, Shape, serve_rows};
+pub use history::{Content, Entry, Last, Record, Row, Shape, serve_rows};
 pub use limits::{
-    MOST_BATCHES, MOST_CARS, MOST_ENTRIES, MOST_FLOORS, MOST_HALTS, MOST_KIOSKS, MOST_ROWS,
-    MOST_TERMINALS,
+    FIRST_KIOSK, LAST_CAR, LAST_KIOSK, LAST_TERMINAL, LEAST_HALF, MOST_BATCHES, MOST_CARS,
+    MOST_DONE, MOST_ENTRIES, MOST_FLOORS, MOST_HALTS, MOST_KIOSKS, MOST_OPEN, MOST_PLACES,
+    MOST_RECORDS, MOST_ROWS, MOST_TERMINALS, MOST_WEIGHED, TOP_FLOOR,
 };
 pub use lists::push_some;
 pub use travel::{Dir, Halt, Pass, Position, Stop};

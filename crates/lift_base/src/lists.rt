@@ -8,7 +8,7 @@ use arrayvec::ArrayVec;
 
 /// Adds an item to a batch, if there is one.
 pub fn push_some<T: Copy>(list: &mut ArrayVec<T, MOST_ENTRIES>, item: Option<T>)
-    requires { length list.old.items < 63 }
+    requires { length list.old.items < MOST_ENTRIES }
     ensures { list.new.items ≡ list.old.items ++ option_to_list item }
 {
     if let Some(item) = item {

@@ -2,6 +2,7 @@
 use Rattle.std.proofs.Common.{◌≡◌, ◌≢◌, ℕ, ◌+◌, ◌-◌, ◌≤◌, ◌<◌, ◌⊎◌, ℤ, pos, negsuc, Bool, true, false, cond, ◌==◌, nat_le, List, [], ◌∷◌, length, Option, Some, None, Result, Ok, Err, refl, sym, ap, subst, ◌∙◌, arith, inl, inr}
 use Rattle.std.proofs.lemmas.Bool.{cases_Bool, eqb-true, eqb-false, leb-true, leb-false}
 use Rattle.toml.specs.Data.{Data, integer, array, table, Items, no_items, item, Members, get}
+use Rattle.lift_base.specs.declared.limits.TheConstants.{MOST_CARS, MOST_FLOORS, MOST_KIOSKS, MOST_PLACES}
 use Rattle.lift_building.specs.declared.fault.Field.{Field}
 use Rattle.lift_building.specs.declared.fault.Field.TheVariants.{Floors, DoorMs, Kiosks, Flight, Cars, Places, Serves}
 use Rattle.lift_building.specs.declared.fault.BuildingFault.{BuildingFault}
@@ -120,11 +121,11 @@ not_allowed low high n e fits = let both = between_again low high n fits.0 fits.
 floor_right : (field : Field) (floors : ℕ) → 1 ≤ floors → (v : Data) (n : ℕ) → number_in field 0 (floors - 1) v ≡ Ok n → IsFloorNumber floors v n
 floor_right field floors some v n h = let fits = number_in_ok field 0 (floors - 1) v n h in (number_is field 0 (floors - 1) v n h, omega (arith, fits.1, some))
 
-kiosks_err : (floors : ℕ) (v : Data) (fault : BuildingFault) → 1 ≤ floors → floors_in Kiosks (is_between 1 47) floors v ≡ Err fault → IsBadKiosks floors v fault
+kiosks_err : (floors : ℕ) (v : Data) (fault : BuildingFault) → 1 ≤ floors → floors_in Kiosks (is_between 1 MOST_KIOSKS) floors v ≡ Err fault → IsBadKiosks floors v fault
 unfolding floors_in
 kiosks_err floors v fault some e =
     array_err (λ _. number_in Kiosks 0 (floors - 1)) (λ _. IsFloorNumber floors) (λ _. IsBadNumber Kiosks 0 (floors - 1)) (λ i w n h. floor_right Kiosks floors some w n h) (λ i w f h. number_err Kiosks 0 (floors - 1) w f h)
-    Kiosks (is_between 1 47) IsKioskCount (OutOfRange Kiosks) (λ n h. between 1 47 n h) (λ n h. not_allowed 1 47 n h) v fault e
+    Kiosks (is_between 1 MOST_KIOSKS) IsKioskCount (OutOfRange Kiosks) (λ n h. between 1 MOST_KIOSKS n h) (λ n h. not_allowed 1 MOST_KIOSKS n h) v fault e
 
 served_err : (floors : ℕ) (v : Data) (fault : BuildingFault) → 1 ≤ floors → floors_in Serves is_some_number floors v ≡ Err fault → IsBadServed floors v fault
 unfolding floors_in
@@ -175,14 +176,14 @@ no_table floors v fault other same = subst (λ f. IsBadCar floors v f) same (not
 car_err : (floors : ℕ) (v : Data) (fault : BuildingFault) → 1 ≤ floors → car_in floors v ≡ Err fault → IsBadCar floors v fault
 unfolding car_in
 car_err floors (table members) fault some e =
-    elim (bind_err (number_at Places 1 32 (table members)) _ fault e) [
-      | inl wrong ↦ elim (number_at_err Places 1 32 (table members) fault wrong) [
+    elim (bind_err (number_at Places 1 MOST_PLACES (table members)) _ fault e) [
+      | inl wrong ↦ elim (number_at_err Places 1 MOST_PLACES (table members) fault wrong) [
         | inl gone ↦ subst (λ f. IsBadCar floors (table members) f) gone.1 (no_places gone.0)
         | inr there ↦ bad_places there.0 there.1 there.2
       ]
       | inr places ↦ elim (bind_err (served_in floors (get (name_of Serves) (table members))) _ fault places.2) [
         | inl wrong ↦ (let listed = listed_err floors (get (name_of Serves) (table members)) fault some wrong in
-            bad_floors places.0 listed.0 (number_at_is Places 1 32 (table members) places.0 places.1) (number_at_ok Places 1 32 (table members) places.0 places.1) listed.1 listed.2)
+            bad_floors places.0 listed.0 (number_at_is Places 1 MOST_PLACES (table members) places.0 places.1) (number_at_ok Places 1 MOST_PLACES (table members) places.0 places.1) listed.1 listed.2)
         | inr none ↦ absurd (let ends = none.2 in cc)
       ]
     ]
@@ -192,7 +193,7 @@ cars_err : (floors : ℕ) (v : Data) (fault : BuildingFault) → 1 ≤ floors �
 unfolding cars_in
 cars_err floors v fault some e =
     array_err (λ _. car_in floors) (λ _. IsCarValue floors) (λ _. IsBadCar floors) (λ i w car h. (car_is floors w car some h, car_ok floors w car some h)) (λ i w f h. car_err floors w f some h)
-    Cars (is_between 1 16) IsCarCount (OutOfRange Cars) (λ n h. between 1 16 n h) (λ n h. not_allowed 1 16 n h) v fault e
+    Cars (is_between 1 MOST_CARS) IsCarCount (OutOfRange Cars) (λ n h. between 1 MOST_CARS n h) (λ n h. not_allowed 1 MOST_CARS n h) v fault e
 
 -- ---- keys
 
@@ -212,13 +213,13 @@ pub plan_err : (document : Data) (fault : BuildingFault) → plan_in document �
 unfolding plan_in
 plan_err document fault e =
     let none : Plan = record { floors = 0; door_ms = 0; kiosks = []; flights = []; cars = [] } in
-    elim (bind_err (number_at Floors 2 64 document) _ fault e) [
-      | inl wrong ↦ number_key document none Floors 2 64 fault wrong (λ gone. key_missing none tt tt gone) (λ value is bad. key_bad Floors none value tt is bad)
+    elim (bind_err (number_at Floors 2 MOST_FLOORS document) _ fault e) [
+      | inl wrong ↦ number_key document none Floors 2 MOST_FLOORS fault wrong (λ gone. key_missing none tt tt gone) (λ value is bad. key_bad Floors none value tt is bad)
       | inr floors ↦ (
-          let floors-fit = number_at_ok Floors 2 64 document floors.0 floors.1 in
+          let floors-fit = number_at_ok Floors 2 MOST_FLOORS document floors.0 floors.1 in
           let some : 1 ≤ floors.0 = omega (arith, floors-fit.0) in
           let with_floors : Plan = record { floors = floors.0; door_ms = 0; kiosks = []; flights = []; cars = [] } in
-          let floors-is : IsRightKey document with_floors Floors = (number_at_is Floors 2 64 document floors.0 floors.1, floors-fit.0, floors-fit.1) in
+          let floors-is : IsRightKey document with_floors Floors = (number_at_is Floors 2 MOST_FLOORS document floors.0 floors.1, floors-fit.0, floors-fit.1) in
           elim (bind_err (number_at DoorMs 0 60000 document) _ fault floors.2) [
             | inl wrong ↦ number_key document with_floors DoorMs 0 60000 fault wrong (λ gone. key_missing with_floors (floors-is, tt) tt gone) (λ value is bad. key_bad DoorMs with_floors value (floors-is, tt) is bad)
             | inr door ↦ (
@@ -229,13 +230,13 @@ plan_err document fault e =
                   | inl wrong ↦ no_key document Kiosks fault wrong (λ gone. key_missing with_door (floors-is, (door-is, tt)) tt gone)
                   | inr kiosk_value ↦ (
                       let kiosk-at = key_is Kiosks (get (name_of Kiosks) document) kiosk_value.0 kiosk_value.1 in
-                      elim (bind_err (floors_in Kiosks (is_between 1 47) floors.0 kiosk_value.0) _ fault kiosk_value.2) [
+                      elim (bind_err (floors_in Kiosks (is_between 1 MOST_KIOSKS) floors.0 kiosk_value.0) _ fault kiosk_value.2) [
                         | inl wrong ↦ key_bad Kiosks with_door kiosk_value.0 (floors-is, (door-is, tt)) kiosk-at (kiosks_err floors.0 kiosk_value.0 fault some wrong)
                         | inr kiosks ↦ (
-                            let kiosks-fit = floors_ok Kiosks (is_between 1 47) floors.0 kiosk_value.0 kiosks.0 some kiosks.1 in
-                            let few = between 1 47 (length kiosks.0) kiosks-fit.0 in
+                            let kiosks-fit = floors_ok Kiosks (is_between 1 MOST_KIOSKS) floors.0 kiosk_value.0 kiosks.0 some kiosks.1 in
+                            let few = between 1 MOST_KIOSKS (length kiosks.0) kiosks-fit.0 in
                             let with_kiosks : Plan = record { floors = floors.0; door_ms = door.0; kiosks = kiosks.0; flights = []; cars = [] } in
-                            let kiosks-are : IsRightKey document with_kiosks Kiosks = (kiosk-at ∙ ap Some (floors_are Kiosks (is_between 1 47) floors.0 kiosk_value.0 kiosks.0 kiosks.1), few, kiosks-fit.1) in
+                            let kiosks-are : IsRightKey document with_kiosks Kiosks = (kiosk-at ∙ ap Some (floors_are Kiosks (is_between 1 MOST_KIOSKS) floors.0 kiosk_value.0 kiosks.0 kiosks.1), few, kiosks-fit.1) in
                             elim (bind_err (key Flight document) _ fault kiosks.2) [
                               | inl wrong ↦ no_key document Flight fault wrong (λ gone. key_missing with_kiosks (floors-is, (door-is, (kiosks-are, tt))) tt gone)
                               | inr flight_value ↦ (

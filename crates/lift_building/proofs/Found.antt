@@ -3,6 +3,7 @@ use Rattle.std.proofs.Common.{◌≡◌, ◌≢◌, ℕ, suc, ◌+◌, ◌-◌, 
 use Rattle.std.specs.List.{AllByRecursion}
 use Rattle.std.proofs.lemmas.Bool.{cases_Bool, eq-eqb, eqb-true, eqb-false, le-leb, leb-true}
 use Rattle.toml.specs.Data.{Data, integer, array, table, Items, no_items, item, Members, get}
+use Rattle.lift_base.specs.declared.limits.TheConstants.{MOST_CARS, MOST_FLOORS, MOST_KIOSKS, MOST_PLACES}
 use Rattle.lift_building.specs.declared.fault.Field.{Field}
 use Rattle.lift_building.specs.declared.fault.Field.TheVariants.{Floors, DoorMs, Kiosks, Flight, Cars, Places, Serves}
 use Rattle.lift_building.specs.declared.fault.BuildingFault.{BuildingFault}
@@ -89,11 +90,11 @@ module _ {A : Type 0} (one : ℕ → Data → Result A BuildingFault) (Is : ℕ 
 floor_again : (field : Field) (floors : ℕ) (v : Data) (n : ℕ) → IsFloorNumber floors v n → number_in field 0 (floors - 1) v ≡ Ok n
 floor_again field floors v n is = ap (number_in field 0 (floors - 1)) is.0 ∙ number_again field 0 (floors - 1) n (omega arith) (let lt = is.1 in omega (arith, lt))
 
-kiosks_found : (floors : ℕ) (v : Data) (fault : BuildingFault) → IsBadKiosks floors v fault → floors_in Kiosks (is_between 1 47) floors v ≡ Err fault
+kiosks_found : (floors : ℕ) (v : Data) (fault : BuildingFault) → IsBadKiosks floors v fault → floors_in Kiosks (is_between 1 MOST_KIOSKS) floors v ≡ Err fault
 unfolding floors_in
 kiosks_found floors v fault wrong =
     array_found (λ _. number_in Kiosks 0 (floors - 1)) (λ _. IsFloorNumber floors) (λ _. IsBadNumber Kiosks 0 (floors - 1)) (λ i w n h. floor_again Kiosks floors w n h) (λ i w f h. number_found Kiosks 0 (floors - 1) w f h)
-    Kiosks (is_between 1 47) IsKioskCount (OutOfRange Kiosks) (λ n h. between 1 47 n h) (λ n h. between_again 1 47 n h.0 h.1) v fault wrong
+    Kiosks (is_between 1 MOST_KIOSKS) IsKioskCount (OutOfRange Kiosks) (λ n h. between 1 MOST_KIOSKS n h) (λ n h. between_again 1 MOST_KIOSKS n h.0 h.1) v fault wrong
 
 served_found : (floors : ℕ) (v : Data) (fault : BuildingFault) → IsBadServed floors v fault → floors_in Serves is_some_number floors v ≡ Err fault
 unfolding floors_in
@@ -139,22 +140,22 @@ listed_found floors o value fault is wrong = rw is (rw (served_found floors valu
 car_found : (floors : ℕ) (v : Data) (fault : BuildingFault) → IsBadCar floors v fault → car_in floors v ≡ Err fault
 unfolding car_in
 car_found floors v _ (not_table never) = no_table floors v never
-car_found floors _ _ (no_places {members} gone) = rw (number_gone Places 1 32 (table members) gone) refl
-car_found floors _ fault (bad_places {members} value has wrong) = rw (number_at_found Places 1 32 (table members) value fault has wrong) refl
+car_found floors _ _ (no_places {members} gone) = rw (number_gone Places 1 MOST_PLACES (table members) gone) refl
+car_found floors _ fault (bad_places {members} value has wrong) = rw (number_at_found Places 1 MOST_PLACES (table members) value fault has wrong) refl
 car_found floors _ fault (bad_floors {members} places value has fits listed wrong) =
-    rw (number_at_again Places 1 32 (table members) places has fits.0 fits.1, listed_found floors (get (name_of Serves) (table members)) value fault listed wrong) refl
+    rw (number_at_again Places 1 MOST_PLACES (table members) places has fits.0 fits.1, listed_found floors (get (name_of Serves) (table members)) value fault listed wrong) refl
 
 cars_found : (floors : ℕ) (v : Data) (fault : BuildingFault) → IsBadCars floors v fault → cars_in floors v ≡ Err fault
 unfolding cars_in
 cars_found floors v fault wrong =
     array_found (λ _. car_in floors) (λ _. IsCarValue floors) (λ _. IsBadCar floors) (λ i w car h. car_again floors w car h.0 h.1) (λ i w f h. car_found floors w f h)
-    Cars (is_between 1 16) IsCarCount (OutOfRange Cars) (λ n h. between 1 16 n h) (λ n h. between_again 1 16 n h.0 h.1) v fault wrong
+    Cars (is_between 1 MOST_CARS) IsCarCount (OutOfRange Cars) (λ n h. between 1 MOST_CARS n h) (λ n h. between_again 1 MOST_CARS n h.0 h.1) v fault wrong
 
 -- ---- keys
 
 module _ (document : Data) (plan : Plan) where
-  floors_read : IsRightKey document plan Floors → number_at Floors 2 64 document ≡ Ok plan.floors
-  floors_read is = number_at_again Floors 2 64 document plan.floors is.0 is.1 is.2
+  floors_read : IsRightKey document plan Floors → number_at Floors 2 MOST_FLOORS document ≡ Ok plan.floors
+  floors_read is = number_at_again Floors 2 MOST_FLOORS document plan.floors is.0 is.1 is.2
 
   door_read : IsRightKey document plan DoorMs → number_at DoorMs 0 60000 document ≡ Ok plan.door_ms
   door_read is = number_at_again DoorMs 0 60000 document plan.door_ms is.0 (omega arith) is.1
@@ -162,8 +163,8 @@ module _ (document : Data) (plan : Plan) where
   kiosks_there : IsRightKey document plan Kiosks → key Kiosks document ≡ Ok (array (numbers plan.kiosks))
   kiosks_there is = key_again Kiosks document (array (numbers plan.kiosks)) is.0
 
-  kiosks_read : IsRightKey document plan Kiosks → floors_in Kiosks (is_between 1 47) plan.floors (array (numbers plan.kiosks)) ≡ Ok plan.kiosks
-  kiosks_read is = let few = is.1 in floors_again Kiosks (is_between 1 47) plan.floors plan.kiosks (between_again 1 47 (length plan.kiosks) few.0 few.1) is.2
+  kiosks_read : IsRightKey document plan Kiosks → floors_in Kiosks (is_between 1 MOST_KIOSKS) plan.floors (array (numbers plan.kiosks)) ≡ Ok plan.kiosks
+  kiosks_read is = let few = is.1 in floors_again Kiosks (is_between 1 MOST_KIOSKS) plan.floors plan.kiosks (between_again 1 MOST_KIOSKS (length plan.kiosks) few.0 few.1) is.2
 
   flights_there : IsRightKey document plan Flight → key Flight document ≡ Ok (array (number_rows plan.flights))
   flights_there is = key_again Flight document (array (number_rows plan.flights)) is.0
@@ -173,7 +174,7 @@ module _ (document : Data) (plan : Plan) where
 
   missing_found : (field : Field) → AllByRecursion (IsRightKey document plan) (keys_before field) → IsNeeded field → get (name_of field) document ≡ None → plan_in document ≡ Err (Missing field)
   unfolding plan_in
-  missing_found Floors rights needed gone = rw (number_gone Floors 2 64 document gone) refl
+  missing_found Floors rights needed gone = rw (number_gone Floors 2 MOST_FLOORS document gone) refl
   missing_found DoorMs (floors, rest) needed gone = rw (floors_read floors, number_gone DoorMs 0 60000 document gone) refl
   missing_found Kiosks (floors, (door, rest)) needed gone = rw (floors_read floors, door_read door, key_gone Kiosks document gone) refl
   missing_found Flight (floors, (door, (kiosks, rest))) needed gone = rw (floors_read floors, door_read door, kiosks_there kiosks, kiosks_read kiosks, key_gone Flight document gone) refl
@@ -184,7 +185,7 @@ module _ (document : Data) (plan : Plan) where
 
   bad_found : (field : Field) (value : Data) (fault : BuildingFault) → AllByRecursion (IsRightKey document plan) (keys_before field) → get (name_of field) document ≡ Some value → IsBadValue field plan value fault → plan_in document ≡ Err fault
   unfolding plan_in
-  bad_found Floors value fault rights has wrong = rw (number_at_found Floors 2 64 document value fault has wrong) refl
+  bad_found Floors value fault rights has wrong = rw (number_at_found Floors 2 MOST_FLOORS document value fault has wrong) refl
   bad_found DoorMs value fault (floors, rest) has wrong = rw (floors_read floors, number_at_found DoorMs 0 60000 document value fault has wrong) refl
   bad_found Kiosks value fault (floors, (door, rest)) has wrong = rw (floors_read floors, door_read door, key_again Kiosks document value has, kiosks_found plan.floors value fault wrong) refl
   bad_found Flight value fault (floors, (door, (kiosks, rest))) has wrong =

@@ -4,6 +4,7 @@ use Rattle.std.specs.Prelude.{ℕ, ◌≡◌, ◌≢◌, ◌↔◌, ◌+◌, ◌
 use Rattle.std.specs.Prelude.{ℤ, Some, None, Err, slice_index}
 use Rattle.std.specs.List.{AllByRecursion}
 use Rattle.toml.specs.Data.{Data, integer, array, table, Items, no_items, item, Members, get}
+use Rattle.lift_base.specs.declared.limits.TheConstants.{MOST_CARS, MOST_FLOORS, MOST_KIOSKS, MOST_PLACES}
 use Rattle.lift_building.specs.declared.fault.Field.{Field}
 use Rattle.lift_building.specs.declared.fault.Field.TheVariants.{
   Floors,
@@ -76,7 +77,7 @@ abbrev pub IsFloorNumber : ℕ → Data → ℕ → Type 0
 IsFloorNumber floors value floor = (value ≡ integer (pos floor)) × (floor < floors)
 
 abbrev pub IsKioskCount : ℕ → Type 0
-IsKioskCount count = (1 ≤ count) × (count ≤ 47)
+IsKioskCount count = (1 ≤ count) × (count ≤ MOST_KIOSKS)
 
 abbrev pub IsBadKiosks : ℕ → Data → BuildingFault → Type 0
 IsBadKiosks floors = IsBadArray Kiosks IsKioskCount (OutOfRange Kiosks) (λ _. IsFloorNumber floors)
@@ -118,7 +119,7 @@ IsBadServed floors = IsBadArray Serves IsServedCount (OutOfRange Serves) (λ _. 
     (λ _. IsBadNumber Serves 0 (floors - 1))
 
 abbrev pub IsPlaces : ℕ → Type 0
-IsPlaces places = (1 ≤ places) × (places ≤ 32)
+IsPlaces places = (1 ≤ places) × (places ≤ MOST_PLACES)
 
 -- A car is no table; or its places aren't there or at fault; or its places are right, and the floors
 -- that it serves are at fault.
@@ -128,7 +129,7 @@ pub data IsBadCar (floors : ℕ) : Data → BuildingFault → Type 0 where
   no_places : {members : Members} → get (name_of Places) (table members) ≡ None
       → IsBadCar floors (table members) (Missing Places)
   bad_places : {members : Members} {fault : BuildingFault} (value : Data)
-      → get (name_of Places) (table members) ≡ Some value → IsBadNumber Places 1 32 value fault
+      → get (name_of Places) (table members) ≡ Some value → IsBadNumber Places 1 MOST_PLACES value fault
       → IsBadCar floors (table members) fault
   bad_floors : {members : Members} {fault : BuildingFault} (places : ℕ) (value : Data)
       → get (name_of Places) (table members) ≡ Some (integer (pos places)) → IsPlaces places
@@ -136,7 +137,7 @@ pub data IsBadCar (floors : ℕ) : Data → BuildingFault → Type 0 where
       → IsBadCar floors (table members) fault
 
 abbrev pub IsCarCount : ℕ → Type 0
-IsCarCount count = (1 ≤ count) × (count ≤ 16)
+IsCarCount count = (1 ≤ count) × (count ≤ MOST_CARS)
 
 -- what a car should be
 abbrev pub IsCarValue : ℕ → Data → CarPlan → Type 0
@@ -162,7 +163,7 @@ keys_before Serves = []
 abbrev pub IsRightKey : Data → Plan → Field → Type 0
 IsRightKey document plan Floors =
     (get (name_of Floors) document ≡ Some (integer (pos plan.floors)))
-    × (2 ≤ plan.floors) × (plan.floors ≤ 64)
+    × (2 ≤ plan.floors) × (plan.floors ≤ MOST_FLOORS)
 IsRightKey document plan DoorMs =
     (get (name_of DoorMs) document ≡ Some (integer (pos plan.door_ms))) × (plan.door_ms ≤ 60000)
 IsRightKey document plan Kiosks =
@@ -180,7 +181,7 @@ IsNeeded _ = Unit {0}
 
 -- the value of a building's key is at fault
 abbrev pub IsBadValue : Field → Plan → Data → BuildingFault → Type 0
-IsBadValue Floors plan = IsBadNumber Floors 2 64
+IsBadValue Floors plan = IsBadNumber Floors 2 MOST_FLOORS
 IsBadValue DoorMs plan = IsBadNumber DoorMs 0 60000
 IsBadValue Kiosks plan = IsBadKiosks plan.floors
 IsBadValue Flight plan = IsBadTable plan.floors

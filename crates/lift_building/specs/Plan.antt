@@ -17,6 +17,7 @@ use Rattle.std.specs.Prelude.{
   All,
   Contains,
 }
+use Rattle.lift_base.specs.declared.limits.TheConstants.{MOST_CARS, MOST_FLOORS, MOST_KIOSKS, MOST_PLACES}
 use Rattle.lift_base.specs.declared.history.Shape.{Shape}
 
 -- what a car is built for: how many persons it takes, and for each floor whether it serves it
@@ -100,21 +101,21 @@ pub record HasFlights (plan : Plan) : Type 0 where
 -- a car that takes somebody, and serves some floor
 pub record IsCar (floors : ℕ) (car : CarPlan) : Type 0 where
   pub some_place : 1 ≤ car.places
-  pub few_places : car.places ≤ 32
+  pub few_places : car.places ≤ MOST_PLACES
   pub length : length car.served ≡ floors
   pub serves_some : Contains car.served true
 
 -- what the controller is made for
 pub record HasLimits (plan : Plan) : Type 0 where
   pub two_floors : 2 ≤ plan.floors
-  pub few_floors : plan.floors ≤ 64
+  pub few_floors : plan.floors ≤ MOST_FLOORS
   pub short_door : plan.door_ms ≤ 60000
   pub some_kiosk : 1 ≤ length plan.kiosks
-  pub few_kiosks : length plan.kiosks ≤ 47
+  pub few_kiosks : length plan.kiosks ≤ MOST_KIOSKS
   pub kiosks : All (λ floor. floor < plan.floors) plan.kiosks
   pub flights : HasFlights plan
   pub some_car : 1 ≤ length plan.cars
-  pub few_cars : length plan.cars ≤ 16
+  pub few_cars : length plan.cars ≤ MOST_CARS
   pub cars : All (IsCar plan.floors) plan.cars
 
 -- a building that is accepted

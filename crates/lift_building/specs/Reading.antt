@@ -7,6 +7,7 @@ use Rattle.toml.specs.Data.{Data, integer, array, table, Items, no_items, item, 
 use Rattle.toml.specs.Parse.{parse_document}
 use Rattle.lift_building.specs.Plan.{Plan, CarPlan}
 use Rattle.lift_building.specs.Text.{name_of}
+use Rattle.lift_base.specs.declared.limits.TheConstants.{MOST_CARS, MOST_FLOORS, MOST_KIOSKS, MOST_PLACES}
 use Rattle.lift_building.specs.declared.fault.Field.{Field}
 use Rattle.lift_building.specs.declared.fault.Field.TheVariants.{
   Floors,
@@ -125,7 +126,7 @@ served_in floors (Some value) = do
 -- a car: a table, then its places, then its floors
 unfoldable pub car_in : ℕ → Data → Result CarPlan BuildingFault
 car_in floors (table members) = do
-  places ← number_at Places 1 32 (table members)
+  places ← number_at Places 1 MOST_PLACES (table members)
   served ← served_in floors (get (name_of Serves) (table members))
   Ok (record { places = places; served = served })
 car_in floors _ = Err (WrongType Cars)
@@ -134,16 +135,16 @@ car_in floors _ = Err (WrongType Cars)
 unfoldable pub cars_in : ℕ → Data → Result (List CarPlan) BuildingFault
 cars_in floors value = do
   items ← items_in Cars value
-  items ← counted (is_between 1 16 (item_count items)) (OutOfRange Cars) items
+  items ← counted (is_between 1 MOST_CARS (item_count items)) (OutOfRange Cars) items
   each (λ _. car_in floors) 0 items
 
 -- all keys in order, each wholly before the next
 unfoldable pub plan_in : Data → Result Plan BuildingFault
 plan_in document = do
-  floors ← number_at Floors 2 64 document
+  floors ← number_at Floors 2 MOST_FLOORS document
   door_ms ← number_at DoorMs 0 60000 document
   value ← key Kiosks document
-  kiosks ← floors_in Kiosks (is_between 1 47) floors value
+  kiosks ← floors_in Kiosks (is_between 1 MOST_KIOSKS) floors value
   value ← key Flight document
   flights ← table_in floors value
   value ← key Cars document

@@ -18,7 +18,10 @@ use crate::layout::Layout;
 use crate::reading::layout_in;
 use crate::refused::document_of;
 use arrayvec::ArrayVec;
-use lift_base::{Floor, Halt, Letter, MOST_HALTS, Position, Shape};
+use lift_base::{
+    Floor, Halt, LEAST_HALF, Letter, MOST_CARS, MOST_FLOORS, MOST_HALTS, MOST_KIOSKS, MOST_PLACES,
+    Position, Shape,
+};
 use std::alloc::Global;
 use std::marker::Model;
 use toml::Value;
@@ -34,7 +37,7 @@ fn layout_of(document: &Value) -> Result<Layout, BuildingFault>
 }
 
 fn floor_at(number: usize) -> Floor
-    requires { number < 64 }
+    requires { number < MOST_FLOORS }
     ensures { result ≡ number }
 {
     Floor::new(number as u8).unwrap_or_default()
@@ -42,9 +45,9 @@ fn floor_at(number: usize) -> Floor
 
 /// The fault of a flight that a stop on the way would make shorter.
 fn detour(i: usize, j: usize, k: usize) -> BuildingFault
-    requires from { i < 64 }
-    requires by { j < 64 }
-    requires to { k < 64 }
+    requires from { i < MOST_FLOORS }
+    requires by { j < MOST_FLOORS }
+    requires to { k < MOST_FLOORS }
     ensures { result ≡ BuildingFault.Detour i j k }
 {
     BuildingFault::Detour(floor_at(i), floor_at(j), floor_at(k))
@@ -112,7 +115,7 @@ impl Building {
     /// The number of floors, 2 to 64.
     pub fn floors(&self) -> u8
         ensures value { result ≡ self.now.floors }
-        ensures limit { (2 ≤ result) × (result ≤ 64) }
+        ensures limit { (2 ≤ result) × (result ≤ MOST_FLOORS) }
         ensures lawful { IsBuilding self.now }
     {
         self.layout.floors as u8
@@ -121,7 +124,7 @@ impl Building {
     /// The number of cars, 1 to 16.
     pub fn cars(&self) -> u8
         ensures value { result ≡ length self.now.cars }
-        ensures limit { (1 ≤ result) × (result ≤ 16) }
+        ensures limit { (1 ≤ result) × (result ≤ MOST_CARS) }
         ensures lawful { IsBuilding self.now }
     {
         self.layout.cars.len() as u8
@@ -130,7 +133,7 @@ impl Building {
     /// The number of kiosks, 1 to 47.
     pub fn kiosks(&self) -> u8
         ensures value { result ≡ length self.now.kiosks }
-        ensures limit { (1 ≤ result) × (result ≤ 47) }
+        ensures limit { (1 ≤ result) × (result ≤ MOST_KIOSKS) }
         ensures lawful { IsBuilding self.now }
     {
         self.layout.kiosks.len() as u8
@@ -171,7 +174,7 @@ impl Building {
     pub fn places(&self, car: Letter) -> u8
         ensures value { result ≡ places_of self.now car }
         ensures there { (1 ≤ result) ↔ (car < length self.now.cars) }
-        ensures limit { result ≤ 32 }
+        ensures limit { result ≤ MOST_PLACES }
         ensures lawful { IsBuilding self.now }
     {
         self.layout.places(car.get() as usize)
@@ -191,7 +194,7 @@ impl Building {
     #[tactic(auto, using(crate::specs::lemmas::Getters::shape_within))]
     pub fn shape(&self, half: u32) -> Shape
         ensures value { result ≡ shape_of self.now half }
-        ensures limits { 64 ≤ half → half ≤ 1000000 → IsWithinLimits result }
+        ensures limits { LEAST_HALF ≤ half → half ≤ 1000000 → IsWithinLimits result }
         ensures lawful { IsBuilding self.now }
     {
         Shape {
@@ -204,7 +207,7 @@ impl Building {
 
     /// When a car that leaves the position's floor now reaches each halt, in order.
     pub fn arrivals(&self, position: Position, halts: &[Halt]) -> ArrayVec<u64, MOST_HALTS>
-        requires { length halts.now ≤ 66 }
+        requires { length halts.now ≤ MOST_HALTS }
         ensures value { result.items ≡ arrivals_of self.now position.floor halts.now }
         ensures laws { AreArrivals self.now position.floor halts.now result.items }
         ensures lawful { IsBuilding self.now }

@@ -15,7 +15,7 @@ ghost use Rattle.lift_building.specs.Gives.{Gives};
 use crate::fault::{BuildingFault, Field};
 use crate::layout::{Car, Flights, Layout};
 use arrayvec::ArrayVec;
-use lift_base::{Floor, MOST_CARS, MOST_FLOORS, MOST_KIOSKS};
+use lift_base::{Floor, MOST_CARS, MOST_FLOORS, MOST_KIOSKS, MOST_PLACES};
 use toml::Value;
 
 /// The value of a key.
@@ -62,7 +62,7 @@ fn number_at(field: Field, low: u32, high: u32, document: &Value) -> Result<u32,
 
 fn floor_in(field: Field, floors: u32, value: &Value) -> Result<Floor, BuildingFault>
     requires some { 1 ≤ floors }
-    requires limit { floors ≤ 64 }
+    requires limit { floors ≤ MOST_FLOORS }
     ensures given { Gives (λ floor.
         floor) result (number_in field 0 (floors - 1) (view value.now)) }
     ensures limit { IfOk result (λ floor. floor < floors) }
@@ -77,8 +77,8 @@ fn floor_in(field: Field, floors: u32, value: &Value) -> Result<Floor, BuildingF
 /// The floors at which the kiosks stand.
 fn kiosks_among(floors: u32, items: &[Value]) -> Result<ArrayVec<Floor, MOST_KIOSKS>, BuildingFault>
     requires some { 1 ≤ floors }
-    requires limit { floors ≤ 64 }
-    requires room { length items.now ≤ 47 }
+    requires limit { floors ≤ MOST_FLOORS }
+    requires room { length items.now ≤ MOST_KIOSKS }
     ensures { Gives (λ kiosks.
         kiosks.items) result (each (λ _.
         number_in Field.Kiosks 0 (floors - 1)) 0 (items_view items.now)) }
@@ -93,9 +93,9 @@ fn kiosks_among(floors: u32, items: &[Value]) -> Result<ArrayVec<Floor, MOST_KIO
 #[tactic(auto, unfolding(crate::specs::Reading::floors_in))]
 fn kiosks_in(floors: u32, value: &Value) -> Result<ArrayVec<Floor, MOST_KIOSKS>, BuildingFault>
     requires some { 1 ≤ floors }
-    requires limit { floors ≤ 64 }
+    requires limit { floors ≤ MOST_FLOORS }
     ensures { Gives (λ kiosks.
-        kiosks.items) result (floors_in Field.Kiosks (is_between 1 47) floors (view value.now)) }
+        kiosks.items) result (floors_in Field.Kiosks (is_between 1 MOST_KIOSKS) floors (view value.now)) }
 {
     let items = items_in(Field::Kiosks, value)?;
     if items.is_empty() || items.len() > MOST_KIOSKS {
@@ -116,7 +116,7 @@ fn flight_in(i: usize, j: usize, value: &Value) -> Result<u32, BuildingFault>
 }
 
 fn flights_among(i: usize, items: &[Value]) -> Result<Flights, BuildingFault>
-    requires { length items.now ≤ 64 }
+    requires { length items.now ≤ MOST_FLOORS }
     ensures { Gives (λ row. row.items) result (each (flight_in i) 0 (items_view items.now)) }
 {
     let mut row = Flights::new();
@@ -129,7 +129,7 @@ fn flights_among(i: usize, items: &[Value]) -> Result<Flights, BuildingFault>
 /// The flights from floor i.
 #[tactic(auto, unfolding(crate::specs::Reading::row_in))]
 fn row_in(floors: u32, i: usize, value: &Value) -> Result<Flights, BuildingFault>
-    requires { floors ≤ 64 }
+    requires { floors ≤ MOST_FLOORS }
     ensures { Gives (λ row. row.items) result (row_in floors i (view value.now)) }
 {
     let items = items_in(Field::Flight, value)?;
@@ -140,8 +140,8 @@ fn row_in(floors: u32, i: usize, value: &Value) -> Result<Flights, BuildingFault
 }
 
 fn rows_among(floors: u32, items: &[Value]) -> Result<ArrayVec<Flights, MOST_FLOORS>, BuildingFault>
-    requires limit { floors ≤ 64 }
-    requires room { length items.now ≤ 64 }
+    requires limit { floors ≤ MOST_FLOORS }
+    requires room { length items.now ≤ MOST_FLOORS }
     ensures { Gives (λ table.
         rows_view table.items) result (each (row_in floors) 0 (items_view items.now)) }
 {
@@ -154,7 +154,7 @@ fn rows_among(floors: u32, items: &[Value]) -> Result<ArrayVec<Flights, MOST_FLO
 
 #[tactic(auto, unfolding(crate::specs::Reading::table_in))]
 fn table_in(floors: u32, value: &Value) -> Result<ArrayVec<Flights, MOST_FLOORS>, BuildingFault>
-    requires { floors ≤ 64 }
+    requires { floors ≤ MOST_FLOORS }
     ensures { Gives (λ table. rows_view table.items) result (table_in floors (view value.now)) }
 {
     let rows = items_in(Field::Flight, value)?;
@@ -166,7 +166,7 @@ fn table_in(floors: u32, value: &Value) -> Result<ArrayVec<Flights, MOST_FLOORS>
 
 /// The same flag for each floor.
 fn same_flags(floors: u32, flag: bool) -> ArrayVec<bool, MOST_FLOORS>
-    requires { floors ≤ 64 }
+    requires { floors ≤ MOST_FLOORS }
     ensures { result.items ≡ replicate floors flag }
 {
     let mut served = ArrayVec::new();
@@ -187,7 +187,7 @@ fn mark(served: &mut ArrayVec<bool, MOST_FLOORS>, floor: Floor)
 /// A flag for each floor: whether it is among the items, each a floor of the building.
 fn flags_among(floors: u32, items: &[Value]) -> Result<ArrayVec<bool, MOST_FLOORS>, BuildingFault>
     requires some { 1 ≤ floors }
-    requires limit { floors ≤ 64 }
+    requires limit { floors ≤ MOST_FLOORS }
     ensures { Gives (λ served. served.items) result (flags_in floors (items_view items.now)) }
 {
     let mut served = same_flags(floors, false);
@@ -204,7 +204,7 @@ fn served_in(
     value: Option<&Value>,
 ) -> Result<ArrayVec<bool, MOST_FLOORS>, BuildingFault>
     requires some { 1 ≤ floors }
-    requires limit { floors ≤ 64 }
+    requires limit { floors ≤ MOST_FLOORS }
     ensures { Gives (λ served.
         served.items) result (served_in floors (option_map (λ v. view v.now) value.entry)) }
 {
@@ -223,21 +223,21 @@ fn served_in(
 #[tactic(auto, unfolding(crate::specs::Reading::car_in))]
 fn car_in(floors: u32, value: &Value) -> Result<Car, BuildingFault>
     requires some { 1 ≤ floors }
-    requires limit { floors ≤ 64 }
+    requires limit { floors ≤ MOST_FLOORS }
     ensures { Gives car_view result (car_in floors (view value.now)) }
 {
     if !value.is_table() {
         return Err(BuildingFault::WrongType(Field::Cars));
     }
-    let places = number_at(Field::Places, 1, 32, value)? as u8;
+    let places = number_at(Field::Places, 1, MOST_PLACES.into(), value)? as u8;
     let served = served_in(floors, value.get(Field::Serves.name()))?;
     Ok(Car { places, served })
 }
 
 fn cars_among(floors: u32, items: &[Value]) -> Result<ArrayVec<Car, MOST_CARS>, BuildingFault>
     requires some { 1 ≤ floors }
-    requires limit { floors ≤ 64 }
-    requires room { length items.now ≤ 16 }
+    requires limit { floors ≤ MOST_FLOORS }
+    requires room { length items.now ≤ MOST_CARS }
     ensures { Gives (λ cars.
         map car_view cars.items) result (each (λ _. car_in floors) 0 (items_view items.now)) }
 {
@@ -251,7 +251,7 @@ fn cars_among(floors: u32, items: &[Value]) -> Result<ArrayVec<Car, MOST_CARS>, 
 #[tactic(auto, unfolding(crate::specs::Reading::cars_in))]
 fn cars_in(floors: u32, value: &Value) -> Result<ArrayVec<Car, MOST_CARS>, BuildingFault>
     requires some { 1 ≤ floors }
-    requires limit { floors ≤ 64 }
+    requires limit { floors ≤ MOST_FLOORS }
     ensures { Gives (λ cars. map car_view cars.items) result (cars_in floors (view value.now)) }
 {
     let items = items_in(Field::Cars, value)?;
@@ -266,7 +266,7 @@ fn cars_in(floors: u32, value: &Value) -> Result<ArrayVec<Car, MOST_CARS>, Build
 pub(crate) fn layout_in(document: &Value) -> Result<Layout, BuildingFault>
     ensures { Gives layout_view result (plan_in (view document.now)) }
 {
-    let floors = number_at(Field::Floors, 2, 64, document)?;
+    let floors = number_at(Field::Floors, 2, MOST_FLOORS as u32, document)?;
     let door_ms = number_at(Field::DoorMs, 0, 60_000, document)?;
     let kiosks = kiosks_in(floors, key(Field::Kiosks, document)?)?;
     let flights = table_in(floors, key(Field::Flight, document)?)?;

@@ -3,6 +3,7 @@ use Rattle.std.specs.Prelude.{ℕ, ◌≡◌, ◌<◌, ◌≤◌, List, [], ◌�
 use Rattle.std.specs.Prelude.{IfSome, IfNone}
 use Rattle.std.specs.Fmt.{decimal}
 use Rattle.lift_base.specs.Text.{AreWords, dir_text}
+use Rattle.lift_base.specs.declared.limits.TheConstants.{MOST_FLOORS}
 use Rattle.lift_base.specs.declared.travel.Dir.{Dir}
 use Rattle.lift_base.specs.declared.command.Body.TheVariants.{Stop, Place}
 use Rattle.lift_base.specs.declared.command.Reply.{Reply}
@@ -55,9 +56,9 @@ ask_of move = asked move.number move.floor move.dir
 
 -- A floor from 64 on is in no building.
 abbrev pub WantsMove : List ℕ → Wanted → Type 0
-WantsMove line (Asks ask) = (move : Move) × SpellsMove line move × (move.floor < 64)
+WantsMove line (Asks ask) = (move : Move) × SpellsMove line move × (move.floor < MOST_FLOORS)
     × (ask ≡ ask_of move)
-WantsMove line NoFloor = (move : Move) × SpellsMove line move × (64 ≤ move.floor)
+WantsMove line NoFloor = (move : Move) × SpellsMove line move × (MOST_FLOORS ≤ move.floor)
 
 -- A stop is kept where its number is above the last one's.
 abbrev pub keeps_stop : LastLetter → ℕ → Reply → LastLetter

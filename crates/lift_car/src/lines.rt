@@ -11,7 +11,7 @@ ghost use Rattle.lift_car.specs.Lines.{stop_numbered};
 
 use crate::terms::CarEnd;
 use lift_base::text::{Counted, Watched, dir_of_word, number_of_word, number_up_to};
-use lift_base::{Body, Dir, Floor, Number, Reply};
+use lift_base::{Body, Dir, Floor, Number, Reply, TOP_FLOOR};
 use lift_desk::Ask;
 use lift_kiosk::{Dialect, End, LastLetter, Limits, Port, Wanted, converse, words_in};
 use std::io::{Read, Write};
@@ -97,7 +97,7 @@ fn move_line(line: &[u8]) -> Option<Move>
 fn wanted_by(found: &Move) -> Wanted
     ensures { (line : List ℕ) → SpellsMove line found.now → WantsMove line result }
 {
-    if found.floor > 63 {
+    if found.floor > u32::from(TOP_FLOOR) {
         return Wanted::NoFloor;
     }
     let Some(floor) = Floor::new(found.floor as u8) else {

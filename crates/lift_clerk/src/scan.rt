@@ -79,7 +79,7 @@ fn decide<D: Disk, P: Policy>(
     terminal: Terminal,
     ask: Ask,
 ) -> Reply
-    requires room { keeper.old.writer.is_broken ≡ false → length keeper.old.state.batch < 63 }
+    requires room { keeper.old.writer.is_broken ≡ false → length keeper.old.state.batch < MOST_ENTRIES }
     ensures decides { Decides keeper.old.writer.is_broken keeper.old.writer.plan
         (P.chooses policy.now) keeper.old.state
         (command_at terminal (Some ask)) (result ∷ []) keeper.new.state }

@@ -3,6 +3,7 @@ use Rattle.std.proofs.Common.{◌≡◌, ℕ, ◌+◌, ◌*◌, ◌≤◌, ◌<�
 use Rattle.std.proofs.lemmas.List.Elements.{All-from_recursion, recursion_from_All}
 use Rattle.std.proofs.lemmas.List.{drop_more}
 use Rattle.std.specs.List.{AllByRecursion}
+use Rattle.lift_base.specs.declared.limits.TheConstants.{MOST_HALTS}
 use Rattle.lift_base.specs.declared.travel.Halt.{Halt}
 use Rattle.lift_base.specs.declared.travel.Position.{Position}
 use Rattle.lift_base.specs.declared.history.Row.{Row}
@@ -60,7 +61,7 @@ moment_goes_on h g hs ts i total lt long g-is differs so_far =
     let step : moment_at h (drop i hs) (drop i ts) ≡ moment_at h (drop (i + 1) hs) (drop (i + 1) ts) = rw (halts, moments, differs) refl in
     sym step ∙ so_far
 
-pub arrival_short : (plan : Plan) (floor : ℕ) (hs : List Halt) (h : Halt) → IsBuilding plan → length hs ≤ 66 → arrival_at plan floor hs h ≤ 43560000
+pub arrival_short : (plan : Plan) (floor : ℕ) (hs : List Halt) (h : Halt) → IsBuilding plan → length hs ≤ MOST_HALTS → arrival_at plan floor hs h ≤ 43560000
 arrival_short plan floor hs h lawful few =
     let short = moment_short plan lawful h hs floor 0 in
     omega (arith, short, few)

@@ -1,6 +1,7 @@
 -- What a new call adds, by a way with it beside one without it.
 use Rattle.std.proofs.Common.{◌≡◌, ◌≢◌, ℕ, ◌+◌, ◌*◌, ◌<◌, true, false, List, [], ◌∷◌, ◌++◌, refl, sym, ap, subst, ◌∙◌, arith, append_assoc, if◌then◌else◌}
 use Rattle.std.proofs.lemmas.List.Sums.{sum_by_push}
+use Rattle.lift_base.specs.declared.limits.TheConstants.{MOST_FLOORS}
 use Rattle.lift_base.specs.declared.travel.Halt.{Halt}
 use Rattle.lift_base.specs.declared.travel.Position.{Position}
 use Rattle.lift_base.specs.declared.history.Row.{Row}
@@ -66,7 +67,7 @@ all_parts halts before rest middle behind own other whole rest-whole =
 
 -- a call of passengers who ride from one floor to another
 pub apart_joins : (plan : Plan) (position : Position) (rows : List Row) (row : Row) (halts rest : List Halt) (table : List ℕ) (boards leaves : Halt) (ways after : Ways) (boards_at later arrives : ℕ) → IsBuilding plan → AreOpen plan position rows halts table
-    → row.aboard ≡ false → row.from ≢ row.to → row.from < 64 → row.to < 64 → boards ≡ halt_at position row row.from → leaves ≡ halt_at position row row.to
+    → row.aboard ≡ false → row.from ≢ row.to → row.from < MOST_FLOORS → row.to < MOST_FLOORS → boards ≡ halt_at position row row.from → leaves ≡ halt_at position row row.to
     → IsOnWays plan (persons_in table) position.floor [] [] ways → HaltsAt plan (persons_in table) (rank_of position.dir) halts rest boards ways after boards_at → GoesToEnd plan (persons_in table) (rank_of position.dir) rest leaves after later arrives
     → AddsTimes plan position rows row later arrives
 apart_joins plan position rows row halts rest table boards leaves ways after boards_at later arrives lawful are waits apart from-low to-low boards-is leaves-is sets_out first second =
@@ -75,8 +76,8 @@ apart_joins plan position rows row halts rest table boards leaves ways after boa
     let middle : List Halt = second.before in
     let other : List Halt = if second.is_there then leaves ∷ [] else [] in
     let made_with : List Halt = (before ++ boards ∷ []) ++ middle in
-    let boards-low : boards.floor < 64 = subst (λ (h : Halt). h.floor < 64) (sym boards-is) from-low in
-    let leaves-low : leaves.floor < 64 = subst (λ (h : Halt). h.floor < 64) (sym leaves-is) to-low in
+    let boards-low : boards.floor < MOST_FLOORS = subst (λ (h : Halt). h.floor < MOST_FLOORS) (sym boards-is) from-low in
+    let leaves-low : leaves.floor < MOST_FLOORS = subst (λ (h : Halt). h.floor < MOST_FLOORS) (sym leaves-is) to-low in
     let nobody : first.is_there ≡ false → persons_in table boards ≡ 0 =
     λ gone. are.leaving.at_each boards boards-low ∙ nobody_leaves_where_split plan position rows halts before rest boards first.is_there lawful are.within boards-low are.listed gone first.split in
     let none : second.is_there ≡ false → persons_in table leaves ≡ 0 =
@@ -92,12 +93,12 @@ apart_joins plan position rows row halts rest table boards leaves ways after boa
 
 -- one of passengers who leave where they board
 pub staying_joins : (plan : Plan) (position : Position) (rows : List Row) (row : Row) (halts : List Halt) (table : List ℕ) (leaves : Halt) (ways : Ways) (later arrives : ℕ) → IsBuilding plan → AreOpen plan position rows halts table
-    → row.aboard ≡ false → row.from ≡ row.to → row.from < 64 → row.to < 64 → leaves ≡ halt_at position row row.to
+    → row.aboard ≡ false → row.from ≡ row.to → row.from < MOST_FLOORS → row.to < MOST_FLOORS → leaves ≡ halt_at position row row.to
     → IsOnWays plan (persons_in table) position.floor [] [] ways → GoesToEnd plan (persons_in table) (rank_of position.dir) halts leaves ways later arrives
     → AddsTimes plan position rows row later arrives
 staying_joins plan position rows row halts table leaves ways later arrives lawful are waits stays from-low to-low leaves-is sets_out ends =
     let before : List Halt = ends.before in
-    let leaves-low : leaves.floor < 64 = subst (λ (h : Halt). h.floor < 64) (sym leaves-is) to-low in
+    let leaves-low : leaves.floor < MOST_FLOORS = subst (λ (h : Halt). h.floor < MOST_FLOORS) (sym leaves-is) to-low in
     let nobody : ends.is_there ≡ false → persons_in table leaves ≡ 0 =
     λ gone. are.leaving.at_each leaves leaves-low ∙ nobody_leaves_where_split plan position rows halts before ends.behind leaves ends.is_there lawful are.within leaves-low are.listed gone ends.split in
     let sums = ends.on position.floor [] [] nobody sets_out in

@@ -5,6 +5,7 @@ use Rattle.std.proofs.Math.Nat.{add-mul}
 use Rattle.std.proofs.lemmas.Bool.{cases_Bool}
 use Rattle.std.proofs.lemmas.List.Elements.{All-contains_itself, recursion_from_All}
 use Rattle.std.proofs.lemmas.List.Sums.{sum_by-cons}
+use Rattle.lift_base.specs.declared.limits.TheConstants.{MOST_FLOORS}
 use Rattle.lift_base.specs.declared.travel.Halt.{Halt}
 use Rattle.lift_base.specs.declared.travel.Pass.{Pass}
 use Rattle.lift_base.specs.declared.travel.Pass.TheVariants.{First, Second, Third}
@@ -138,13 +139,13 @@ nobody_leaves_elsewhere plan position rows halts h lawful inside halts-are missi
 
 -- the floors of these halts are such as a building may have
 abbrev pub AreLow : List Halt → Type 0
-AreLow halts = AllByRecursion (λ (h : Halt). h.floor < 64) halts
+AreLow halts = AllByRecursion (λ (h : Halt). h.floor < MOST_FLOORS) halts
 
-low_at : (keep : Bool) (g : Halt) (rest : List Halt) → g.floor < 64 → AreLow rest → AreLow (cond keep (g ∷ rest) rest)
+low_at : (keep : Bool) (g : Halt) (rest : List Halt) → g.floor < MOST_FLOORS → AreLow rest → AreLow (cond keep (g ∷ rest) rest)
 low_at true g rest here later = (here, later)
 low_at false g rest here later = later
 
-low_kept : (p : Halt → Bool) (gs : List Halt) → ((g : Halt) → IsIn g gs → g.floor < 64) → AreLow (filter p gs)
+low_kept : (p : Halt → Bool) (gs : List Halt) → ((g : Halt) → IsIn g gs → g.floor < MOST_FLOORS) → AreLow (filter p gs)
 low_kept p [] low = tt
 low_kept p (g ∷ gs) low = low_at (p g) g (filter p gs) (low g (inl refl)) (low_kept p gs (λ h member. low h (inr member)))
 

@@ -1,6 +1,7 @@
 -- Halts that a stop list has a place for, and doesn't have.
 use Rattle.std.proofs.Common.{◌≡◌, ◌≢◌, ◌<◌, ◌||◌, Bool, true, false, List, [], ◌∷◌, ◌++◌, refl, sym, ap, subst, ◌∙◌, append_assoc, append-nil, if◌then◌else◌, inl, inr}
 use Rattle.std.proofs.lemmas.Bool.{cases_Bool}
+use Rattle.lift_base.specs.declared.limits.TheConstants.{MOST_FLOORS}
 use Rattle.lift_base.specs.declared.travel.Halt.{Halt}
 use Rattle.lift_base.specs.declared.travel.Position.{Position}
 use Rattle.lift_base.specs.declared.history.Row.{Row}
@@ -56,7 +57,7 @@ missing_around x (h ∷ hs) behind differ =
 
 -- ---- stop lists
 
-with_halt-differs : (rows : List Row) (position : Position) (x : Halt) → x.floor < 64 → AllDiffer (put (rank_of position.dir) x (stop_list rows position))
+with_halt-differs : (rows : List Row) (position : Position) (x : Halt) → x.floor < MOST_FLOORS → AllDiffer (put (rank_of position.dir) x (stop_list rows position))
 unfolding stop_list
 with_halt-differs rows position x low = subst (λ (halts : List Halt). AllDiffer halts) (sym (put-halt position.dir (is_needed rows position) x low)) (differ_kept _ (all_halts position.dir) (halts_differ position.dir))
 
@@ -66,7 +67,7 @@ parted before behind x true gone = absurd cc
 parted before behind x false gone = ap (λ xs. xs ++ behind) (append-nil before)
 
 -- a halt that isn't where a stop list is split at it is nowhere in that list
-pub missing_where_split : (rows : List Row) (position : Position) (halts before behind : List Halt) (x : Halt) (is_there : Bool) → x.floor < 64 → halts ≡ stop_list rows position → is_there ≡ false
+pub missing_where_split : (rows : List Row) (position : Position) (halts before behind : List Halt) (x : Halt) (is_there : Bool) → x.floor < MOST_FLOORS → halts ≡ stop_list rows position → is_there ≡ false
     → IsSplit (rank_of position.dir) x halts before is_there behind → has_halt x halts ≡ false
 missing_where_split rows position halts before behind x is_there low halts-are gone split =
     let whole : halts ≡ before ++ behind = split.whole ∙ parted before behind x is_there gone in
@@ -83,7 +84,7 @@ missing_with_first x a false before rest missing =
     ∙ either_missing (has_halt x before) (has_halt x rest) (first_missing (has_halt x before) (has_halt x (a ∷ rest)) parts) (second_missing (same_halt a x) (has_halt x rest) later)
 
 -- the same of where the passengers of a call leave, at which is split what stands after where they board
-pub missing_where_split_after : (rows : List Row) (row : Row) (position : Position) (halts before rest middle behind : List Halt) (boards leaves : Halt) (boards_there leaves_there : Bool) → row.aboard ≡ false → row.from ≢ row.to → row.from < 64 → row.to < 64
+pub missing_where_split_after : (rows : List Row) (row : Row) (position : Position) (halts before rest middle behind : List Halt) (boards leaves : Halt) (boards_there leaves_there : Bool) → row.aboard ≡ false → row.from ≢ row.to → row.from < MOST_FLOORS → row.to < MOST_FLOORS
     → halts ≡ stop_list rows position → boards ≡ halt_at position row row.from → leaves ≡ halt_at position row row.to → leaves_there ≡ false
     → IsSplit (rank_of position.dir) boards halts before boards_there rest → IsSplit (rank_of position.dir) leaves rest middle leaves_there behind → has_halt leaves halts ≡ false
 missing_where_split_after rows row position halts before rest middle behind boards leaves boards_there leaves_there waits apart from-low to-low halts-are boards-is leaves-is gone first second =
@@ -98,14 +99,14 @@ missing_where_split_after rows row position halts before rest middle behind boar
 -- ---- nobody leaves there
 
 -- a new call's passengers board at a halt that the car makes for nobody else
-pub nobody_leaves_where_split : (plan : Plan) (position : Position) (rows : List Row) (halts before behind : List Halt) (x : Halt) (is_there : Bool) → IsBuilding plan → AreWithin plan.floors rows → x.floor < 64 → halts ≡ stop_list rows position → is_there ≡ false
+pub nobody_leaves_where_split : (plan : Plan) (position : Position) (rows : List Row) (halts before behind : List Halt) (x : Halt) (is_there : Bool) → IsBuilding plan → AreWithin plan.floors rows → x.floor < MOST_FLOORS → halts ≡ stop_list rows position → is_there ≡ false
     → IsSplit (rank_of position.dir) x halts before is_there behind → leaving_at rows position x ≡ 0
 nobody_leaves_where_split plan position rows halts before behind x is_there lawful inside low halts-are gone split =
     nobody_leaves_elsewhere plan position rows halts x lawful inside halts-are (missing_where_split rows position halts before behind x is_there low halts-are gone split)
 
 -- they leave at one that it makes for nobody else
 pub nobody_leaves_where_split_after : (plan : Plan) (position : Position) (rows : List Row) (row : Row) (halts before rest middle behind : List Halt) (boards leaves : Halt) (boards_there leaves_there : Bool) → IsBuilding plan → AreWithin plan.floors rows
-    → row.aboard ≡ false → row.from ≢ row.to → row.from < 64 → row.to < 64 → halts ≡ stop_list rows position → boards ≡ halt_at position row row.from → leaves ≡ halt_at position row row.to → leaves_there ≡ false
+    → row.aboard ≡ false → row.from ≢ row.to → row.from < MOST_FLOORS → row.to < MOST_FLOORS → halts ≡ stop_list rows position → boards ≡ halt_at position row row.from → leaves ≡ halt_at position row row.to → leaves_there ≡ false
     → IsSplit (rank_of position.dir) boards halts before boards_there rest → IsSplit (rank_of position.dir) leaves rest middle leaves_there behind → leaving_at rows position leaves ≡ 0
 nobody_leaves_where_split_after plan position rows row halts before rest middle behind boards leaves boards_there leaves_there lawful inside waits apart from-low to-low halts-are boards-is leaves-is gone first second =
     nobody_leaves_elsewhere plan position rows halts leaves lawful inside halts-are

@@ -2,6 +2,7 @@
 use Rattle.std.proofs.Common.{◌≡◌, ◌≢◌, ℕ, ◌+◌, ◌<◌, ◌≤◌, Bool, false, List, [], ◌∷◌, ◌++◌, refl, sym, ap, subst, ◌∙◌, arith, inl}
 use Rattle.std.specs.List.{AllByRecursion}
 use Rattle.std.proofs.lemmas.Bool.{eq-eqb, lt-ltb, le-ltb}
+use Rattle.lift_base.specs.declared.limits.TheConstants.{MOST_FLOORS}
 use Rattle.lift_base.specs.declared.travel.Halt.{Halt}
 use Rattle.lift_base.specs.declared.travel.Position.{Position}
 use Rattle.lift_base.specs.declared.history.Row.{Row}
@@ -36,26 +37,26 @@ lower_still rank x y (z ∷ xs) higher lower = (let first = lower.0 in omega (ar
 
 -- ---- stop lists
 
-pub with_halt-rises : (rows : List Row) (position : Position) (x : Halt) → x.floor < 64 → Rises (rank_of position.dir) 0 (put (rank_of position.dir) x (stop_list rows position))
+pub with_halt-rises : (rows : List Row) (position : Position) (x : Halt) → x.floor < MOST_FLOORS → Rises (rank_of position.dir) 0 (put (rank_of position.dir) x (stop_list rows position))
 unfolding stop_list
 with_halt-rises rows position x low =
     subst (λ (halts : List Halt). Rises (rank_of position.dir) 0 halts) (sym (put-halt position.dir (is_needed rows position) x low))
     (Rises-filter (rank_of position.dir) 0 _ (all_halts position.dir) (all_halts-rise position.dir))
 
 -- the halts before the place of one are made before it
-pub made_before : (rows : List Row) (position : Position) (x : Halt) (before behind : List Halt) → x.floor < 64 → put (rank_of position.dir) x (stop_list rows position) ≡ before ++ x ∷ behind → AreLower (rank_of position.dir) x before
+pub made_before : (rows : List Row) (position : Position) (x : Halt) (before behind : List Halt) → x.floor < MOST_FLOORS → put (rank_of position.dir) x (stop_list rows position) ≡ before ++ x ∷ behind → AreLower (rank_of position.dir) x before
 made_before rows position x before behind low with-it =
     lower_before (rank_of position.dir) 0 x before behind (subst (λ (halts : List Halt). Rises (rank_of position.dir) 0 halts) with-it (with_halt-rises rows position x low))
 
 -- a car is where a call's passengers board before it is where they leave
-pub boards_before : (position : Position) (row : Row) → row.from ≢ row.to → row.from < 64 → row.to < 64 → rank_of position.dir (halt_at position row row.from) < rank_of position.dir (halt_at position row row.to)
+pub boards_before : (position : Position) (row : Row) → row.from ≢ row.to → row.from < MOST_FLOORS → row.to < MOST_FLOORS → rank_of position.dir (halt_at position row row.from) < rank_of position.dir (halt_at position row row.to)
 boards_before position row apart from-low to-low =
     let travels = dir_in-pass_of position row in
     let ahead : floor_rank (dir_in position.dir (pass_of position row)) row.from < floor_rank (dir_in position.dir (pass_of position row)) row.to = rw travels (floor_rank-travel row.from row.to apart from-low to-low) in
     omega (arith, ahead)
 
 -- The stop list with a call that waits is the one without it, with where its passengers board at its place and then where they leave at its own, after that.
-pub stops_with_waiting : (rows : List Row) (row : Row) (position : Position) (halts before rest middle behind : List Halt) (boards leaves : Halt) (boards_there leaves_there : Bool) → row.aboard ≡ false → row.from ≢ row.to → row.from < 64 → row.to < 64
+pub stops_with_waiting : (rows : List Row) (row : Row) (position : Position) (halts before rest middle behind : List Halt) (boards leaves : Halt) (boards_there leaves_there : Bool) → row.aboard ≡ false → row.from ≢ row.to → row.from < MOST_FLOORS → row.to < MOST_FLOORS
     → halts ≡ stop_list rows position → boards ≡ halt_at position row row.from → leaves ≡ halt_at position row row.to
     → IsSplit (rank_of position.dir) boards halts before boards_there rest → IsSplit (rank_of position.dir) leaves rest middle leaves_there behind
     → stop_list (rows ++ row ∷ []) position ≡ before ++ boards ∷ (middle ++ leaves ∷ behind)
@@ -74,7 +75,7 @@ stops_with_waiting rows row position halts before rest middle behind boards leav
     rw (boards-is, leaves-is) (sym (stop_list-waiting rows row position waits from-low to-low) ∙ put-both)
 
 -- the same where they would board and leave at one halt
-pub stops_with_staying : (rows : List Row) (row : Row) (position : Position) (halts before behind : List Halt) (leaves : Halt) (leaves_there : Bool) → row.aboard ≡ false → row.from ≡ row.to → row.from < 64 → row.to < 64
+pub stops_with_staying : (rows : List Row) (row : Row) (position : Position) (halts before behind : List Halt) (leaves : Halt) (leaves_there : Bool) → row.aboard ≡ false → row.from ≡ row.to → row.from < MOST_FLOORS → row.to < MOST_FLOORS
     → halts ≡ stop_list rows position → leaves ≡ halt_at position row row.to → IsSplit (rank_of position.dir) leaves halts before leaves_there behind
     → stop_list (rows ++ row ∷ []) position ≡ before ++ leaves ∷ behind
 stops_with_staying rows row position halts before behind leaves leaves_there waits same from-low to-low halts-are leaves-is split =

@@ -3,6 +3,7 @@ use Rattle.std.proofs.Common.{◌≡◌, ℕ, ◌+◌, ◌*◌, ◌<◌, ◌≤�
 use Rattle.std.proofs.Math.Nat.{mul-le-mul_left}
 use Rattle.std.proofs.lemmas.Bool.{cases_Bool, ltb-false, eqb-false}
 use Rattle.std.proofs.lemmas.List.Sums.{sum_by-cons, sum_by_push}
+use Rattle.lift_base.specs.declared.limits.TheConstants.{MOST_FLOORS}
 use Rattle.lift_base.specs.declared.travel.Halt.{Halt}
 use Rattle.lift_base.specs.declared.travel.Position.{Position}
 use Rattle.lift_base.specs.declared.history.Row.{Row}
@@ -110,7 +111,7 @@ others_no_sooner plan position rows call row lawful floors within =
     let from-in = floors.1 in
     let to-in = floors.2 in
     let few = lawful.limits.few_floors in
-    let low : call.from < 64 = omega (arith, from-in, few) in
+    let low : call.from < MOST_FLOORS = omega (arith, from-in, few) in
     let below : AllBelow plan.floors halts = stops_within plan.floors rows position within in
     let first = put_no_sooner plan lawful rank boards h from-in 0 halts (stops_rise rows position) position.floor 0 floors.0 below in
     let second = put_no_sooner plan lawful rank leaves h to-in 0 (put rank boards halts) (with_halt-rises rows position boards low) position.floor 0 floors.0 (put_below plan.floors rank boards from-in halts below) in

@@ -2,6 +2,7 @@
 use Rattle.std.proofs.Common.{◌≡◌, ℕ, ◌+◌, ◌*◌, ◌<◌, List, [], ◌∷◌, ◌++◌, refl, ap, ◌∙◌, arith}
 use Rattle.std.proofs.Math.Nat.{mul-add, mul_comm}
 use Rattle.std.specs.List.{AllByRecursion}
+use Rattle.lift_base.specs.declared.limits.TheConstants.{MOST_FLOORS}
 use Rattle.lift_base.specs.declared.travel.Halt.{Halt}
 use Rattle.lift_building.specs.Plan.{Plan, flight_ms}
 use Rattle.lift_cost.specs.Ways.{weighted, floor_after, leaves_after, persons_along}
@@ -85,6 +86,6 @@ weighted-agree plan persons others floor leaves (h ∷ hs) each =
     omega (arith, first, rest)
 
 -- the same, of halts on floors that a building may have
-pub agree_below : (persons others : Halt → ℕ) (halts : List Halt) → AllByRecursion (λ (h : Halt). h.floor < 64) halts → ((h : Halt) → h.floor < 64 → persons h ≡ others h) → Agree persons others halts
+pub agree_below : (persons others : Halt → ℕ) (halts : List Halt) → AllByRecursion (λ (h : Halt). h.floor < MOST_FLOORS) halts → ((h : Halt) → h.floor < MOST_FLOORS → persons h ≡ others h) → Agree persons others halts
 agree_below persons others [] below each = tt
 agree_below persons others (h ∷ hs) below each = (each h below.0, agree_below persons others hs below.1 each)

@@ -1,6 +1,7 @@
 -- How much later a car is with a new call than without it. Times are in ms.
 use Rattle.std.specs.Prelude.{◌≡◌, ℕ, ◌+◌, ◌*◌, ◌<◌, ◌≤◌, Bool, false, if◌then◌else◌, List, []}
 use Rattle.std.specs.Prelude.{◌∷◌, ◌++◌, slice_index}
+use Rattle.lift_base.specs.declared.limits.TheConstants.{MOST_HALTS}
 use Rattle.lift_base.specs.declared.travel.Position.{Position}
 use Rattle.lift_base.specs.declared.travel.Halt.{Halt}
 use Rattle.lift_base.specs.declared.history.Row.{Row}
@@ -36,7 +37,7 @@ pub record IsOnWays (plan : Plan) (persons : Halt → ℕ) (start : ℕ) (halts 
 pub record IsShort (ways : Ways) (parts : ℕ) : Type 0 where
   pub leaves : ways.leaves_with ≤ 50000000 * parts
   pub delay : ways.delay ≤ 50000000 * parts
-  pub later : ways.later ≤ parts * (66 * (65535 * 4294967295))
+  pub later : ways.later ≤ parts * (MOST_HALTS * (65535 * 4294967295))
 
 -- A car that had made some halts goes on through these up to one, which the way with the new call
 -- makes, and the other one where it is there.

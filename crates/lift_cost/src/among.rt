@@ -8,7 +8,7 @@ ghost use Rattle.lift_cost.specs.Delays.{AreOpen, AddsTimes};
 
 use crate::call::{NewCall, waiting_row};
 use crate::ways::Ways;
-use lift_base::{Halt, Party, Position, Row};
+use lift_base::{Halt, MOST_HALTS, Party, Position, Row};
 use lift_building::Building;
 use lift_stops::{Leaving, pass_of};
 
@@ -45,7 +45,7 @@ fn goal_of(position: &Position, row: &Row) -> Halt
 /// where it isn't among them. At most 43,560,000 ms.
 #[tactic(auto, using(crate::proofs::Costs::arrival_short))]
 pub fn arrival_at(building: &Building, position: Position, halts: &[Halt], halt: &Halt) -> u64
-    requires { length halts.now ≤ 66 }
+    requires { length halts.now ≤ MOST_HALTS }
     ensures value { result ≡ arrival_at building.now position.floor halts.now halt.now }
     ensures limit { result ≤ 43560000 }
 {
@@ -55,7 +55,7 @@ pub fn arrival_at(building: &Building, position: Position, halts: &[Halt], halt:
 
 /// When a car at the position, which makes these halts, is where a call's passengers leave.
 pub fn etd_among(building: &Building, position: &Position, halts: &[Halt], row: &Row) -> u64
-    requires { length halts.now ≤ 66 }
+    requires { length halts.now ≤ MOST_HALTS }
     ensures value { result ≡ arrival_at building.now position.now.floor halts.now
         (halt_at position.now row.now row.now.to) }
     ensures limit { result ≤ 43560000 }
@@ -85,7 +85,7 @@ fn later_by_ride(
     requires here { position.now.floor < building.now.floors }
     requires boards { boards.now.floor < building.now.floors }
     requires goal { goal.now.floor < building.now.floors }
-    requires few { length halts.now ≤ 66 }
+    requires few { length halts.now ≤ MOST_HALTS }
     requires within { All (λ halt. halt.floor < building.now.floors) halts.now }
     ensures joins { (rows : List RowValue) (row : RowValue)
         → AreOpen building.now position.now rows halts.now leaving.now
@@ -93,7 +93,7 @@ fn later_by_ride(
         → boards.now ≡ halt_at position.now row row.from
         → goal.now ≡ halt_at position.now row row.to
         → AddsTimes building.now position.now rows row result.0 result.1 }
-    ensures limit { result.0 ≤ 5 * (66 * (65535 * 4294967295)) }
+    ensures limit { result.0 ≤ 5 * (MOST_HALTS * (65535 * 4294967295)) }
 {
     let _lawful = building.floors();
     let dir = position.dir;
@@ -112,14 +112,14 @@ fn later_by_stay(
 ) -> (u64, u32)
     requires here { position.now.floor < building.now.floors }
     requires goal { goal.now.floor < building.now.floors }
-    requires few { length halts.now ≤ 66 }
+    requires few { length halts.now ≤ MOST_HALTS }
     requires within { All (λ halt. halt.floor < building.now.floors) halts.now }
     ensures joins { (rows : List RowValue) (row : RowValue)
         → AreOpen building.now position.now rows halts.now leaving.now
         → row.aboard ≡ false → row.from ≡ row.to
         → goal.now ≡ halt_at position.now row row.to
         → AddsTimes building.now position.now rows row result.0 result.1 }
-    ensures limit { result.0 ≤ 5 * (66 * (65535 * 4294967295)) }
+    ensures limit { result.0 ≤ 5 * (MOST_HALTS * (65535 * 4294967295)) }
 {
     let _lawful = building.floors();
     let ways = Ways::new(position.floor);
@@ -138,7 +138,7 @@ pub fn added_among(
     requires here { position.now.floor < building.now.floors }
     requires from { call.now.from < building.now.floors }
     requires to { call.now.to < building.now.floors }
-    requires few { length halts.now ≤ 66 }
+    requires few { length halts.now ≤ MOST_HALTS }
     requires within { All (λ halt. halt.floor < building.now.floors) halts.now }
     ensures added { (rows : List RowValue)
         → AreOpen building.now position.now rows halts.now leaving.now

@@ -7,7 +7,7 @@ ghost use Rattle.lift_cost.specs.Cost.{degradation};
 
 use crate::among::{added_among, etd_among};
 use crate::call::NewCall;
-use lift_base::{Position, Row};
+use lift_base::{MOST_ROWS, MOST_WEIGHED, Position, Row};
 use lift_building::Building;
 use lift_stops::{Leaving, stop_list};
 
@@ -15,7 +15,7 @@ use lift_stops::{Leaving, stop_list};
 /// is where its passengers leave.
 #[tactic(auto, unfolding(crate::specs::Cost::etd))]
 pub fn etd(building: &Building, position: Position, rows: &[Row], row: &Row) -> u64
-    requires { length rows.now ≤ 33 }
+    requires { length rows.now ≤ MOST_WEIGHED }
     ensures value { result ≡ etd building.now position rows.now row.now }
     ensures limit { result ≤ 43560000 }
 {
@@ -34,7 +34,7 @@ pub(crate) fn added(
 ) -> (u64, u64)
     requires within { AreFloorsWithin building.now.floors position.now call.now }
     requires calls { AreWithin building.now.floors rows.now }
-    requires few { length rows.now ≤ 32 }
+    requires few { length rows.now ≤ MOST_ROWS }
     ensures added { result.0 + total_etd building.now position.now rows.now
         ≡ total_etd building.now position.now (with_new_call rows.now call.now) }
     ensures own { result.1 ≡ own_etd building.now position.now rows.now call.now }
@@ -50,7 +50,7 @@ pub(crate) fn added(
 pub fn total_cost(building: &Building, position: Position, rows: &[Row], call: NewCall) -> u64
     requires within { AreFloorsWithin building.now.floors position call }
     requires calls { AreWithin building.now.floors rows.now }
-    requires few { length rows.now ≤ 32 }
+    requires few { length rows.now ≤ MOST_ROWS }
     ensures value { result ≡ total_cost building.now position rows.now call }
 
     // The sum with the new call is the sum without it and this, so nothing is cut off at 0.
@@ -69,7 +69,7 @@ pub fn total_cost(building: &Building, position: Position, rows: &[Row], call: N
 pub fn degradation(building: &Building, position: Position, rows: &[Row], call: NewCall) -> u64
     requires within { AreFloorsWithin building.now.floors position call }
     requires calls { AreWithin building.now.floors rows.now }
-    requires few { length rows.now ≤ 32 }
+    requires few { length rows.now ≤ MOST_ROWS }
     ensures value { result ≡ degradation building.now position rows.now call }
 
     // With the time of the new passengers it is the total cost, so nothing is cut off at 0.

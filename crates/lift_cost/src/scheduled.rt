@@ -9,7 +9,7 @@ use crate::among::{added_among, etd_among};
 use crate::call::NewCall;
 use crate::cost;
 use crate::cost::etd;
-use lift_base::Row;
+use lift_base::{MOST_ROWS, Row};
 use lift_building::Building;
 use lift_stops::Schedule;
 
@@ -31,7 +31,7 @@ pub fn etd_of(building: &Building, schedule: &Schedule, row: &Row) -> u64
 fn added(building: &Building, schedule: &Schedule, call: &NewCall) -> (u64, u64)
     requires within { AreFloorsWithin building.now.floors schedule.now.position call.now }
     requires calls { AreWithin building.now.floors schedule.now.rows }
-    requires few { length schedule.now.rows ≤ 32 }
+    requires few { length schedule.now.rows ≤ MOST_ROWS }
     ensures added { result.0 + total_etd building.now schedule.now.position schedule.now.rows
         ≡ total_etd building.now schedule.now.position (with_new_call schedule.now.rows call.now) }
     ensures own { result.1 ≡ own_etd building.now schedule.now.position schedule.now.rows call.now }
@@ -49,7 +49,7 @@ fn added(building: &Building, schedule: &Schedule, call: &NewCall) -> (u64, u64)
 pub fn cost_of(building: &Building, schedule: &Schedule, call: NewCall) -> u64
     requires within { AreFloorsWithin building.now.floors schedule.now.position call }
     requires calls { AreWithin building.now.floors schedule.now.rows }
-    requires few { length schedule.now.rows ≤ 32 }
+    requires few { length schedule.now.rows ≤ MOST_ROWS }
     ensures value { result ≡ total_cost building.now schedule.now.position schedule.now.rows call }
 
     // The sum with the new call is the sum without it and this, so nothing is cut off at 0.
@@ -68,7 +68,7 @@ pub fn cost_of(building: &Building, schedule: &Schedule, call: NewCall) -> u64
 pub fn degradation_of(building: &Building, schedule: &Schedule, call: NewCall) -> u64
     requires within { AreFloorsWithin building.now.floors schedule.now.position call }
     requires calls { AreWithin building.now.floors schedule.now.rows }
-    requires few { length schedule.now.rows ≤ 32 }
+    requires few { length schedule.now.rows ≤ MOST_ROWS }
     ensures value { result ≡ degradation building.now schedule.now.position schedule.now.rows call }
 
     // With the time of the new passengers it is the total cost, so nothing is cut off at 0.

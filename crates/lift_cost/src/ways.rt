@@ -9,7 +9,7 @@ ghost use Rattle.lift_cost.specs.Delays.{GoesToEnd, IsNoSooner, IsOnWays, IsShor
 ghost use Rattle.lift_cost.specs.Delays.{persons_in};
 ghost use Rattle.lift_cost.specs.Ways.{floor_after, leaves_after, persons_along, weighted};
 
-use lift_base::{Dir, Floor, Halt};
+use lift_base::{Dir, Floor, Halt, MOST_HALTS};
 use lift_building::Building;
 use lift_stops::{Leaving, split_at};
 
@@ -38,9 +38,9 @@ fn times(persons: u16, time: u32) -> u64
 
 /// A time once for each person who leaves at one of these halts.
 fn times_along(leaving: &Leaving, halts: &[Halt], time: u32) -> u64
-    requires { length halts.now ≤ 66 }
+    requires { length halts.now ≤ MOST_HALTS }
     ensures value { result ≡ time * persons_along (persons_in leaving.now) halts.now }
-    ensures limit { result ≤ 66 * (65535 * 4294967295) }
+    ensures limit { result ≤ MOST_HALTS * (65535 * 4294967295) }
 {
     let mut sum = 0u64;
     if time > 0 {
@@ -53,7 +53,7 @@ fn times_along(leaving: &Leaving, halts: &[Halt], time: u32) -> u64
 
 /// Where a car is after these halts, and when it leaves there.
 fn go_along(building: &Building, floor: Floor, leaves: u32, halts: &[Halt]) -> (Floor, u32)
-    requires few { length halts.now ≤ 66 }
+    requires few { length halts.now ≤ MOST_HALTS }
     requires soon { leaves ≤ 250000000 }
     ensures floor { result.0 ≡ floor_after floor halts.now }
     ensures leaves { result.1 ≡ leaves_after building.now floor leaves halts.now }
@@ -116,7 +116,7 @@ impl Ways {
 
     /// Both make these halts.
     fn make_all(self, building: &Building, leaving: &Leaving, halts: &[Halt]) -> Ways
-        requires few { length halts.now ≤ 66 }
+        requires few { length halts.now ≤ MOST_HALTS }
         requires within { All (λ halt. halt.floor < building.now.floors) halts.now }
         requires sooner { IsNoSooner building.now self.floor self.floor_with self.delay }
         requires short { IsShort self 4 }
@@ -231,7 +231,7 @@ impl Ways {
         dir: Dir,
         halt: &Halt,
     ) -> (Ways, u32, &'h [Halt])
-        requires few { length halts.now ≤ 66 }
+        requires few { length halts.now ≤ MOST_HALTS }
         requires within { All (λ halt. halt.floor < building.now.floors) halts.now }
         requires own { halt.now.floor < building.now.floors }
         requires here { self.floor_with < building.now.floors }
@@ -240,7 +240,7 @@ impl Ways {
         ensures on { HaltsAt building.now (persons_in leaving.now) (rank_of dir) halts.now
             result.2.now halt.now self result.0 result.1 }
         ensures within { All (λ halt. halt.floor < building.now.floors) result.2.now }
-        ensures few { length result.2.now ≤ 66 }
+        ensures few { length result.2.now ≤ MOST_HALTS }
         ensures here { result.0.floor_with < building.now.floors }
         ensures sooner { IsNoSooner building.now result.0.floor result.0.floor_with result.0.delay }
         ensures short { (n : ℕ) → IsShort self n → IsShort result.0 (n + 2) }
@@ -255,7 +255,7 @@ impl Ways {
     /// How much later all persons are where they leave, once for each of them, once both have made
     /// these halts too.
     fn later_at_end(&self, building: &Building, leaving: &Leaving, halts: &[Halt]) -> u64
-        requires few { length halts.now ≤ 66 }
+        requires few { length halts.now ≤ MOST_HALTS }
         requires within { All (λ halt. halt.floor < building.now.floors) halts.now }
         requires sooner { IsNoSooner building.now self.now.floor self.now.floor_with self.now.delay }
         requires short { IsShort self.now 4 }
@@ -263,7 +263,7 @@ impl Ways {
             → IsOnWays building.now (persons_in leaving.now) start made made_with self.now
             → weighted building.now (persons_in leaving.now) start 0 (made_with ++ halts.now)
             ≡ weighted building.now (persons_in leaving.now) start 0 (made ++ halts.now) + result }
-        ensures limit { result ≤ 5 * (66 * (65535 * 4294967295)) }
+        ensures limit { result ≤ 5 * (MOST_HALTS * (65535 * 4294967295)) }
     {
         if halts.is_empty() {
             return self.later;
@@ -283,7 +283,7 @@ impl Ways {
         dir: Dir,
         halt: &Halt,
     ) -> (u64, u32)
-        requires few { length halts.now ≤ 66 }
+        requires few { length halts.now ≤ MOST_HALTS }
         requires within { All (λ halt. halt.floor < building.now.floors) halts.now }
         requires own { halt.now.floor < building.now.floors }
         requires here { self.floor_with < building.now.floors }
@@ -292,7 +292,7 @@ impl Ways {
         ensures on { GoesToEnd building.now (persons_in leaving.now) (rank_of dir) halts.now
             halt.now
             self result.0 result.1 }
-        ensures limit { result.0 ≤ 5 * (66 * (65535 * 4294967295)) }
+        ensures limit { result.0 ≤ 5 * (MOST_HALTS * (65535 * 4294967295)) }
     {
         let (ways, arrives, behind) = self.stop_at(building, leaving, halts, dir, halt);
         (ways.later_at_end(building, leaving, behind), arrives)

@@ -7,6 +7,7 @@ use Rattle.std.proofs.lemmas.Bool.{cases_eq}
 use Rattle.std.proofs.lemmas.Grind.{get_or-set_at}
 use Rattle.std.proofs.lemmas.List.{map-set, get_or_default}
 use Rattle.lift_base.specs.History.{row_after}
+use Rattle.lift_base.specs.declared.limits.TheConstants.{MOST_CARS, MOST_TERMINALS}
 use Rattle.lift_base.specs.declared.travel.Dir.{Dir}
 use Rattle.lift_base.specs.declared.travel.Position.{Position}
 use Rattle.lift_base.specs.declared.history.Row.{Row}
@@ -20,26 +21,26 @@ use Rattle.lift_building.specs.Plan.{Plan}
 use Rattle.lift_decider.specs.Schedules.{with_row}
 
 -- a new call joins its car's rows, and no other car's
-pub rows_of-allot : (register : RegisterState) (kiosk number from to car party : ℕ) → IsWellFormed register → kiosk < 63 → car < 16
+pub rows_of-allot : (register : RegisterState) (kiosk number from to car party : ℕ) → IsWellFormed register → kiosk < MOST_TERMINALS → car < MOST_CARS
     → rows_of (register_of register (Allot kiosk number from to car party ∷ [])) car ≡ rows_of register car ++ waiting_row kiosk number from to car party ∷ []
 rows_of-allot register kiosk number from to car party lawful is_kiosk is_car =
     ap (λ (r : RegisterState). rows_of r car) (sym (register_of-allot register kiosk number from to car party lawful.row_count lawful.last_count is_kiosk is_car))
     ∙ get_or-set_at register.rows car car (rows_of register car ++ waiting_row kiosk number from to car party ∷ []) [] refl (omega (arith, lawful.row_count))
 
-pub rows_of-other_allot : (register : RegisterState) (kiosk number from to car party : ℕ) → IsWellFormed register → kiosk < 63 → car < 16
+pub rows_of-other_allot : (register : RegisterState) (kiosk number from to car party : ℕ) → IsWellFormed register → kiosk < MOST_TERMINALS → car < MOST_CARS
     → (k : ℕ) → k ≢ car → rows_of (register_of register (Allot kiosk number from to car party ∷ [])) k ≡ rows_of register k
 rows_of-other_allot register kiosk number from to car party lawful is_kiosk is_car k other =
     ap (λ (r : RegisterState). rows_of r k) (sym (register_of-allot register kiosk number from to car party lawful.row_count lawful.last_count is_kiosk is_car))
     ∙ get_or-set_other register.rows car k (rows_of register car ++ waiting_row kiosk number from to car party ∷ []) [] other
 
 -- a stop changes its car's rows, and no other car's
-pub rows_of-stop : (register : RegisterState) (car number floor : ℕ) (dir : Dir) → IsWellFormed register → car < 16
+pub rows_of-stop : (register : RegisterState) (car number floor : ℕ) (dir : Dir) → IsWellFormed register → car < MOST_CARS
     → rows_of (register_of register (Stop car number floor dir ∷ [])) car ≡ flat_map (row_after (record { floor = floor; dir = dir })) (rows_of register car)
 rows_of-stop register car number floor dir lawful is_car =
     ap (λ (r : RegisterState). rows_of r car) (sym (register_of-stop register car number floor dir lawful.row_count lawful.last_count is_car lawful.own_cars))
     ∙ get_or-set_at register.rows car car (flat_map (row_after (record { floor = floor; dir = dir })) (rows_of register car)) [] refl (omega (arith, lawful.row_count))
 
-pub rows_of-other_stop : (register : RegisterState) (car number floor : ℕ) (dir : Dir) → IsWellFormed register → car < 16
+pub rows_of-other_stop : (register : RegisterState) (car number floor : ℕ) (dir : Dir) → IsWellFormed register → car < MOST_CARS
     → (k : ℕ) → k ≢ car → rows_of (register_of register (Stop car number floor dir ∷ [])) k ≡ rows_of register k
 rows_of-other_stop register car number floor dir lawful is_car k other =
     ap (λ (r : RegisterState). rows_of r k) (sym (register_of-stop register car number floor dir lawful.row_count lawful.last_count is_car lawful.own_cars))

@@ -8,6 +8,7 @@ use Rattle.std.proofs.lemmas.List.Elements.{All-push}
 use Rattle.std.specs.Prelude.{replicate}
 use Rattle.lift_base.specs.declared.history.Record.TheVariants.{Entry as EntryRecord}
 use Rattle.lift_base.specs.Records.{IsRecord}
+use Rattle.lift_base.specs.declared.limits.TheConstants.{MOST_CARS, MOST_ENTRIES}
 use Rattle.lift_base.specs.declared.travel.Dir.{Dir}
 use Rattle.lift_base.specs.declared.travel.Position.{Position}
 use Rattle.lift_base.specs.declared.history.Entry.{Entry}
@@ -60,7 +61,7 @@ pub same_state : (r s : RegisterState) (p q : List (Option Position)) (b d : Lis
 same_state r s p q b d e f g = rw (e, f, g) refl
 
 -- an entry that can be written joins a batch that has room
-pub batch_push : (entries : List Entry) (entry : Entry) → IsBatch entries → length entries < 63 → IsRecord (EntryRecord entry) → IsBatch (entries ++ entry ∷ [])
+pub batch_push : (entries : List Entry) (entry : Entry) → IsBatch entries → length entries < MOST_ENTRIES → IsRecord (EntryRecord entry) → IsBatch (entries ++ entry ∷ [])
 batch_push entries entry is room written = record {
   limit = omega (arith, length-append entries (entry ∷ []));
   written = All-push (λ (e : Entry). IsRecord (EntryRecord e)) entries entry is.written written;
@@ -90,9 +91,9 @@ accepted_with s r q schedules b d entry i o taken default row is e f with_it was
     (same_state q (register_of r (entry ∷ [])) (positions_of (set schedules i o)) (positions_of schedules) d (b ++ entry ∷ []) e (positions_kept schedules i o taken default row with_it was) f)
 
 -- each car has a place among the schedules
-pub room_at : (s : State) (r : RegisterState) (schedules : List (Option ScheduleState)) (b : List Entry) (i : ℕ) → state_of r schedules b ≡ s → length s.positions ≡ 16 → i < 16 → i < length schedules
+pub room_at : (s : State) (r : RegisterState) (schedules : List (Option ScheduleState)) (b : List Entry) (i : ℕ) → state_of r schedules b ≡ s → length s.positions ≡ MOST_CARS → i < MOST_CARS → i < length schedules
 room_at s r schedules b i is cars lt =
-    let count : length (positions_of schedules) ≡ 16 = subst (λ (x : State). length x.positions ≡ 16) (sym is) cars in
+    let count : length (positions_of schedules) ≡ MOST_CARS = subst (λ (x : State). length x.positions ≡ MOST_CARS) (sym is) cars in
     omega (arith, count, length-map schedules (option_map (λ (x : ScheduleState). x.position)))
 
 -- no car has a schedule

@@ -1,5 +1,6 @@
 -- What a decider holds: the building that it decides for, and what decisions read and change.
 use Rattle.std.specs.Prelude.{◌≤◌, All, List, [], length, replicate, Option, None}
+use Rattle.lift_base.specs.declared.limits.TheConstants.{MOST_CARS, MOST_ENTRIES}
 use Rattle.lift_base.specs.declared.history.Record.TheVariants.{Entry as EntryRecord}
 use Rattle.lift_base.specs.Records.{IsRecord}
 use Rattle.lift_base.specs.declared.history.Entry.{Entry}
@@ -23,7 +24,7 @@ state_of register schedules batch =
 
 -- these calls; no car has reported where it is
 abbrev pub starting : RegisterState → State
-starting register = record { register = register; positions = replicate 16 None; batch = [] }
+starting register = record { register = register; positions = replicate MOST_CARS None; batch = [] }
 
 -- no calls, and no car has reported where it is
 abbrev pub nothing : State
@@ -31,7 +32,7 @@ nothing = starting empty
 
 -- entries that the journal may hold, as many as one batch may have
 pub record IsBatch (entries : List Entry) : Type 0 where
-  pub limit : length entries ≤ 63
+  pub limit : length entries ≤ MOST_ENTRIES
   pub written : All (λ (e : Entry). IsRecord (EntryRecord e)) entries
 
 -- no call of a register was lost, and it belongs to the building

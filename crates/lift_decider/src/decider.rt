@@ -15,7 +15,9 @@ ghost use Rattle.lift_decider.specs.Decider.{IsPossible, nothing, starting};
 
 use crate::group::Group;
 use arrayvec::ArrayVec;
-use lift_base::{Body, Entry, Letter, MOST_CARS, MOST_ENTRIES, Number, Reply, Terminal};
+use lift_base::{
+    Body, Entry, LEAST_HALF, Letter, MOST_CARS, MOST_ENTRIES, Number, Reply, Terminal,
+};
 use lift_building::Building;
 use lift_cost::NewCall;
 use lift_policy::{Command, Eligible, Policy, Verdict, View};
@@ -45,7 +47,7 @@ impl<'b> Decider<'b> {
     pub fn new(building: &'b Building) -> Self
         ensures { result ≡ record { plan = building.now; state = nothing } }
     {
-        Decider::of(building, Register::empty(building.shape(64)))
+        Decider::of(building, Register::empty(building.shape(LEAST_HALF)))
     }
 
     /// A decider that goes on from these calls, in which no car has reported where it is.
@@ -97,7 +99,7 @@ impl<'b> Decider<'b> {
     /// How many entries the batch has, at most 63.
     pub fn pending(&self) -> usize
         ensures value { result ≡ length self.now.state.batch }
-        ensures limit { result ≤ 63 }
+        ensures limit { result ≤ MOST_ENTRIES }
     {
         self.group.batch.len()
     }
@@ -123,7 +125,7 @@ impl<'b> Decider<'b> {
     /// Gives the batch out, and keeps the register and the positions.
     pub fn seal(&mut self) -> ArrayVec<Entry, MOST_ENTRIES>
         ensures batch { result.items ≡ self.old.state.batch }
-        ensures limit { length result.items ≤ 63 }
+        ensures limit { length result.items ≤ MOST_ENTRIES }
         ensures written { All (λ (e : EntryValue). IsRecord (EntryRecord e)) result.items }
         ensures kept { self.new ≡ record {
           plan = self.old.plan;
@@ -143,7 +145,7 @@ impl<'b> Decider<'b> {
     ) -> Letter
         requires verdict { IsVerdict self.old.plan self.old.state command.now.terminal
             command.now.number command.now.body (VerdictValue.Call call.now eligible) }
-        requires room { length self.old.state.batch < 63 }
+        requires room { length self.old.state.batch < MOST_ENTRIES }
         ensures plan { self.new.plan ≡ self.old.plan }
         ensures step { Step self.old.plan (P.chooses policy.now) self.old.state command.now.terminal
             command.now.number command.now.body (ReplyValue.Car result) self.new.state }
@@ -165,7 +167,7 @@ impl<'b> Decider<'b> {
         body: &Body,
         policy: &P,
     ) -> Reply
-        requires room { length self.old.state.batch < 63 }
+        requires room { length self.old.state.batch < MOST_ENTRIES }
         ensures plan { self.new.plan ≡ self.old.plan }
         ensures step { Step self.old.plan (P.chooses policy.now) self.old.state terminal number
             body.now result self.new.state }
@@ -183,7 +185,7 @@ impl<'b> Decider<'b> {
     // (most terminals of a turn ask nothing: apart from their loop it leaves that its registers)
     #[inline(never)]
     fn carry_out<P: Policy>(&mut self, command: &Command, policy: &P) -> Reply
-        requires room { length self.old.state.batch < 63 }
+        requires room { length self.old.state.batch < MOST_ENTRIES }
         ensures plan { self.new.plan ≡ self.old.plan }
         ensures step { Step self.old.plan (P.chooses policy.now) self.old.state command.now.terminal
             command.now.number command.now.body result self.new.state }

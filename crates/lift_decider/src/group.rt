@@ -12,7 +12,9 @@ ghost use Rattle.lift_decider.specs.Decider.{IsBatch, IsRegisterIn, starting};
 
 use crate::schedules::{insert, list_halts, serve, stand};
 use arrayvec::ArrayVec;
-use lift_base::{Entry, Letter, MOST_CARS, MOST_ENTRIES, Number, Position, Row, Stop};
+use lift_base::{
+    Entry, LAST_CAR, LAST_TERMINAL, Letter, MOST_CARS, MOST_ENTRIES, Number, Position, Row, Stop,
+};
 use lift_building::Building;
 use lift_cost::NewCall;
 use lift_policy::{Command, Eligible, View};
@@ -29,7 +31,7 @@ fn join(
 ) -> bool
     requires fits { Fits building.now register.old entry.now }
     requires inside { IsRegisterIn building.now register.old }
-    requires room { length batch.old.items < 63 }
+    requires room { length batch.old.items < MOST_ENTRIES }
     ensures value { register.new ≡ register_of register.old (entry.now ∷ []) }
     ensures was { IsWellFormed register.old }
     ensures lawful { IsWellFormed register.new }
@@ -116,7 +118,7 @@ impl Group {
             (EntryValue.Allot command.now.terminal command.now.number call.now.from call.now.to car
             call.now.party) }
         requires inside { IsStateIn building.now self.old }
-        requires room { length self.old.batch < 63 }
+        requires room { length self.old.batch < MOST_ENTRIES }
         ensures state { self.new
             ≡ accepting self.old (EntryValue.Allot command.now.terminal command.now.number
             call.now.from call.now.to car call.now.party) }
@@ -124,7 +126,7 @@ impl Group {
     {
         let row = row_of(command, call, car);
         let entry = row.allotment();
-        prove!(command.terminal.get() < 63 && car.get() < 16);
+        prove!(command.terminal.get() <= LAST_TERMINAL && car.get() <= LAST_CAR);
         join(building, &mut self.register, &mut self.batch, &entry);
         let place = usize::from(car.get());
         insert(&mut self.schedules[place], &row);
@@ -132,7 +134,7 @@ impl Group {
 
     /// A car stands at a position.
     pub fn stand(&mut self, car: Letter, position: Position) -> Option<Stop>
-        requires cars { length self.old.positions ≡ 16 }
+        requires cars { length self.old.positions ≡ MOST_CARS }
         ensures state { self.new ≡ with_car_at self.old car position.floor position.dir }
         ensures next { result ≡ next_from self.new car position.floor position.dir }
     {
@@ -152,7 +154,7 @@ impl Group {
         requires fits { Fits building.now self.old.register
             (EntryValue.Stop car number stop.floor stop.dir) }
         requires inside { IsStateIn building.now self.old }
-        requires room { length self.old.batch < 63 }
+        requires room { length self.old.batch < MOST_ENTRIES }
         ensures state { self.new
             ≡ with_car_at (accepting self.old (EntryValue.Stop car number stop.floor stop.dir)) car
             stop.floor stop.dir }

@@ -6,14 +6,14 @@ ghost use Rattle.lift_stops.specs.StopList.{next_stop};
 ghost use Rattle.lift_stops.specs.Schedule.{position_after};
 ghost use Rattle.lift_decider.specs.Schedules.{schedule_at, with_row, HasRows, HasRowsAfter};
 
-use lift_base::{Letter, MOST_CARS, Position, Row, Stop};
+use lift_base::{Letter, MOST_CARS, MOST_ROWS, Position, Row, Stop};
 use lift_policy::schedule_of;
 use lift_register::Register;
 use lift_stops::Schedule;
 
 /// A car takes one call more. Where it has no schedule it gets none.
 pub fn insert(schedule: &mut Option<Schedule>, row: &Row)
-    requires few { IfSome schedule.old (λ s. length s.rows ≤ 32) }
+    requires few { IfSome schedule.old (λ s. length s.rows ≤ MOST_ROWS) }
     ensures { schedule.new ≡ with_row row.now schedule.old }
 {
     match schedule {

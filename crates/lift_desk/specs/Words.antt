@@ -2,6 +2,7 @@
 -- answer.
 use Rattle.std.specs.Prelude.{◌≡◌, ℕ, ◌+◌, ◌*◌, ◌/◌, ◌%◌, ◌^◌, ◌<◌, ◌≤◌, List, [], ◌∷◌, Option}
 use Rattle.std.specs.Prelude.{Some, None, IfSome, ◌==◌, if◌then◌else◌}
+use Rattle.lift_base.specs.declared.limits.TheConstants.{MOST_CARS, MOST_FLOORS}
 use Rattle.lift_base.specs.declared.travel.Dir.{Dir}
 use Rattle.lift_base.specs.declared.travel.Dir.TheVariants.{Up, Down}
 use Rattle.lift_base.specs.declared.travel.Stop.{Stop as StopAt}
@@ -111,17 +112,17 @@ pub record FitsWord (turn number : ℕ) : Type 0 where
 
 -- the floor and the party that a body names are a floor and a party
 abbrev pub IsBodyInRange : Body → Type 0
-IsBodyInRange (Call floor party) = (floor < 64) × (1 ≤ party) × (party ≤ 15)
-IsBodyInRange (Stop floor dir) = floor < 64
-IsBodyInRange (Place floor dir) = floor < 64
+IsBodyInRange (Call floor party) = (floor < MOST_FLOORS) × (1 ≤ party) × (party ≤ 15)
+IsBodyInRange (Stop floor dir) = floor < MOST_FLOORS
+IsBodyInRange (Place floor dir) = floor < MOST_FLOORS
 
 abbrev pub IsNextStop : Option StopAt → Type 0
 IsNextStop None = Unit {0}
-IsNextStop (Some stop) = stop.floor < 64
+IsNextStop (Some stop) = stop.floor < MOST_FLOORS
 
 -- the car and the floor that a reply names are a car and a floor
 abbrev pub IsReply : Reply → Type 0
-IsReply (Car car) = car < 16
+IsReply (Car car) = car < MOST_CARS
 IsReply (Stopped next) = IsNextStop next
 IsReply (Placed next) = IsNextStop next
 IsReply (Refused reason) = Unit {0}

@@ -122,7 +122,7 @@ impl Desk {
     /// A desk of so many terminals, with all its seats. An error comes only where a growth was
     /// refused.
     pub fn open(alloc: Global, terminals: usize) -> Result<DeskParts, Memory>
-        requires { (1 ≤ terminals) × (terminals ≤ 63) }
+        requires { (1 ≤ terminals) × (terminals ≤ MOST_TERMINALS) }
         ensures count { IfOk result (λ parts. (length parts.desk ≡ terminals)
             × (vec_len parts.seats ≡ terminals)) }
         ensures seats { IfOk result (λ parts. parts.seats.items ≡ seats_from 0 parts.desk) }
@@ -151,7 +151,7 @@ impl Desk {
     /// How many terminals it has, 1 to 63.
     pub fn len(&self) -> usize
         ensures count { result ≡ length self.now }
-        ensures in_range { (1 ≤ result) × (result ≤ 63) }
+        ensures in_range { (1 ≤ result) × (result ≤ MOST_TERMINALS) }
     {
         self.tables.len()
     }

@@ -3,6 +3,7 @@ use Rattle.std.proofs.Common.{◌≡◌, ◌<◌, ◌≤◌, ◌+◌, ℕ, zero,
 use Rattle.std.specs.List.{flat_map, range_with_len, AllByRecursion}
 use Rattle.std.proofs.lemmas.List.{map-append}
 use Rattle.std.proofs.lemmas.List.Elements.{recursion_from_All}
+use Rattle.lift_base.specs.declared.limits.TheConstants.{MOST_CARS, MOST_TERMINALS}
 use Rattle.lift_base.specs.declared.history.Last.{Last as LastCommand}
 use Rattle.lift_base.specs.declared.history.Record.{Record}
 use Rattle.lift_base.specs.declared.history.Record.TheVariants.{Entry, Row, Last, Done}
@@ -117,15 +118,15 @@ done_follows terminal (Some (Last other command)) count is = tt
 done_follows terminal (Some (Done other)) count is = absurd is
 
 order_of : (f : ℕ → List CallRow) (g : ℕ → Option LastCommand) (done : ℕ) → ((k : ℕ) → All (λ (row : CallRow). row.car ≡ k) (f k))
-    → IsInOrderAfter None ((map Row (flat_map f (range_with_len 0 16)) ++ flat_map (λ k. record_of_last k (g k)) (range_with_len 0 63)) ++ Done done ∷ [])
+    → IsInOrderAfter None ((map Row (flat_map f (range_with_len 0 MOST_CARS)) ++ flat_map (λ k. record_of_last k (g k)) (range_with_len 0 MOST_TERMINALS)) ++ Done done ∷ [])
 order_of f g done own =
-    let rows = map Row (flat_map f (range_with_len 0 16)) in
-    let lasts = flat_map (λ k. record_of_last k (g k)) (range_with_len 0 63) in
-    let first = all_rows f 0 16 None own tt in
-    let second = all_lasts g 0 63 (last_record_after None rows) (rows_then_lasts 16 (last_record_after None rows) first.1) in
+    let rows = map Row (flat_map f (range_with_len 0 MOST_CARS)) in
+    let lasts = flat_map (λ k. record_of_last k (g k)) (range_with_len 0 MOST_TERMINALS) in
+    let first = all_rows f 0 MOST_CARS None own tt in
+    let second = all_lasts g 0 MOST_TERMINALS (last_record_after None rows) (rows_then_lasts MOST_CARS (last_record_after None rows) first.1) in
     let both = order_join None rows lasts first.0 second.0 in
-    let end = subst (BeforeTerminal 63) (sym (last_join None rows lasts)) second.1 in
-    order_join None (rows ++ lasts) (Done done ∷ []) both (done_follows 63 (last_record_after None (rows ++ lasts)) done end, tt)
+    let end = subst (BeforeTerminal MOST_TERMINALS) (sym (last_join None rows lasts)) second.1 in
+    order_join None (rows ++ lasts) (Done done ∷ []) both (done_follows MOST_TERMINALS (last_record_after None (rows ++ lasts)) done end, tt)
 
 pub base_in_order : (register : RegisterState) → IsWellFormed register → IsInOrderAfter None (base_records register)
 unfolding cars terminals

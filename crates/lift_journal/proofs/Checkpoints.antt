@@ -9,6 +9,7 @@ use Rattle.lift_base.specs.Records.{IsRecord, IsLawful}
 use Rattle.lift_register.specs.Register.{RegisterState}
 use Rattle.lift_register.specs.Base.{base_records}
 use Rattle.lift_register.specs.WellFormed.{IsWellFormed}
+use Rattle.lift_base.specs.declared.limits.TheConstants.{LEAST_HALF, MOST_ENTRIES}
 use Rattle.lift_record.specs.declared.version.Version.{Version}
 use Rattle.lift_record.specs.declared.version.Version.TheVariants.{One, Two}
 use Rattle.lift_record.specs.Version.{version_number}
@@ -61,15 +62,15 @@ take_as_far (suc m) (suc n) (x ∷ xs) same = ap (λ l. x ∷ l) (take_as_far m 
 
 pub used_most : (count : ℕ) (records : List Record) → used (in_batches count records) ≤ 3 * count
 used_most zero records = omega arith
-used_most (suc count) records = omega (arith, bodies_few (length (take 63 records)), used_most count (drop 63 records))
+used_most (suc count) records = omega (arith, bodies_few (length (take MOST_ENTRIES records)), used_most count (drop MOST_ENTRIES records))
 
 pub used_rises : (early late : ℕ) (records : List Record) → early ≤ late → used (in_batches early records) ≤ used (in_batches late records)
 used_rises zero late records le = omega arith
 used_rises (suc early) zero records le = absurd (omega arith)
-used_rises (suc early) (suc late) records le = omega (arith, used_rises early late (drop 63 records) (omega arith))
+used_rises (suc early) (suc late) records le = omega (arith, used_rises early late (drop MOST_ENTRIES records) (omega arith))
 
 -- the next batch is one of them
-pub used_within : (count end size : ℕ) (records items : List Record) → count < end → end ≡ batch_count (length records) → 1 ≤ length records → items ≡ take 63 (drop (63 * count) records) → size ≡ body_size (length items)
+pub used_within : (count end size : ℕ) (records items : List Record) → count < end → end ≡ batch_count (length records) → 1 ≤ length records → items ≡ take MOST_ENTRIES (drop (MOST_ENTRIES * count) records) → size ≡ body_size (length items)
     → used (in_batches count records) + (1 + size) ≤ sectors_for (length records)
 used_within count end size records items below all some is sized =
     let batch : size ≡ size_of (batch_at count records) = sized ∙ ap (λ (l : List Record). body_size (length l)) is in
@@ -77,7 +78,7 @@ used_within count end size records items below all some is sized =
 
 never_fall : (version : Version) (count : ℕ) (records : List Record) → version_number version ≤ 2 → NeverFall version (in_batches count records)
 never_fall version zero records low = tt
-never_fall version (suc count) records low = (low, never_fall Two count (drop 63 records) (omega arith))
+never_fall version (suc count) records low = (low, never_fall Two count (drop MOST_ENTRIES records) (omega arith))
 
 order_take : (count : ℕ) (records : List Record) → IsInOrderAfter None records → IsInOrderAfter None (take count records)
 order_take count records order = order_front None (take count records) (drop count records) (subst (IsInOrderAfter None) (sym (take-append-drop count records)) order)
@@ -85,7 +86,7 @@ order_take count records order = order_front None (take count records) (drop cou
 pub sound_front : (count : ℕ) (records : List Record) → IsInOrderAfter None records → MayBeginChain (in_batches count records)
 sound_front count records order = record {
   versions = never_fall One count records (omega arith);
-  ordered = subst (IsInOrderAfter None) (sym (records_in count records)) (order_take (63 * count) records order);
+  ordered = subst (IsInOrderAfter None) (sym (records_in count records)) (order_take (MOST_ENTRIES * count) records order);
 }
 
 pub checkpoint_sound : (register : RegisterState) → IsWellFormed register → IsSound (checkpoint_of (base_records register))
@@ -97,10 +98,10 @@ checkpoint_sound register formed =
       complete = subst (λ (rs : List Record). MayEnd (last_record_after None rs)) (sym (checkpoint_records records)) (base_complete register);
     }
 
-pub lawful_part : (from : ℕ) (records : List Record) → All IsRecord records → All IsLawful (take 63 (drop from records))
+pub lawful_part : (from : ℕ) (records : List Record) → All IsRecord records → All IsLawful (take MOST_ENTRIES (drop from records))
 lawful_part from records each =
-    let part = take 63 (drop from records) in
-    All-from_recursion IsLawful part (both part (recursion_from_All IsRecord part (All-take IsRecord 63 (drop from records) (All-drop IsRecord from records each))))
+    let part = take MOST_ENTRIES (drop from records) in
+    All-from_recursion IsLawful part (both part (recursion_from_All IsRecord part (All-take IsRecord MOST_ENTRIES (drop from records) (All-drop IsRecord from records each))))
   where
     both : (part : List Record) → AllByRecursion IsRecord part → AllByRecursion IsLawful part
     both [] each = tt
@@ -178,17 +179,17 @@ draft_append gate number (batch ∷ first) second =
     ∙ ap (λ g. (calls ++ done) ++ draft_calls g (number + 1 + length first) second) (let same : next + used first ≡ gate + suc (size_of batch + used first) = omega arith in same)
     ∙ ap (λ n. (calls ++ done) ++ draft_calls (gate + suc (size_of batch + used first)) n second) (let same : number + 1 + length first ≡ number + suc (length first) = omega arith in same)
 
-batches_split : (count more : ℕ) (records : List Record) → in_batches (count + more) records ≡ in_batches count records ++ in_batches more (drop (63 * count) records)
+batches_split : (count more : ℕ) (records : List Record) → in_batches (count + more) records ≡ in_batches count records ++ in_batches more (drop (MOST_ENTRIES * count) records)
 batches_split zero more records =
     ap (λ n. in_batches n records) (let same : 0 + more ≡ more = omega arith in same)
-    ∙ ap (λ n. in_batches more (drop n records)) (let same : 0 ≡ 63 * 0 = omega arith in same)
+    ∙ ap (λ n. in_batches more (drop n records)) (let same : 0 ≡ MOST_ENTRIES * 0 = omega arith in same)
 batches_split (suc count) more records =
-    let first : Batch = record { version = Two; records = take 63 records } in
-    let place : drop (63 * count) (drop 63 records) ≡ drop (63 * suc count) records =
-    drop-drop (63 * count) 63 records ∙ ap (λ n. drop n records) (let sum : 63 + 63 * count ≡ 63 * suc count = omega arith in sum) in
+    let first : Batch = record { version = Two; records = take MOST_ENTRIES records } in
+    let place : drop (MOST_ENTRIES * count) (drop MOST_ENTRIES records) ≡ drop (MOST_ENTRIES * suc count) records =
+    drop-drop (MOST_ENTRIES * count) MOST_ENTRIES records ∙ ap (λ n. drop n records) (let sum : MOST_ENTRIES + MOST_ENTRIES * count ≡ MOST_ENTRIES * suc count = omega arith in sum) in
     ap (λ n. in_batches n records) (let same : suc count + more ≡ suc (count + more) = omega arith in same)
-    ∙ ap (λ (l : List Batch). first ∷ l) (batches_split count more (drop 63 records))
-    ∙ ap (λ (l : List Record). first ∷ (in_batches count (drop 63 records) ++ in_batches more l)) place
+    ∙ ap (λ (l : List Batch). first ∷ l) (batches_split count more (drop MOST_ENTRIES records))
+    ∙ ap (λ (l : List Record). first ∷ (in_batches count (drop MOST_ENTRIES records) ++ in_batches more l)) place
 
 -- those of the next batch, whatever stands after it
 draft_next : (start gate count : ℕ) (records : List Record) (tail : List Batch) (body : Image) → gate ≡ start + used (in_batches count records) → body ≡ batch_body (count + 1) (batch_at count records)
@@ -210,7 +211,7 @@ pub draft_makes_front : (old now new : DiskState) (start gate count end : ℕ) (
 draft_makes_front old now new start gate count end records body at is below was front =
     let calls = writes_from (gate + 1) body ++ Write gate marked ∷ [] in
     let done = draft_calls start 1 (in_batches count records) in
-    let tail = in_batches (end - count - 1) (drop 63 (drop (63 * count) records)) in
+    let tail = in_batches (end - count - 1) (drop MOST_ENTRIES (drop (MOST_ENTRIES * count) records)) in
     let rest = draft_calls (gate + (1 + size_of (batch_at count records))) (count + 1 + 1) tail in
     let whole : in_batches end records ≡ in_batches count records ++ batch_at count records ∷ tail =
     ap (λ n. in_batches n records) (let sum : end ≡ count + suc (end - count - 1) = omega (arith, below) in sum) ∙ batches_split count (suc (end - count - 1)) records in
@@ -225,21 +226,21 @@ pub record Drafted (old now : DiskState) (start gate count : ℕ) (records : Lis
   pub failures : now.failures ≡ old.failures
   pub told : NoneFails old now
   pub trace : now.trace ≡ old.trace ++ draft_calls start 1 (in_batches count records)
-  pub touched : LooseWithin (IsInRange start (start + 64)) old → TouchesOnly (IsInRange start (start + 64)) old now
+  pub touched : LooseWithin (IsInRange start (start + LEAST_HALF)) old → TouchesOnly (IsInRange start (start + LEAST_HALF)) old now
   pub at : gate ≡ start + used (in_batches count records)
   pub steady : old.is_honest → old.is_steady → now.is_steady
-  pub reached : old.is_honest → old.is_steady → (end : ℕ) → start + 64 ≤ end → end ≤ old.size → Reaches now.image start end gate (in_batches count records)
+  pub reached : old.is_honest → old.is_steady → (end : ℕ) → start + LEAST_HALF ≤ end → end ≤ old.size → Reaches now.image start end gate (in_batches count records)
 
 module _ (old now new : DiskState) (start gate count : ℕ) (records : List Record) (so_far : Drafted old now start gate count records) where
   -- the next batch touches no sector beyond
-  pub drafted_touched : (size : ℕ) → gate + 1 + size ≤ start + 64
+  pub drafted_touched : (size : ℕ) → gate + 1 + size ≤ start + LEAST_HALF
       → ((low high : ℕ) → low ≤ gate → gate + 1 + size ≤ high → LooseWithin (IsInRange low high) now → TouchesOnly (IsInRange low high) now new)
-      → LooseWithin (IsInRange start (start + 64)) old → TouchesOnly (IsInRange start (start + 64)) old new
+      → LooseWithin (IsInRange start (start + LEAST_HALF)) old → TouchesOnly (IsInRange start (start + LEAST_HALF)) old new
   drafted_touched size room touched loose =
       let before = so_far.touched loose in
-      touches_then (IsInRange start (start + 64)) old now new before (touched start (start + 64) (omega (arith, so_far.at)) room before.loose)
+      touches_then (IsInRange start (start + LEAST_HALF)) old now new before (touched start (start + LEAST_HALF) (omega (arith, so_far.at)) room before.loose)
 
-  pub drafted_more : (body : Image) → gate + 1 + length body < start + 64 → length body ≡ size_of (batch_at count records)
+  pub drafted_more : (body : Image) → gate + 1 + length body < start + LEAST_HALF → length body ≡ size_of (batch_at count records)
       → IsBody (count + 1) (batch_at count records) body → IsInOrderAfter None records
       → RunsOn now new → new.calls ≡ now.calls + (1 + length body) → new.writes ≡ now.writes + (1 + length body) → new.failures ≡ now.failures → NoneFails now new
       → body ≡ batch_body (count + 1) (batch_at count records) → new.trace ≡ now.trace ++ (writes_from (gate + 1) body ++ Write gate marked ∷ [])
@@ -282,5 +283,5 @@ pub next_size : (count size : ℕ) (items : List Record) (body : Image) → body
 next_size count size items body exact is = ap length exact ∙ length-batch_body (count + 1) (new_batch items) ∙ sym is
 
 -- there is room for it
-pub next_room : (start gate count size end : ℕ) (records items : List Record) → gate ≡ start + used (in_batches count records) → count < end → end ≤ 10 → size ≡ body_size (length items) → gate + 1 + size < start + 64
+pub next_room : (start gate count size end : ℕ) (records items : List Record) → gate ≡ start + used (in_batches count records) → count < end → end ≤ 10 → size ≡ body_size (length items) → gate + 1 + size < start + LEAST_HALF
 next_room start gate count size end records items at below few is = omega (arith, at, used_most count records, below, few, is, bodies_few (length items))

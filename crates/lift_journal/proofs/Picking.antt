@@ -1,6 +1,7 @@
 -- Which half a checkpoint that fails leaves picked.
 use Rattle.std.proofs.Common.{◌≡◌, ◌⊎◌, ◌<◌, ◌≤◌, ◌+◌, ◌==◌, inl, inr, ⊎_elim, refl, ℕ, Bool, true, false, not, cond, List, [], length, slice_get, slice_set, unwrap_or, sym, ◌∙◌, ap, subst, arith}
 use Rattle.std.proofs.lemmas.List.{length-set}
+use Rattle.lift_base.specs.declared.limits.TheConstants.{LEAST_HALF}
 use Rattle.lift_base.specs.declared.history.Shape.{Shape}
 use Rattle.lift_disk.specs.Disk.{DiskState, Image, ChangesWithin, IsFilled}
 use Rattle.lift_disk.specs.lemmas.History.{set_other}
@@ -47,7 +48,7 @@ module _ (shape : Shape) (is_in_second_half : Bool) (first second : List Batch) 
   some = omega (arith, holds.stamped.within.half.0)
 
   -- while the other half is written
-  drafting_in : (left : Image) → ChangesWithin (IsInRange start (start + 64)) old.image left → HoldsIn shape is_in_second_half first left
+  drafting_in : (left : Image) → ChangesWithin (IsInRange start (start + LEAST_HALF)) old.image left → HoldsIn shape is_in_second_half first left
   drafting_in left within = record {
     holds = drafting_leaves shape first second start old.image holds halves left within;
     picks = ap (λ o. is_marked (unwrap_or o [])) (within.others 0 (λ is. omega (arith, is.0, low))) ∙ was;
@@ -69,7 +70,7 @@ module _ (shape : Shape) (is_in_second_half : Bool) (first second : List Batch) 
     }
 
   -- before both halves stand, and once they do, whatever is in the pick then
-  pub checkpoint_in : (left : Image) → ChangesWithin (IsInRange start (start + 64)) old.image left ⊎ HasWritten start (start + shape.half) second old.image left
+  pub checkpoint_in : (left : Image) → ChangesWithin (IsInRange start (start + LEAST_HALF)) old.image left ⊎ HasWritten start (start + shape.half) second old.image left
       → HoldsIn shape is_in_second_half first left ⊎ HoldsIn shape (not is_in_second_half) second left
   checkpoint_in left either =
       ⊎_elim (λ within. inl (drafting_in left within))

@@ -1,5 +1,6 @@
 -- What a journal stands for once a checkpoint is in the place of its batches.
 use Rattle.std.proofs.Common.{◌≡◌, ◌⊎◌, ◌<◌, ◌≤◌, ◌+◌, ◌-◌, ◌*◌, inl, inr, ⊎_elim, ℕ, Bool, true, not, nat_lt, cond, List, length, sym, ◌∙◌, ap, subst, arith}
+use Rattle.lift_base.specs.declared.limits.TheConstants.{LEAST_HALF, MOST_ENTRIES}
 use Rattle.lift_base.specs.declared.history.Shape.{Shape}
 use Rattle.lift_register.specs.Register.{RegisterState}
 use Rattle.lift_register.specs.Base.{base_records}
@@ -26,7 +27,7 @@ other_inside size shape start gate number other pick place is =
     (λ b. (omega (arith, b.1), omega (arith, b.1, place.inside), omega (arith, b.1))) is
 
 pub other_place : (old_size size : ℕ) (shape : Shape) (start gate number other last count : ℕ) (pick : List ℕ) (records : ℕ) → HasNextPlace old_size shape start gate number → IsOtherHalf shape.half start other pick
-    → size ≡ old_size → last ≡ other + sectors_for records → last < other + 64 → count ≡ batch_count records → 1 ≤ records → HasNextPlace size shape other last (count + 1)
+    → size ≡ old_size → last ≡ other + sectors_for records → last < other + LEAST_HALF → count ≡ batch_count records → 1 ≤ records → HasNextPlace size shape other last (count + 1)
 other_place old_size size shape start gate number other last count pick records place is same at below counted some = record {
   within = place.within;
   inside = omega (arith, place.inside, same);
@@ -36,7 +37,7 @@ other_place old_size size shape start gate number other last count pick records 
   some = omega arith;
   counts =
       let low = (other_inside old_size shape start gate number other pick place is).0 in
-      omega (arith, low, at, counted, some, bodies_few (records - 63 * (batch_count records - 1)));
+      omega (arith, low, at, counted, some, bodies_few (records - MOST_ENTRIES * (batch_count records - 1)));
 }
 
 module _ (shape : Shape) (start gate number other : ℕ) (pick : List ℕ) (old : DiskState) (register : RegisterState) (place : HasNextPlace old.size shape start gate number)
@@ -48,8 +49,8 @@ module _ (shape : Shape) (start gate number other : ℕ) (pick : List ℕ) (old 
 
   -- a crash at any moment leaves the batches from before in their half, or the checkpoint in the other one
   pub replace_in : (new : DiskState) (stands : StandsAt shape start gate number old)
-      → ((end : ℕ) → other + 64 ≤ end → end ≤ old.size → (old.is_honest → IsSynced old)
-      → LeavesOnly old new (λ left. ChangesWithin (IsInRange other (other + 64)) old.image left ⊎ HasWritten other end (checkpoint_of (base_records register)) old.image left))
+      → ((end : ℕ) → other + LEAST_HALF ≤ end → end ≤ old.size → (old.is_honest → IsSynced old)
+      → LeavesOnly old new (λ left. ChangesWithin (IsInRange other (other + LEAST_HALF)) old.image left ⊎ HasWritten other end (checkpoint_of (base_records register)) old.image left))
       → LeavesOnly old new (λ left. HoldsIn shape (nat_lt 2 start) stands.batches left ⊎ HoldsIn shape (not (nat_lt 2 start)) (checkpoint_of (base_records register)) left)
   replace_in new stands leaves =
       let inside = other_inside old.size shape start gate number other pick place is_other in

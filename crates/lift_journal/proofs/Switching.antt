@@ -1,6 +1,7 @@
 -- The half that isn't picked is written, and then picked.
 use Rattle.std.proofs.Common.{◌≡◌, ◌⊎◌, ◌<◌, ◌≤◌, ◌+◌, ◌-◌, inl, inr, ⊎_elim, ℕ, List, length, take, drop, slice_set, sym, ◌∙◌, ap, subst, arith}
 use Rattle.std.proofs.lemmas.List.{take-set-le, length-set}
+use Rattle.lift_base.specs.declared.limits.TheConstants.{LEAST_HALF}
 use Rattle.lift_base.specs.declared.history.Shape.{Shape}
 use Rattle.lift_disk.specs.Disk.{DiskState, Image, ChangesWithin, LeavesOnly, TouchesOnly, IsWhole}
 use Rattle.lift_disk.specs.lemmas.Moments.{leaves_weaker, leaves_then, changes_nothing, changes_twice, changes_more}
@@ -16,7 +17,7 @@ use Rattle.lift_journal.proofs.Walks.{reaches_end}
 
 -- the sectors that a checkpoint may change
 abbrev pub IsWritten : ℕ → ℕ → Type 0
-IsWritten start i = IsInRange start (start + 64) i ⊎ (i ≡ 0)
+IsWritten start i = IsInRange start (start + LEAST_HALF) i ⊎ (i ≡ 0)
 
 -- the closing gate is written
 pub closes : (start end gate : ℕ) (batches : List Batch) (image : Image) → Reaches image start end gate batches → gate < end → end ≤ length image
@@ -28,8 +29,8 @@ closes start end gate batches image reached below whole =
     reaches_end new start end gate batches again below (omega (arith, whole, length-set image gate unmarked)) closed
 
 -- whatever is in the pick then
-module _ (start end gate : ℕ) (batches : List Batch) (old mid left : Image) (low : 2 ≤ start) (high : start + 64 ≤ end) (whole : end ≤ length mid) (below : gate < start + 64)
-    (reached : Reaches mid start end gate batches) (before : ChangesWithin (IsInRange start (start + 64)) old mid) (after : ChangesWithin (λ i. i ≡ 0) (slice_set mid gate unmarked) left) where
+module _ (start end gate : ℕ) (batches : List Batch) (old mid left : Image) (low : 2 ≤ start) (high : start + LEAST_HALF ≤ end) (whole : end ≤ length mid) (below : gate < start + LEAST_HALF)
+    (reached : Reaches mid start end gate batches) (before : ChangesWithin (IsInRange start (start + LEAST_HALF)) old mid) (after : ChangesWithin (λ i. i ≡ 0) (slice_set mid gate unmarked) left) where
   closed_changes : ChangesWithin (IsWritten start) mid (slice_set mid gate unmarked)
   closed_changes = record {
     size = length-set mid gate unmarked;
@@ -38,27 +39,27 @@ module _ (start end gate : ℕ) (batches : List Batch) (old mid left : Image) (l
 
   pub written_left : HasWritten start end batches old left
   written_left = record {
-    within = changes_twice (IsWritten start) old mid left (changes_more (IsInRange start (start + 64)) (IsWritten start) old mid (λ i is. inl is) before)
+    within = changes_twice (IsWritten start) old mid left (changes_more (IsInRange start (start + LEAST_HALF)) (IsWritten start) old mid (λ i is. inl is) before)
         (changes_twice (IsWritten start) mid (slice_set mid gate unmarked) left closed_changes (changes_more (λ i. i ≡ 0) (IsWritten start) (slice_set mid gate unmarked) left (λ i is. inr is) after));
     chain = half_same (end - start) start batches (λ i. i ≡ 0) (slice_set mid gate unmarked) left (λ i is range. omega (arith, is, range.0, low)) after
         (closes start end gate batches mid reached (omega (arith, below, high)) whole);
   }
 
 -- at each moment
-pub checkpoint_leaves : (old mid new : DiskState) (start end gate : ℕ) (batches : List Batch) → 2 ≤ start → start + 64 ≤ end → end ≤ old.size → IsWhole mid → gate < start + 64
-    → TouchesOnly (IsInRange start (start + 64)) old mid → (old.is_honest → Reaches mid.image start end gate batches)
-    → LeavesOnly mid new (λ left. ChangesWithin (IsInRange start (start + 64)) mid.image left ⊎ ChangesWithin (λ i. i ≡ 0) (slice_set mid.image gate unmarked) left)
-    → LeavesOnly old new (λ left. ChangesWithin (IsInRange start (start + 64)) old.image left ⊎ HasWritten start end batches old.image left)
+pub checkpoint_leaves : (old mid new : DiskState) (start end gate : ℕ) (batches : List Batch) → 2 ≤ start → start + LEAST_HALF ≤ end → end ≤ old.size → IsWhole mid → gate < start + LEAST_HALF
+    → TouchesOnly (IsInRange start (start + LEAST_HALF)) old mid → (old.is_honest → Reaches mid.image start end gate batches)
+    → LeavesOnly mid new (λ left. ChangesWithin (IsInRange start (start + LEAST_HALF)) mid.image left ⊎ ChangesWithin (λ i. i ≡ 0) (slice_set mid.image gate unmarked) left)
+    → LeavesOnly old new (λ left. ChangesWithin (IsInRange start (start + LEAST_HALF)) old.image left ⊎ HasWritten start end batches old.image left)
 checkpoint_leaves old mid new start end gate batches low high inside whole below touched reached switched =
-    let P : Image → Type 0 = λ left. ChangesWithin (IsInRange start (start + 64)) old.image left ⊎ HasWritten start end batches old.image left in
+    let P : Image → Type 0 = λ left. ChangesWithin (IsInRange start (start + LEAST_HALF)) old.image left ⊎ HasWritten start end batches old.image left in
     leaves_then old mid new P
-    (leaves_weaker old mid (ChangesWithin (IsInRange start (start + 64)) old.image) P (λ _ left within. inl within) touched.moments)
-    (leaves_weaker mid new (λ left. ChangesWithin (IsInRange start (start + 64)) mid.image left ⊎ ChangesWithin (λ i. i ≡ 0) (slice_set mid.image gate unmarked) left) P
+    (leaves_weaker old mid (ChangesWithin (IsInRange start (start + LEAST_HALF)) old.image) P (λ _ left within. inl within) touched.moments)
+    (leaves_weaker mid new (λ left. ChangesWithin (IsInRange start (start + LEAST_HALF)) mid.image left ⊎ ChangesWithin (λ i. i ≡ 0) (slice_set mid.image gate unmarked) left) P
     (λ honest_mid left either.
     let honest = touched.moments.honest.0 honest_mid in
     let before = touched.within honest in
     ⊎_elim
-    (λ within. inl (changes_twice (IsInRange start (start + 64)) old.image mid.image left before within))
+    (λ within. inl (changes_twice (IsInRange start (start + LEAST_HALF)) old.image mid.image left before within))
     (λ picked. inr (written_left start end gate batches old.image mid.image left low high (omega (arith, inside, touched.size, whole honest_mid)) below (reached honest) before picked))
     either) switched)
 
@@ -70,12 +71,12 @@ written_pick start end batches old mid left low written change = record {
 }
 
 -- a switch that failed after the batches
-pub writing_fails : (old mid new : DiskState) (start end gate sectors : ℕ) (batches : List Batch) (pick : List ℕ) → 2 ≤ start → start + 64 ≤ end → end ≤ length mid.image → gate < start + 64
-    → ChangesWithin (IsInRange start (start + 64)) old.image mid.image → Reaches mid.image start end gate batches → mid.calls ≡ old.calls + sectors
-    → IsFailedSwitch start (start + 64) gate pick mid new → IsFailedWriting start end batches sectors pick old new
+pub writing_fails : (old mid new : DiskState) (start end gate sectors : ℕ) (batches : List Batch) (pick : List ℕ) → 2 ≤ start → start + LEAST_HALF ≤ end → end ≤ length mid.image → gate < start + LEAST_HALF
+    → ChangesWithin (IsInRange start (start + LEAST_HALF)) old.image mid.image → Reaches mid.image start end gate batches → mid.calls ≡ old.calls + sectors
+    → IsFailedSwitch start (start + LEAST_HALF) gate pick mid new → IsFailedWriting start end batches sectors pick old new
 writing_fails old mid new start end gate sectors batches pick low high whole below before reached calls stops = record {
   early = λ few honest left leaves.
-      changes_twice (IsInRange start (start + 64)) old.image mid.image left before (stops.early (omega (arith, few, calls)) honest left leaves);
+      changes_twice (IsInRange start (start + LEAST_HALF)) old.image mid.image left before (stops.early (omega (arith, few, calls)) honest left leaves);
   late = λ more.
       (let missed = stops.late (omega (arith, more, calls)) in
       let safe = slice_set mid.image gate unmarked in (
@@ -97,15 +98,15 @@ module _ (shape : Shape) (first second : List Batch) (start : ℕ) (old : Image)
   low : 2 ≤ start
   low = ⊎_elim (λ a. omega (arith, a.1)) (λ b. omega (arith, b.1)) halves
 
-  apart : (i : ℕ) → IsInRange start (start + 64) i → IsInRange (start_of shape.half old) (start_of shape.half old + shape.half) i → ⊥
+  apart : (i : ℕ) → IsInRange start (start + LEAST_HALF) i → IsInRange (start_of shape.half old) (start_of shape.half old + shape.half) i → ⊥
   apart i is was =
       let half = holds.stamped.within.half.0 in
       ⊎_elim (λ a. omega (arith, half, a.0, a.1, is.0, is.1, was.0, was.1)) (λ b. omega (arith, half, b.0, b.1, is.0, is.1, was.0, was.1)) halves
 
   -- while the other half is written
-  pub drafting_leaves : (left : Image) → ChangesWithin (IsInRange start (start + 64)) old left → Holds shape first left
+  pub drafting_leaves : (left : Image) → ChangesWithin (IsInRange start (start + LEAST_HALF)) old left → Holds shape first left
   drafting_leaves left within =
-      holds_elsewhere shape first (IsInRange start (start + 64)) old left (λ is. omega (arith, is.0, low)) (λ is. omega (arith, is.0, low)) apart within holds
+      holds_elsewhere shape first (IsInRange start (start + LEAST_HALF)) old left (λ is. omega (arith, is.0, low)) (λ is. omega (arith, is.0, low)) apart within holds
 
   module _ (left : Image) (sound : IsSound second) (written : HasWritten start (start + shape.half) second old left) where
     stamped_left : IsStamped shape left

@@ -9,6 +9,7 @@ use Rattle.std.proofs.Math.Seq.{take-append-add, take-add}
 use borrow.Author.Tests.{ltb-true}
 use Rattle.lift_base.specs.declared.history.Record.{Record}
 use Rattle.lift_disk.specs.Disk.{Image}
+use Rattle.lift_base.specs.declared.limits.TheConstants.{MOST_ENTRIES}
 use Rattle.lift_record.specs.declared.version.Version.{Version}
 use Rattle.lift_record.specs.declared.version.Version.TheVariants.{Two}
 use Rattle.lift_record.specs.Record.{spelling_of}
@@ -33,7 +34,7 @@ length-filled sectors bytes few =
     omega (arith, length-append bytes (replicate (512 * sectors - length bytes) 0), length-replicate {A = ℕ} (512 * sectors - length bytes) 0, few)
 
 -- a batch fits into its sectors
-batch_fits : (count : ℕ) → count ≤ 63 → 16 + 16 * count ≤ 512 * body_size count
+batch_fits : (count : ℕ) → count ≤ MOST_ENTRIES → 16 + 16 * count ≤ 512 * body_size count
 batch_fits count few = by_size (nat_lt count 32) refl
   where
     by_size : (b : Bool) → nat_lt count 32 ≡ b → 16 + 16 * count ≤ 512 * cond b 1 2
@@ -61,7 +62,7 @@ first_sector content few =
     ∙ ap (λ (l : List ℕ). content ++ l) (take-replicate (512 - length content) (1024 - length content) 0 (omega arith))
 
 -- the front of a text, cut into sectors
-pub sectors_spelled : (count : ℕ) (content text : List ℕ) → length content ≡ 16 + 16 * count → count ≤ 63 → text ≡ filled 2 content
+pub sectors_spelled : (count : ℕ) (content text : List ℕ) → length content ≡ 16 + 16 * count → count ≤ MOST_ENTRIES → text ≡ filled 2 content
     → concat (take (body_size count) (take 512 text ∷ drop 512 text ∷ [])) ≡ filled (body_size count) content
 sectors_spelled count content text size few is = by_size (nat_lt count 32) refl
   where
@@ -77,7 +78,7 @@ sectors_spelled count content text size few is = by_size (nat_lt count 32) refl
 
 -- two sectors whose header and tail are right hold the batch
 pub body_found : (number : ℕ) (batch : Batch) (first second : List ℕ) → length first ≡ 512 → length second ≡ 512
-    → 1 ≤ length batch.records → length batch.records ≤ 63
+    → 1 ≤ length batch.records → length batch.records ≤ MOST_ENTRIES
     → take 16 first ≡ header_bytes batch.version (length batch.records) number → IsTailOf batch.version batch.records (drop 16 (first ++ second))
     → IsBody number batch (take (size_of batch) (first ∷ second ∷ []))
 body_found number batch first second one two some few header tail =
@@ -107,7 +108,7 @@ length-batch_body number batch = by_size (nat_lt (length batch.records) 32) (fil
     by_size false text = refl
 
 -- a text of as many sectors as the batch takes is its body
-pub sectors_cut : (number : ℕ) (batch : Batch) (text : List ℕ) → length batch.records ≤ 63 → text ≡ filled (size_of batch) (batch_bytes number batch)
+pub sectors_cut : (number : ℕ) (batch : Batch) (text : List ℕ) → length batch.records ≤ MOST_ENTRIES → text ≡ filled (size_of batch) (batch_bytes number batch)
     → first_chunks 512 (length text / 512) text ≡ batch_body number batch
 sectors_cut number batch text few is = ap (λ k. first_chunks 512 k text) (omega (arith, long)) ∙ by_size (nat_lt (length batch.records) 32) refl is
   where
@@ -129,7 +130,7 @@ sectors_cut number batch text few is = ap (λ k. first_chunks 512 k text) (omega
         ∙ ap (λ (l : List ℕ). take 512 (filled 2 (batch_bytes number batch)) ∷ l ∷ []) (take_all 512 (drop 512 (filled 2 (batch_bytes number batch))) (omega (arith, whole, length-drop 512 (filled 2 (batch_bytes number batch)))))
 
 -- the body that is written is one of the batch
-pub body_of_batch : (number : ℕ) (records : List Record) → 1 ≤ length records → length records ≤ 63 → All (IsRecordIn Two) records → IsBody number (new_batch records) (batch_body number (new_batch records))
+pub body_of_batch : (number : ℕ) (records : List Record) → 1 ≤ length records → length records ≤ MOST_ENTRIES → All (IsRecordIn Two) records → IsBody number (new_batch records) (batch_body number (new_batch records))
 body_of_batch number records some few lawful =
     let text = batch_bytes number (new_batch records) in
     record { some = some; few = few; lawful = lawful; spelled = sectors_spelled (length records) text (filled 2 text) (length-batch_bytes number (new_batch records)) few refl }
@@ -247,7 +248,7 @@ text_of_sectors (first ∷ blank ∷ []) second two = ap (λ (l : List ℕ). fir
 text_of_sectors (first ∷ blank ∷ more ∷ rest) second two = absurd (cc two)
 
 -- what stands after the header, as records and zeros
-pub tail_split : (version : Version) (count : ℕ) (records : List Record) (text : List ℕ) → length text ≡ 1024 → count ≤ 63 → IsRecordsIn version (drop 16 text) count records
+pub tail_split : (version : Version) (count : ℕ) (records : List Record) (text : List ℕ) → length text ≡ 1024 → count ≤ MOST_ENTRIES → IsRecordsIn version (drop 16 text) count records
     → drop (16 + 16 * count) text ≡ replicate (1024 - (16 + 16 * count)) 0 → IsTailOf version records (drop 16 text)
 tail_split version count records text size few there blank = record {
   lawful = there.lawful;

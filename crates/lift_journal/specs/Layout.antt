@@ -9,6 +9,7 @@ use Rattle.lift_base.specs.declared.history.Shape.{Shape}
 use Rattle.lift_base.specs.History.{IsWithinLimits}
 use Rattle.lift_base.specs.Records.{IsRecord}
 use Rattle.lift_disk.specs.Disk.{Image}
+use Rattle.lift_base.specs.declared.limits.TheConstants.{MOST_ENTRIES}
 use Rattle.lift_record.specs.declared.version.Version.{Version}
 use Rattle.lift_record.specs.declared.version.Version.TheVariants.{One, Two}
 use Rattle.lift_record.specs.Version.{version_number}
@@ -68,7 +69,7 @@ batch_bytes number batch =
 -- these sectors hold the batch: the header, the records and zeros
 pub record IsBody (number : ℕ) (batch : Batch) (sectors : Image) : Type 0 where
   pub some : 1 ≤ length batch.records
-  pub few : length batch.records ≤ 63
+  pub few : length batch.records ≤ MOST_ENTRIES
   pub lawful : All (IsRecordIn batch.version) batch.records
   pub spelled : concat sectors ≡ filled (size_of batch) (batch_bytes number batch)
 

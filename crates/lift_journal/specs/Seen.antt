@@ -3,6 +3,7 @@ use Rattle.std.specs.Prelude.{◌≡◌, ◌+◌, ◌*◌, ◌-◌, ◌++◌, �
 use Rattle.std.specs.Prelude.{length, take, replicate, All}
 use Rattle.std.specs.List.{flat_map}
 use Rattle.lift_base.specs.declared.history.Record.{Record}
+use Rattle.lift_base.specs.declared.limits.TheConstants.{MOST_ENTRIES}
 use Rattle.lift_record.specs.declared.version.Version.{Version}
 use Rattle.lift_record.specs.Record.{spelling_of}
 use Rattle.lift_disk.specs.Disk.{Image}
@@ -36,7 +37,7 @@ batch_of stored = record { version = stored.version; records = stored.records.it
 -- it is a batch by its size, and its next gate stands below the end
 pub record FitsBelow (gate end : ℕ) (stored : Stored) : Type 0 where
   pub some : 1 ≤ length stored.records.items
-  pub few : length stored.records.items ≤ 63
+  pub few : length stored.records.items ≤ MOST_ENTRIES
   pub below : gate + 1 + body_size (length stored.records.items) < end
 
 -- this stands after an open gate, where a batch is one that was read

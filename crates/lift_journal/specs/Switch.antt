@@ -1,6 +1,7 @@
 -- What the steps of a checkpoint leave of an image, by sectors. No public clause names these.
 use Rattle.std.specs.Prelude.{◌≡◌, ◌≢◌, ◌⊎◌, ◌<◌, ◌≤◌, ◌+◌, ◌-◌, ℕ, List, take, drop, slice_get}
 use Rattle.std.specs.Prelude.{slice_set}
+use Rattle.lift_base.specs.declared.limits.TheConstants.{LEAST_HALF}
 use Rattle.lift_disk.specs.Disk.{DiskState, Image, ChangesWithin, LeavesNow}
 use Rattle.lift_journal.specs.Layout.{Batch, IsChain}
 use Rattle.lift_journal.specs.Steps.{IsInRange, marked, unmarked}
@@ -11,10 +12,10 @@ IsOtherHalf half start other pick =
     ((start ≡ 2) × (other ≡ half + 2) × (pick ≡ marked))
     ⊎ ((start ≢ 2) × (other ≡ 2) × (pick ≡ unmarked))
 
--- the half from start to end holds these batches, and beside its first 64 sectors nothing but the
+-- the half from start to end holds these batches, and beside the sectors of a least half nothing but the
 -- pick has changed
 pub record HasWritten (start end : ℕ) (batches : List Batch) (old new : Image) : Type 0 where
-  pub within : ChangesWithin (λ i. IsInRange start (start + 64) i ⊎ (i ≡ 0)) old new
+  pub within : ChangesWithin (λ i. IsInRange start (start + LEAST_HALF) i ⊎ (i ≡ 0)) old new
   pub chain : IsChain batches 1 (take (end - start) (drop start new))
 
 -- With both halves safe as in this image, this many calls were made before the pick's write, and
@@ -39,7 +40,7 @@ pub record IsFailedSwitch (low high gate : ℕ) (pick : List ℕ) (old new : Dis
 pub record IsFailedWriting (start end : ℕ) (batches : List Batch) (sectors : ℕ) (pick : List ℕ)
     (old new : DiskState) : Type 0 where
   pub early : new.calls ≤ old.calls + (sectors + 2)
-      → LeavesNow new (ChangesWithin (IsInRange start (start + 64)) old.image)
+      → LeavesNow new (ChangesWithin (IsInRange start (start + LEAST_HALF)) old.image)
   pub late : old.calls + (sectors + 2) < new.calls
       → (safe : Image) × HasWritten start end batches old.image safe
       × (slice_get safe 0 ≡ slice_get old.image 0) × MissesPick (sectors + 2) pick safe old new

@@ -5,6 +5,7 @@ use Rattle.lift_base.specs.declared.history.Shape.{Shape}
 use Rattle.lift_disk.specs.Disk.{DiskState, Image}
 use Rattle.lift_disk.specs.Trace.{Access}
 use Rattle.lift_disk.specs.Trace.Access.{Read, Sync}
+use Rattle.lift_base.specs.declared.limits.TheConstants.{MOST_ENTRIES}
 use Rattle.lift_journal.specs.declared.fault.JournalFault.{JournalFault}
 use Rattle.lift_journal.specs.declared.fault.JournalFault.TheVariants.{Disk, NotFormatted, Damaged}
 use Rattle.lift_journal.specs.Layout.{Batch, size_of, used, start_of, IsStamped}
@@ -19,7 +20,7 @@ TakesAll {V} takes old (batch ∷ batches) new =
 
 -- as many records as a batch may have
 abbrev pub IsSized : Batch → Type 0
-IsSized batch = (1 ≤ length batch.records) × (length batch.records ≤ 63)
+IsSized batch = (1 ≤ length batch.records) × (length batch.records ≤ MOST_ENTRIES)
 
 -- The visitor was shown some batches that may begin a chain, whatever the device holds. They take
 -- fewer sectors than this many.

@@ -21,13 +21,13 @@ ghost use Rattle.lift_journal.specs.Calls.{checkpoint_calls};
 use crate::body::{body_count, put_body};
 use crate::device::{mark, write_sectors};
 use arrayvec::ArrayVec;
-use lift_base::{MOST_ENTRIES, Record, push_some};
+use lift_base::{LEAST_HALF, MOST_ENTRIES, MOST_RECORDS, Record, push_some};
 use lift_disk::{Disk, DiskFault};
 use lift_register::Register;
 
 /// How many batches so many records take.
 pub fn batches_for(count: usize) -> usize
-    requires { count ≤ 576 }
+    requires { count ≤ MOST_RECORDS }
     ensures value { result ≡ batch_count count }
     ensures limit { result ≤ 10 }
 {
@@ -50,8 +50,8 @@ pub fn other_half(start: u32, half: u32) -> (u32, [u8; 512])
 /// that are left.
 fn base_batch(register: &Register, count: usize, from: usize) -> ArrayVec<Record, MOST_ENTRIES>
     requires count { count ≡ length (base_records register.now) }
-    requires limit { from ≤ 576 }
-    ensures { result.items ≡ take 63 (drop from (base_records register.now)) }
+    requires limit { from ≤ MOST_RECORDS }
+    ensures { result.items ≡ take MOST_ENTRIES (drop from (base_records register.now)) }
 {
     let mut batch = ArrayVec::new();
     for place in from..count.min(from + MOST_ENTRIES) {
@@ -85,23 +85,23 @@ fn write_open_batch<D: Disk>(disk: &mut D, gate: u32, body: &[[u8; 512]]) -> Res
 /// Writes the batches of a register's checkpoint from this sector on, and answers where its closing
 /// gate goes.
 fn write_batches<D: Disk>(disk: &mut D, register: &Register, start: u32) -> Result<u32, DiskFault>
-    requires there { start + 64 ≤ (D.state disk.old).size }
-    requires fits { start + 64 < 2 ^ 32 }
+    requires there { start + LEAST_HALF ≤ (D.state disk.old).size }
+    requires fits { start + LEAST_HALF < 2 ^ 32 }
     ensures performs { Performs result
         (draft_calls start 1 (checkpoint_of (base_records register.now)))
         (sectors_for (length (base_records register.now)))
         (sectors_for (length (base_records register.now))) (D.state disk.old) (D.state disk.new) }
-    ensures touched { LooseWithin (IsInRange start (start + 64)) (D.state disk.old)
-        → TouchesOnly (IsInRange start (start + 64)) (D.state disk.old) (D.state disk.new) }
+    ensures touched { LooseWithin (IsInRange start (start + LEAST_HALF)) (D.state disk.old)
+        → TouchesOnly (IsInRange start (start + LEAST_HALF)) (D.state disk.old) (D.state disk.new) }
     ensures gate { IfOk result (λ gate.
-        (gate ≡ start + sectors_for (length (base_records register.now))) × (gate < start + 64)) }
+        (gate ≡ start + sectors_for (length (base_records register.now))) × (gate < start + LEAST_HALF)) }
     ensures placed { IfOk result (λ gate.
         gate ≡ start + used (checkpoint_of (base_records register.now))) }
     ensures steady { OnOk result ((D.state disk.old).is_honest → (D.state disk.old).is_steady
         → (D.state disk.new).is_steady) }
     ensures reached { IfOk result (λ gate. (D.state disk.old).is_honest
         → (D.state disk.old).is_steady
-        → (end : ℕ) → start + 64 ≤ end → end ≤ (D.state disk.old).size
+        → (end : ℕ) → start + LEAST_HALF ≤ end → end ≤ (D.state disk.old).size
         → Reaches (D.state disk.new).image start end gate
         (checkpoint_of (base_records register.now))) }
 {
@@ -169,30 +169,30 @@ pub fn write_checkpoint<D: Disk>(
     pick: &[u8; 512],
 ) -> Result<u32, DiskFault>
     requires first { 2 ≤ start }
-    requires there { start + 64 ≤ (D.state disk.old).size }
-    requires fits { start + 64 < 2 ^ 32 }
+    requires there { start + LEAST_HALF ≤ (D.state disk.old).size }
+    requires fits { start + LEAST_HALF < 2 ^ 32 }
     ensures performs { Performs result
         (checkpoint_calls start pick.now (checkpoint_of (base_records register.now)))
         (sectors_for (length (base_records register.now)) + 4)
         (sectors_for (length (base_records register.now)) + 2) (D.state disk.old)
         (D.state disk.new) }
     ensures gate { IfOk result (λ gate.
-        (gate ≡ start + sectors_for (length (base_records register.now))) × (gate < start + 64)) }
-    ensures any_moment { (end : ℕ) → start + 64 ≤ end → end ≤ (D.state disk.old).size
+        (gate ≡ start + sectors_for (length (base_records register.now))) × (gate < start + LEAST_HALF)) }
+    ensures any_moment { (end : ℕ) → start + LEAST_HALF ≤ end → end ≤ (D.state disk.old).size
         → ((D.state disk.old).is_honest → IsSynced (D.state disk.old))
         → LeavesOnly (D.state disk.old) (D.state disk.new) (λ left.
-        ChangesWithin (IsInRange start (start + 64)) (D.state disk.old).image left
+        ChangesWithin (IsInRange start (start + LEAST_HALF)) (D.state disk.old).image left
         ⊎ HasWritten start end (checkpoint_of (base_records register.now))
         (D.state disk.old).image left) }
     ensures synced { OnOk result ((D.state disk.old).is_honest → IsSynced (D.state disk.old)
         → IsSynced (D.state disk.new)) }
     ensures picked { OnOk result ((D.state disk.old).is_honest → IsSynced (D.state disk.old)
         → sector_at (D.state disk.new).image 0 ≡ pick.now) }
-    ensures written { OnOk result ((end : ℕ) → start + 64 ≤ end → end ≤ (D.state disk.old).size
+    ensures written { OnOk result ((end : ℕ) → start + LEAST_HALF ≤ end → end ≤ (D.state disk.old).size
         → (D.state disk.old).is_honest → IsSynced (D.state disk.old)
         → HasWritten start end (checkpoint_of (base_records register.now)) (D.state disk.old).image
         (D.state disk.new).image) }
-    ensures fails { OnErr result ((end : ℕ) → start + 64 ≤ end → end ≤ (D.state disk.old).size
+    ensures fails { OnErr result ((end : ℕ) → start + LEAST_HALF ≤ end → end ≤ (D.state disk.old).size
         → (D.state disk.old).is_honest → (D.state disk.old).is_inert → IsSynced (D.state disk.old)
         → IsFailedWriting start end (checkpoint_of (base_records register.now))
         (sectors_for (length (base_records register.now))) pick.now (D.state disk.old)

@@ -8,7 +8,7 @@ ghost use Rattle.lift_journal.specs.Seen.{IsRecordsIn, IsTailOf};
 
 use crate::batch::RecordList;
 use crate::bytes::sixteen;
-use lift_base::push_some;
+use lift_base::{MOST_ENTRIES, push_some};
 use lift_record::{Header, Version, decode, decode_header, decode_stop};
 
 /// The header at the front of a body, if it is one and has this number.
@@ -27,7 +27,7 @@ pub fn header_of(first: &[u8; 512], number: u32) -> Option<Header>
 /// Adds the record that these bytes spell, if they spell one.
 #[inline(never)]
 fn push_decoded(version: Version, bytes: &[u8; 16], records: &mut RecordList) -> bool
-    requires room { length records.old.items < 63 }
+    requires room { length records.old.items < MOST_ENTRIES }
     ensures pushed { IsTrue result → (content : RecordValue) × IsSpellingOf version bytes.now content
         × (records.new.items ≡ records.old.items ++ content ∷ []) }
     ensures none { IsFalse result → (content : RecordValue)
@@ -42,7 +42,7 @@ fn push_decoded(version: Version, bytes: &[u8; 16], records: &mut RecordList) ->
 /// steps.
 fn push_next(version: Version, text: &[u8], at: usize, records: &mut RecordList) -> bool
     requires whole { at + 16 ≤ length text.now }
-    requires room { length records.old.items < 63 }
+    requires room { length records.old.items < MOST_ENTRIES }
     ensures pushed { IsTrue result → (content : RecordValue)
         × IsSpellingOf version (take 16 (drop at text.now)) content
         × (records.new.items ≡ records.old.items ++ content ∷ []) }
@@ -61,7 +61,7 @@ fn push_next(version: Version, text: &[u8], at: usize, records: &mut RecordList)
 #[inline(never)]
 fn read_records(version: Version, text: &[u8], count: usize, records: &mut RecordList) -> bool
     requires whole { length text.now ≡ 1024 }
-    requires few { count ≤ 63 }
+    requires few { count ≤ MOST_ENTRIES }
     ensures some { IsTrue result
         → IsRecordsIn version (drop 16 text.now) count records.new.items }
     ensures none { IsFalse result → (others : List RecordValue)
@@ -93,7 +93,7 @@ fn is_zero_from(text: &[u8], at: usize) -> bool
 /// there.
 pub fn parse(version: Version, text: &[u8], count: usize, records: &mut RecordList) -> bool
     requires whole { length text.now ≡ 1024 }
-    requires few { count ≤ 63 }
+    requires few { count ≤ MOST_ENTRIES }
     ensures some { IsTrue result → (length records.new.items ≡ count)
         × IsTailOf version records.new.items (drop 16 text.now) }
     ensures none { IsFalse result → (others : List RecordValue) → length others ≡ count

@@ -21,6 +21,7 @@ use Rattle.lift_register.specs.lemmas.EntryLemmas.{register_of-nothing, rows_aft
 use Rattle.lift_register.specs.lemmas.HistoryLemmas.{register_of-append, same_state}
 use Rattle.lift_register.specs.lemmas.Laws.{FitFrom-append}
 use Rattle.lift_register.specs.lemmas.Sums.{list_on_cars, list_on_terminals, nothing_over_cars, length-on_cars, length-on_terminals}
+use Rattle.lift_base.specs.declared.limits.TheConstants.{MOST_CARS, MOST_TERMINALS}
 use Rattle.lift_journal.specs.declared.fault.JournalFault.{JournalFault}
 use Rattle.lift_journal.specs.declared.fault.JournalFault.TheVariants.{Disk, Full, Broken}
 use Rattle.lift_journal.specs.Journal.{ReadsAs, StandsFor}
@@ -129,7 +130,7 @@ base_alone plan register lawful belongs balanced = record {
 }
 
 -- no entry changes no register that has its cars and terminals
-nothing_of : (register : RegisterState) → length register.rows ≡ 16 → length register.lasts ≡ 63 → register_of register [] ≡ register
+nothing_of : (register : RegisterState) → length register.rows ≡ MOST_CARS → length register.lasts ≡ MOST_TERMINALS → register_of register [] ≡ register
 nothing_of register rows lasts =
     same_state _ _ _ _ _ _
     (sym (list_on_cars (rows_after register []) register.rows [] rows (λ k below. sym (rows_after-nothing register k))))
@@ -137,8 +138,8 @@ nothing_of register rows lasts =
     (omega (arith, nothing_over_cars (λ k. done_among (calls_of register [] k)) (λ k. done-nothing register k)))
 
 record HasAll (register : RegisterState) : Type 0 where
-  pub rows : length register.rows ≡ 16
-  pub lasts : length register.lasts ≡ 63
+  pub rows : length register.rows ≡ MOST_CARS
+  pub lasts : length register.lasts ≡ MOST_TERMINALS
 
 all_with : (register : RegisterState) (records : List Record) → HasAll register → HasAll (with_records register records)
 all_with register [] all = all

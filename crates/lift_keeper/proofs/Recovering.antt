@@ -3,6 +3,7 @@ use Rattle.std.proofs.Common.{◌≡◌, ◌<◌, ◌≤◌, ◌+◌, ◌*◌, �
 use Rattle.std.specs.Prelude.{slice_get, All}
 use Rattle.std.proofs.lemmas.List.Elements.{All-nil, All-cons, All-head, All-tail}
 use Rattle.std.proofs.lemmas.Option.{get_or_from_slice_get, slice_get_within}
+use Rattle.lift_base.specs.declared.limits.TheConstants.{MOST_ENTRIES}
 use Rattle.lift_base.specs.declared.history.Record.{Record}
 use Rattle.lift_base.specs.declared.history.Shape.{Shape}
 use Rattle.lift_building.specs.Plan.{Plan}
@@ -110,9 +111,9 @@ plan_read old [] new all = ap (λ (s : ReadingState). s.recovery.plan) all
 plan_read old (batch ∷ batches) new all = plan_read all.0 batches new all.2 ∙ all.1.plan
 
 abbrev IsSmall : Batch → Type 0
-IsSmall batch = length batch.records ≤ 63
+IsSmall batch = length batch.records ≤ MOST_ENTRIES
 
-came_all : (old : ReadingState) (batches : List Batch) (new : ReadingState) → old.is_over ≡ false → old.recovery.taken + 63 * length batches ≤ most_records → All IsSmall batches → TakesAll ReadsBatch old batches new
+came_all : (old : ReadingState) (batches : List Batch) (new : ReadingState) → old.is_over ≡ false → old.recovery.taken + MOST_ENTRIES * length batches ≤ most_records → All IsSmall batches → TakesAll ReadsBatch old batches new
     → Came old.recovery new (records_of batches)
 came_all old [] new whole few small all = record {
   passes = λ _. (tt, ap (λ (s : ReadingState). s.recovery) all);
@@ -128,7 +129,7 @@ came_all old (batch ∷ batches) new whole few small all =
       | false ↦ λ is.
           let took = all.1.passes whole is in
           let count : all.0.recovery.taken ≡ old.recovery.taken + length batch.records = ap (λ (s : RecoveryState). s.taken) took.1 ∙ taken_passed old.recovery batch.records in
-          let size : length batch.records ≤ 63 = All-head IsSmall batch batches small in
+          let size : length batch.records ≤ MOST_ENTRIES = All-head IsSmall batch batches small in
           came_on old.recovery all.0 new batch.records (records_of batches) took.0 took.1
           (came_all all.0 batches new is (omega (arith, few, count, size)) (All-tail IsSmall batch batches small) all.2)
     ] refl

@@ -9,7 +9,7 @@ ghost use Rattle.lift_register.specs.Prelude.{IsWellFormed};
 ghost use Rattle.lift_journal.specs.Order.{IsEntry};
 
 use arrayvec::ArrayVec;
-use lift_base::{Entry, MOST_ENTRIES, Record, push_some};
+use lift_base::{Entry, LEAST_HALF, MOST_ENTRIES, Record, push_some};
 use lift_building::Building;
 use lift_register::Register;
 
@@ -20,7 +20,7 @@ pub fn copy_of(building: &Building, register: &Register) -> Register
     ensures value { result ≡ register.now }
     ensures lawful { IsWellFormed result }
 {
-    let mut copy = Register::empty(building.shape(64));
+    let mut copy = Register::empty(building.shape(LEAST_HALF));
     for place in 0..register.base_len() {
         copy.apply_base(building, &register.base_record(place));
     }

@@ -14,7 +14,7 @@ ghost use Rattle.lift_keeper.specs.Prelude.{OpensByCalls, RefusedCalls, Reopenin
 use crate::copies::copy_of;
 use crate::fault::KeeperFault;
 use crate::writer::{Safe, Writer};
-use lift_base::{Body, MOST_CARS, Number, Reply, Terminal};
+use lift_base::{Body, MOST_CARS, MOST_ENTRIES, Number, Reply, Terminal};
 use lift_building::Building;
 use lift_decider::Decider;
 use lift_disk::{Arm, Disk};
@@ -83,7 +83,7 @@ impl<'b, D: Disk> Keeper<'b, D> {
     /// How many entries the batch has, at most 63.
     pub fn pending(&self) -> usize
         ensures value { result ≡ length self.now.state.batch }
-        ensures limit { result ≤ 63 }
+        ensures limit { result ≤ MOST_ENTRIES }
     {
         self.decider.pending()
     }
@@ -155,7 +155,7 @@ impl<'b, D: Disk> Keeper<'b, D> {
         policy: &P,
     ) -> Reply
         requires whole { self.old.writer.is_broken ≡ false }
-        requires room { length self.old.state.batch < 63 }
+        requires room { length self.old.state.batch < MOST_ENTRIES }
         ensures step { Step self.old.writer.plan
             (P.chooses policy.now) self.old.state terminal number body.now result self.new.state }
         ensures grows { length self.new.state.batch ≤ length self.old.state.batch + 1 }

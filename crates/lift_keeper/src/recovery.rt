@@ -8,7 +8,7 @@ ghost use Rattle.lift_register.specs.Base.{BaseFits, with_record};
 ghost use Rattle.lift_keeper.specs.Recovery.{beginning, leaves_open, Passes, passed, AllPass};
 ghost use Rattle.lift_keeper.specs.Recovery.{all_passed, EndsAtMisfit};
 
-use lift_base::{Entry, Record};
+use lift_base::{Entry, LEAST_HALF, Record};
 use lift_building::Building;
 use lift_register::Register;
 use std::marker::Model;
@@ -46,7 +46,7 @@ impl<'b> Recovery<'b> {
     {
         Recovery {
             building,
-            register: Register::empty(building.shape(64)),
+            register: Register::empty(building.shape(LEAST_HALF)),
             is_open: false,
             taken: 0,
         }

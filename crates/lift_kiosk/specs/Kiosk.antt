@@ -8,6 +8,7 @@ use Rattle.lift_base.specs.declared.command.Reply.TheVariants.{Car, Stopped, Pla
 use Rattle.lift_base.specs.declared.command.Reply.TheVariants.{Unknown}
 use Rattle.lift_kiosk.specs.Lines.{IsShortLine}
 use Rattle.lift_kiosk.specs.Session.{later}
+use Rattle.lift_base.specs.declared.limits.TheConstants.{MOST_FLOORS}
 use Rattle.lift_kiosk.specs.declared.terms.LastLetter.{LastLetter}
 use Rattle.lift_kiosk.specs.declared.dialect.Wanted.{Wanted}
 use Rattle.lift_kiosk.specs.declared.dialect.Wanted.TheVariants.{Ask as Asks, NoFloor}
@@ -31,9 +32,9 @@ pub record SpellsCall (line : List ℕ) (number floor party : ℕ) : Type 0 wher
 -- A call to a floor from 64 on is for no building.
 abbrev pub WantsCall : List ℕ → Wanted → Type 0
 WantsCall line (Asks ask) = (floor party : ℕ) × SpellsCall line ask.number floor party
-    × (floor < 64) × (ask.body ≡ Call floor party)
+    × (floor < MOST_FLOORS) × (ask.body ≡ Call floor party)
 WantsCall line NoFloor = (number floor party : ℕ) × SpellsCall line number floor party
-    × (64 ≤ floor)
+    × (MOST_FLOORS ≤ floor)
 
 -- A letter is kept where its number is above the last one's.
 abbrev pub keeps_letter : LastLetter → ℕ → Reply → LastLetter

@@ -13,7 +13,7 @@ use crate::port::Port;
 use crate::reading::words_in;
 use crate::terms::{End, LastLetter, Limits, SessionEnd};
 use lift_base::text::{Counted, Watched, number_of_word, number_up_to, party_of_words};
-use lift_base::{Body, Floor, Number, Party, Reply};
+use lift_base::{Body, Floor, Number, Party, Reply, TOP_FLOOR};
 use lift_desk::Ask;
 use std::io::{Read, Write};
 
@@ -85,7 +85,7 @@ fn wanted_by(call: &CallLine) -> Wanted
     ensures { (line : List ℕ) → SpellsCall line call.now.number call.now.floor call.now.party
         → WantsCall line result }
 {
-    if call.floor > 63 {
+    if call.floor > u32::from(TOP_FLOOR) {
         return Wanted::NoFloor;
     }
     match Floor::new(call.floor as u8) {

@@ -3,6 +3,7 @@ use Rattle.std.proofs.Common.{ℕ, suc, ◌≡◌, ◌≢◌, ◌≤◌, List, [
 use Rattle.std.specs.List.{AllByRecursion}
 use Rattle.std.proofs.lemmas.List.{length-append, length-map}
 use mathlib.Core.List.{map-append}
+use Rattle.lift_base.specs.declared.limits.TheConstants.{MOST_BATCHES}
 use Rattle.lift_base.specs.declared.command.Reply.{Reply}
 use Rattle.lift_desk.specs.Seats.{ClerkPlace, view_at}
 use Rattle.lift_policy.specs.Eligible.{Choice}
@@ -35,7 +36,7 @@ queued_long [] (q ∷ queue) k = absurd k
 queued_long (b ∷ batches) [] k = absurd k
 queued_long (b ∷ batches) (q ∷ queue) k = ap suc (queued_long batches queue k.1)
 
-few_before : {D P : Type 0} (choice : Choice) (w : World) (a b : AllocatorState P) (f : FlusherState D) (counts : Counts) (t : IsScanTurn choice a b counts) → HasRoom b f → IsRelayOf w a f → length w.queue ≤ 4
+few_before : {D P : Type 0} (choice : Choice) (w : World) (a b : AllocatorState P) (f : FlusherState D) (counts : Counts) (t : IsScanTurn choice a b counts) → HasRoom b f → IsRelayOf w a f → length w.queue ≤ MOST_BATCHES
 few_before choice w a b f counts t room m =
     let long = queued_long (map sent_as m.waiting) w.queue m.tied.queue in
     omega (
@@ -53,7 +54,7 @@ below_more count [] b all one = (one, tt)
 below_more count (x ∷ batches) b all one = (all.0, below_more count batches b all.1 one)
 
 module _ {D P : Type 0} (laws : Laws) (choice : Choice) (any : RunsAreAny choice) (w : World) (a b : AllocatorState P) (f : FlusherState D) (counts : Counts) (t : IsScanTurn choice a b counts)
-    (some : commands_of 0 t.visits ≢ []) (few : length w.queue ≤ 4) (m : IsRelayOf w a f)
+    (some : commands_of 0 t.visits ≢ []) (few : length w.queue ≤ MOST_BATCHES) (m : IsRelayOf w a f)
     (looks : Reads a.seat t.visits × AllWait m.tied.words (commands_of 0 t.visits)) where
   abbrev cs : List Command
   cs = commands_of 0 t.visits

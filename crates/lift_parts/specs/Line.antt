@@ -1,9 +1,14 @@
 -- The two ends as contracts see them.
-use Rattle.std.specs.Prelude.{◌≡◌, ℕ, Bool, true, false, not, List, [], ◌∷◌, ◌++◌, ◌<◌, ◌≤◌, length}
+use Rattle.std.specs.Prelude.{◌≡◌, ℕ, Bool, true, false, not, List, [], ◌∷◌, ◌++◌, ◌<◌, ◌≤◌, ◌*◌, length}
 use Rattle.atomic_table.specs.Seated.{TableId}
+use Rattle.lift_base.specs.declared.limits.TheConstants.{MOST_BATCHES, MOST_TERMINALS}
 use Rattle.lift_building.specs.Plan.{Plan}
 use Rattle.lift_policy.specs.Step.{State}
 use Rattle.lift_parts.specs.Batch.{BatchState, next_turns}
+
+-- each batch takes a turn of some terminal, of which each has 1,048,575
+abbrev pub most_batches : ℕ
+most_batches = MOST_TERMINALS * 1048575
 
 -- An end's tries on its line: whether it has made an odd number of them, and whether the last one
 -- was refused. Each push or pop that is tried counts, and nothing else does.
@@ -98,7 +103,7 @@ pub record SendsOne (old : SendState) (batch : BatchState) (new : SendState) : T
   pub state : new.state ≡ batch.after
   pub turns : new.turns ≡ next_turns batch
   pub items : List BatchState
-  pub few : length items < 4
+  pub few : length items < MOST_BATCHES
   pub before : new.sent ≡ new.gone ++ (items ++ batch ∷ [])
   pub later : Begins old.gone new.gone
   pub tries : new.tries ≡ tried old.tries false
@@ -112,7 +117,7 @@ pub record ReceivesOne (old : ReceiveState) (batch : BatchState) (new : ReceiveS
   pub state : new.state ≡ batch.after
   pub turns : new.turns ≡ next_turns batch
   pub known : Begins new.received new.known
-  pub few : length new.received ≤ 66060225
+  pub few : length new.received ≤ most_batches
   pub later : Begins old.known new.known
   pub tries : new.tries ≡ tried old.tries false
 
@@ -120,7 +125,7 @@ pub record ReceivesOne (old : ReceiveState) (batch : BatchState) (new : ReceiveS
 -- was received by that push had left it
 pub record WasFull (s : SendState) : Type 0 where
   pub items : List BatchState
-  pub four : length items ≡ 4
+  pub four : length items ≡ MOST_BATCHES
   pub received : List BatchState
   pub all : s.sent ≡ received ++ items
   pub later : Begins s.gone received

@@ -3,6 +3,7 @@ use Rattle.lift_clerk.specs.TakenAndAnswered.{ask_of}
 use Rattle.std.specs.Prelude.{ℕ, ◌≡◌, ◌≢◌, ◌<◌, ◌≤◌, ◌+◌, true, false, List, [], ◌++◌, length}
 use Rattle.std.specs.Prelude.{map, filter, All, IsTrue, Some, Option, Result, Ok, Err}
 use Rattle.std.specs.List.{AllByRecursion}
+use Rattle.lift_base.specs.declared.limits.TheConstants.{MOST_BATCHES}
 use Rattle.lift_base.specs.declared.history.Entry.{Entry}
 use Rattle.lift_journal.specs.declared.fault.JournalFault.TheVariants.{Disk, Broken}
 use Rattle.lift_desk.specs.declared.view.ClerkView.{ClerkView}
@@ -149,7 +150,7 @@ RuleOrdersAhead = (w : World) (terminals : Terminals) (places : List ClerkPlace)
 
 -- The line holds at most four batches: of those that were sent at most so many weren't received.
 abbrev pub HasRoom : {D P : Type 0} → AllocatorState P → FlusherState D → Type 0
-HasRoom a f = length a.end.sent ≤ length f.end.received + 4
+HasRoom a f = length a.end.sent ≤ length f.end.received + MOST_BATCHES
 
 -- By the line's rule what the flusher has received begins what was sent.
 abbrev pub ReceivesSent : {D P : Type 0} → AllocatorState P → FlusherState D → Type 0

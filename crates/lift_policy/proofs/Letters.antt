@@ -8,6 +8,7 @@ use Rattle.std.proofs.lemmas.List.{get_or_past, length-take-le}
 use Rattle.lift_building.specs.Plan.{Plan, serves_floor, places_of}
 use Rattle.lift_register.specs.Register.{cars, rows_of}
 use Rattle.lift_register.specs.Prelude.{persons_of}
+use Rattle.lift_base.specs.declared.limits.TheConstants.{MOST_CARS}
 use Rattle.lift_cost.specs.declared.call.NewCall.{NewCall}
 use Rattle.lift_policy.specs.View.{ViewState, position_of}
 use Rattle.lift_policy.specs.Eligible.{is_eligible, eligible_cars, Rise, AreLetters}
@@ -34,7 +35,7 @@ length-filter_le p a (suc n) = at (p a) (length-filter_le p (a + 1) n)
     at true h = omega (arith, h)
     at false h = omega (arith, h)
 
-pub few_so_far : (p : ℕ → Bool) (letters : List ℕ) (n : ℕ) → letters ≡ filter p (range_with_len 0 n) → n < 16 → length letters < 16
+pub few_so_far : (p : ℕ → Bool) (letters : List ℕ) (n : ℕ) → letters ≡ filter p (range_with_len 0 n) → n < MOST_CARS → length letters < MOST_CARS
 few_so_far p letters n e h = let a = length-filter_le p 0 n in let b = ap (λ (xs : List ℕ). length xs) e in omega arith
 
 -- one more number, which passes or not
@@ -55,13 +56,13 @@ Rise-filter p a (suc n) = at (p a) (Rise-filter p (a + 1) n)
     at true h = (omega arith, h)
     at false h = Rise-weaker a _ h
 
-pub eligible_cars-is : (plan : Plan) (view : ViewState) (call : NewCall) → eligible_cars plan view call ≡ filter (is_eligible plan view call) (range_with_len 0 16)
+pub eligible_cars-is : (plan : Plan) (view : ViewState) (call : NewCall) → eligible_cars plan view call ≡ filter (is_eligible plan view call) (range_with_len 0 MOST_CARS)
 unfolding eligible_cars cars
 eligible_cars-is plan view call = refl
 
 pub eligible_cars-rise : (plan : Plan) (view : ViewState) (call : NewCall) → Rise 0 (eligible_cars plan view call)
 unfolding eligible_cars cars
-eligible_cars-rise plan view call = Rise-filter (is_eligible plan view call) 0 16
+eligible_cars-rise plan view call = Rise-filter (is_eligible plan view call) 0 MOST_CARS
 
 some_of : (letters : List ℕ) → (letters ≡ [] → ⊥) → 0 < length letters
 some_of [] h = absurd (h refl)
@@ -97,13 +98,13 @@ none_above p n (suc more) none =
     ∙ ap (λ (m : ℕ). filter p (range_with_len 0 m)) e
 
 -- those among the building's cars that may take a call are all that may
-pub eligible_so_far : (plan : Plan) (view : ViewState) (call : NewCall) (letters : List ℕ) (n : ℕ) → n ≡ length plan.cars → n ≤ 16
+pub eligible_so_far : (plan : Plan) (view : ViewState) (call : NewCall) (letters : List ℕ) (n : ℕ) → n ≡ length plan.cars → n ≤ MOST_CARS
     → letters ≡ filter (is_eligible plan view call) (range_with_len 0 n) → letters ≡ eligible_cars plan view call
 eligible_so_far plan view call letters n all few so_far =
     let p = is_eligible plan view call in
-    let e : n + (16 - n) ≡ 16 = omega arith in
+    let e : n + (MOST_CARS - n) ≡ MOST_CARS = omega arith in
     so_far
-    ∙ none_above p n (16 - n) (λ number h. none_after plan view call number (omega arith))
+    ∙ none_above p n (MOST_CARS - n) (λ number h. none_after plan view call number (omega arith))
     ∙ ap (λ (m : ℕ). filter p (range_with_len 0 m)) e
     ∙ sym (eligible_cars-is plan view call)
 
@@ -118,7 +119,7 @@ kept_le p (x ∷ letters) = at (p x) (kept_le p letters)
     at false h = omega (arith, h)
 
 -- those kept of the first few are fewer than all
-pub few_kept : (p : ℕ → Bool) (letters found : List ℕ) (i : ℕ) → found ≡ filter p (take i letters) → i < length letters → length letters ≤ 16 → length found < 16
+pub few_kept : (p : ℕ → Bool) (letters found : List ℕ) (i : ℕ) → found ≡ filter p (take i letters) → i < length letters → length letters ≤ MOST_CARS → length found < MOST_CARS
 few_kept p letters found i is inside few =
     let a = kept_le p (take i letters) in
     let b = ap (λ (xs : List ℕ). length xs) is in

@@ -7,6 +7,7 @@ use Rattle.lift_base.specs.Travel.{same_dir}
 use Rattle.lift_base.specs.History.{terminal_of, number_of}
 use Rattle.lift_base.specs.declared.history.Record.TheVariants.{Entry as EntryRecord}
 use Rattle.lift_base.specs.Records.{IsTyped, IsTypedCommand}
+use Rattle.lift_base.specs.declared.limits.TheConstants.{MOST_CARS, MOST_TERMINALS}
 use Rattle.lift_base.specs.declared.travel.Dir.{Dir}
 use Rattle.lift_base.specs.declared.travel.Dir.TheVariants.{Up, Down}
 use Rattle.lift_base.specs.declared.travel.Position.{Position}
@@ -81,7 +82,7 @@ registered plan state terminal number body next building command typed_body is (
 -- the cars stand at the building's floors
 pub record ArePositionsIn (plan : Plan) (positions : List (Option Position)) : Type 0 where
   pub here : (car : ℕ) (position : Position) → position_of positions car ≡ Some position → position.floor < plan.floors
-  pub cars : length positions ≡ 16
+  pub cars : length positions ≡ MOST_CARS
 
 pub set_here : (plan : Plan) (positions : List (Option Position)) (car : ℕ) (p : Position) → p.floor < plan.floors
     → ((k : ℕ) (q : Position) → get_or positions k None ≡ Some q → q.floor < plan.floors)
@@ -153,7 +154,7 @@ tells_place plan register terminal number floor dir (Refused reason) = tt
 tells_place plan register terminal number floor dir Unknown = tt
 
 -- the last entry of a terminal is what the register keeps of it
-pub last_of-entry : (register : RegisterState) (entry : Entry) (terminal : ℕ) → terminal_of entry ≡ terminal → terminal < 63
+pub last_of-entry : (register : RegisterState) (entry : Entry) (terminal : ℕ) → terminal_of entry ≡ terminal → terminal < MOST_TERMINALS
     → last_of (register_of register (entry ∷ [])) terminal ≡ Some (kept_of entry)
 last_of-entry register entry terminal of inside =
     get_or-on_terminals (last_after register (entry ∷ [])) terminal None inside
@@ -165,7 +166,7 @@ same_dir-is Up Down h = cc
 same_dir-is Down Up h = cc
 same_dir-is Down Down h = refl
 
-call_tells : (plan : Plan) (choice : Choice) (state next : State) (terminal number to party : ℕ) (reply : Reply) (b : Bool) → terminal < 63 → BelongsTo plan state.register
+call_tells : (plan : Plan) (choice : Choice) (state next : State) (terminal number to party : ℕ) (reply : Reply) (b : Bool) → terminal < MOST_TERMINALS → BelongsTo plan state.register
     → MatchBool b (Allots plan choice state terminal number to party reply next) (Repeats state terminal number to party reply next)
     → TellsKept plan next.register terminal number (Call to party) reply
 call_tells plan choice state next terminal number to party reply true inside belongs (car, held, chosen, told, is) =
@@ -185,7 +186,7 @@ kept_stop register terminal number floor n dir (StoppedAt f d) found e same =
     let a : f ≡ floor = eqb-true f floor parts.0 in
     let b : d ≡ dir = same_dir-is d dir parts.1 in cc
 
-stop_tells : (plan : Plan) (state : State) (terminal number floor : ℕ) (dir : Dir) (b : Bool) → terminal < 63 → NoCause plan state terminal number (Stop floor dir) → is_new state terminal number ≡ b
+stop_tells : (plan : Plan) (state : State) (terminal number floor : ℕ) (dir : Dir) (b : Bool) → terminal < MOST_TERMINALS → NoCause plan state terminal number (Stop floor dir) → is_new state terminal number ≡ b
     → last_of (with_car_at (cond b (accepting state (Stopping terminal number floor dir)) state) terminal floor dir).register terminal
     ≡ Some (record { number = number; content = StoppedAt floor dir })
 stop_tells plan state terminal number floor dir true inside none new = last_of-entry state.register (Stopping terminal number floor dir) terminal refl inside
@@ -193,7 +194,7 @@ stop_tells plan state terminal number floor dir false inside none new =
     let again = repeated plan state terminal number (Stop floor dir) refl none new in
     kept_stop state.register terminal number floor again.last.number dir again.last.content again.found again.number_is again.same
 
-tells : (plan : Plan) (choice : Choice) (state : State) (terminal number : ℕ) (body : Body) (reply : Reply) (next : State) → terminal < 63 → BelongsTo plan state.register
+tells : (plan : Plan) (choice : Choice) (state : State) (terminal number : ℕ) (body : Body) (reply : Reply) (next : State) → terminal < MOST_TERMINALS → BelongsTo plan state.register
     → NoCause plan state terminal number body → Proceeds plan choice state terminal number body reply next → TellsKept plan next.register terminal number body reply
 tells plan choice state terminal number (Call to party) reply next inside belongs none h =
     call_tells plan choice state next terminal number to party reply (is_new state terminal number) inside belongs h
@@ -202,7 +203,7 @@ tells plan choice state terminal number (Stop floor dir) reply next inside belon
     (ap (λ (s : State). last_of s.register terminal) h.0 ∙ stop_tells plan state terminal number floor dir (is_new state terminal number) inside none refl)
 tells plan choice state terminal number (Place floor dir) reply next inside belongs none h = tells_place plan next.register terminal number floor dir reply
 
-stepped_tells : (plan : Plan) (choice : Choice) (state : State) (terminal number : ℕ) (body : Body) (reply : Reply) (next : State) → terminal < 63 → BelongsTo plan state.register
+stepped_tells : (plan : Plan) (choice : Choice) (state : State) (terminal number : ℕ) (body : Body) (reply : Reply) (next : State) → terminal < MOST_TERMINALS → BelongsTo plan state.register
     → HasStepped plan choice state terminal number body reply next → TellsKept plan next.register terminal number body reply
 stepped_tells plan choice state terminal number body reply next inside belongs (Proceeded none h) =
     tells plan choice state terminal number body reply next inside belongs (no_cause plan state terminal number body none) h
@@ -211,6 +212,6 @@ stepped_tells plan choice state terminal number body reply next inside belongs (
 
 -- a `Car` or a `Stopped` tells of what the register then keeps
 pub Step-tells : (plan : Plan) (choice : Choice) (state : State) (terminal number : ℕ) (body : Body) (reply : Reply) (next : State)
-    → terminal < 63 → BelongsTo plan state.register → Step plan choice state terminal number body reply next → TellsKept plan next.register terminal number body reply
+    → terminal < MOST_TERMINALS → BelongsTo plan state.register → Step plan choice state terminal number body reply next → TellsKept plan next.register terminal number body reply
 Step-tells plan choice state terminal number body reply next inside belongs h =
     stepped_tells plan choice state terminal number body reply next inside belongs (has_stepped plan choice state terminal number body reply next h)

@@ -13,6 +13,7 @@ use Rattle.lift_base.specs.declared.command.Reply.TheVariants.{Car, Stopped, Ref
 use Rattle.lift_building.specs.Plan.{Plan, IsBuilding}
 use Rattle.lift_register.specs.Prelude.{RegisterState, last_of, kept_of, register_of, Fits}
 use Rattle.lift_register.specs.Prelude.{IsBalanced}
+use Rattle.lift_base.specs.declared.limits.TheConstants.{MOST_CARS, MOST_TERMINALS, TOP_FLOOR}
 use Rattle.lift_policy.specs.declared.command.Command.{Command}
 use Rattle.lift_policy.specs.Terminals.{kiosk_floor}
 use Rattle.lift_policy.specs.View.{IsViewIn}
@@ -65,16 +66,16 @@ StepsAreKnown choice = (plan : Plan) (state : State) (terminal number : ℕ) (bo
 
 -- a body as its types hold it
 abbrev pub IsTypedBody : Body → Type 0
-IsTypedBody (Call floor party) = (floor ≤ 63) × ((1 ≤ party) × (party ≤ 15))
-IsTypedBody (Stop floor dir) = floor ≤ 63
-IsTypedBody (Place floor dir) = floor ≤ 63
+IsTypedBody (Call floor party) = (floor ≤ TOP_FLOOR) × ((1 ≤ party) × (party ≤ 15))
+IsTypedBody (Stop floor dir) = floor ≤ TOP_FLOOR
+IsTypedBody (Place floor dir) = floor ≤ TOP_FLOOR
 
 -- what the program's states are in a building: no call of the register was lost, and the 16 cars
 -- stand at its floors
 pub record IsStateIn (plan : Plan) (state : State) : Type 0 where
   pub possible : IsViewIn plan (view_of state)
   pub balanced : IsBalanced state.register
-  pub cars : length state.positions ≡ 16
+  pub cars : length state.positions ≡ MOST_CARS
 
 -- each decision of a building makes such a state of such a state
 abbrev pub StepsKeepStates : Choice → Type 0
@@ -99,7 +100,7 @@ TellsKept plan register terminal number _ _ = Unit {0}
 abbrev pub StepsTell : Choice → Type 0
 StepsTell choice = (plan : Plan) (state : State) (terminal number : ℕ) (body : Body) (reply : Reply)
     (next : State)
-    → terminal < 63 → IsStateIn plan state → Step plan choice state terminal number body reply next
+    → terminal < MOST_TERMINALS → IsStateIn plan state → Step plan choice state terminal number body reply next
     → TellsKept plan next.register terminal number body reply
 
 -- the rules allow just the decision that is computed

@@ -11,7 +11,7 @@ ghost use Rattle.lift_policy.specs.Verdict.{cause_before_cars};
 
 use crate::command::Command;
 use crate::view::View;
-use lift_base::{Body, Content, Floor, Letter, Number, Party, Reason, Terminal};
+use lift_base::{Body, Content, FIRST_KIOSK, Floor, Letter, Number, Party, Reason, Terminal};
 use lift_building::Building;
 use lift_cost::NewCall;
 use lift_register::Register;
@@ -44,7 +44,7 @@ fn is_known(building: &Building, terminal: Terminal, call: bool) -> bool
         terminal) }
 {
     if call {
-        terminal.get() >= 16 && terminal.get() - 16 < building.kiosks()
+        terminal.get() >= FIRST_KIOSK && terminal.get() - FIRST_KIOSK < building.kiosks()
     } else {
         terminal.get() < building.cars()
     }
@@ -56,7 +56,7 @@ fn kiosk_floor(building: &Building, terminal: Terminal) -> Floor
     ensures value { result ≡ kiosk_floor building.now terminal }
     ensures within { result < building.now.floors }
 {
-    building.kiosk_floor(terminal.get() - 16)
+    building.kiosk_floor(terminal.get() - FIRST_KIOSK)
 }
 
 /// The car of this terminal.

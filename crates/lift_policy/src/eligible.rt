@@ -65,7 +65,7 @@ impl Eligible {
     pub fn letters(&self) -> &[Letter]
         ensures value { result.now ≡ self.now }
         ensures lawful { AreLetters self.now }
-        ensures limit { length result.now ≤ 16 }
+        ensures limit { length result.now ≤ MOST_CARS }
     {
         self.letters.as_slice()
     }
@@ -85,7 +85,7 @@ impl Eligible {
 
 /// Those of some cars that are present.
 fn present_among(letters: &[Letter], present: &CarSet) -> ArrayVec<Letter, MOST_CARS>
-    requires { length letters.now ≤ 16 }
+    requires { length letters.now ≤ MOST_CARS }
     ensures { result.items ≡ filter (is_in present.now) letters.now }
 {
     let mut found = ArrayVec::new();
@@ -99,7 +99,7 @@ fn present_among(letters: &[Letter], present: &CarSet) -> ArrayVec<Letter, MOST_
 
 /// The car with this index, where it may take a call.
 fn eligible_at(building: &Building, view: &View, call: &NewCall, index: u8) -> Option<Letter>
-    requires { index < 16 }
+    requires { index < MOST_CARS }
     ensures { option_to_list result
         ≡ (if is_eligible building.now view.now call.now index then index ∷ [] else []) }
 {

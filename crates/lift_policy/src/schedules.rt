@@ -22,7 +22,7 @@ pub fn schedule_of(register: &Register, car: Letter, position: Position) -> Sche
 
 /// The schedule of the car with this index, where it has reported its position.
 fn schedule_at(register: &Register, index: u8, position: &Option<Position>) -> Option<Schedule>
-    requires { index < 16 }
+    requires { index < MOST_CARS }
     ensures { result ≡ option_map (λ (p : PositionValue).
         record { position = p; rows = rows_of register.now index }) position.now }
 {

@@ -6,7 +6,7 @@ ghost use Rattle.lift_policy.specs.View.{position_of, positions_of, AreSchedules
 ghost use Rattle.lift_policy.specs.Eligible.{is_eligible};
 
 use crate::eligible::can_take;
-use lift_base::{Letter, MOST_CARS, Position, Row};
+use lift_base::{Letter, MOST_CARS, MOST_ROWS, Position, Row};
 use lift_building::Building;
 use lift_cost::NewCall;
 use lift_register::Register;
@@ -60,7 +60,7 @@ impl<'a> View<'a> {
     /// The open calls of a car, in order of allotment.
     pub fn open_rows(&self, car: Letter) -> &[Row]
         ensures value { result.now ≡ rows_of self.now.register car }
-        ensures limit { length result.now ≤ 32 }
+        ensures limit { length result.now ≤ MOST_ROWS }
     {
         let register = self.register;
         register.open_rows(car)

@@ -6,6 +6,7 @@ use Rattle.std.proofs.lemmas.Fmt.{decimal_injective}
 use Rattle.clap.specs.Words.{Row, Text, first_of, first_value, rows_of}
 use Rattle.clap.specs.declared.parser.matches.Found.{Found}
 use Rattle.clap.proofs.WalkLemmas.{first_value-rows}
+use Rattle.lift_base.specs.declared.limits.TheConstants.{LEAST_HALF}
 use Rattle.lift_base.specs.lemmas.Words.{same_text, other_text}
 use Rattle.std.specs.Str.{bytes_eq}
 use Rattle.lift_program.specs.Words.{AsksNothing, IsAbsentLast, IsCount, IsFormat, IsHalf, IsOver, IsServe, IsShow}
@@ -47,8 +48,8 @@ no_files_to_show rows none (Format image building half) is = is
 no_files_to_show rows none (Serve image building port sessions policy) is = is
 no_files_to_show rows none (Show image building) is = none image.now building.now is
 
--- a number below 64 spells no other one
-pub too_small : (word : Option Text) (text : Text) (number : ℕ) → word ≡ Some text → text ≡ decimal number → number < 64 → (half : ℕ) → IsHalf word half → ⊥
+-- a number below the least half spells no other one
+pub too_small : (word : Option Text) (text : Text) (number : ℕ) → word ≡ Some text → text ≡ decimal number → number < LEAST_HALF → (half : ℕ) → IsHalf word half → ⊥
 too_small word text number same spelled small half is = go (subst (λ w. IsHalf w half) same is)
   where
     go : IsHalf (Some text) half → ⊥

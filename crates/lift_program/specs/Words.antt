@@ -8,6 +8,7 @@ use Rattle.clap.specs.Words.{subcommand_of, subcommand_rows_of}
 use Rattle.clap.specs.declared.builder.action.ArgAction.TheVariants.{SetTrue}
 use Rattle.clap.specs.declared.builder.command.Command.{Command}
 use Rattle.clap.specs.declared.parser.matches.ArgMatches.{ArgMatches}
+use Rattle.lift_base.specs.declared.limits.TheConstants.{LEAST_HALF}
 use Rattle.lift_policy.specs.declared.policies.Shipped.{Shipped}
 use Rattle.lift_policy.specs.Choices.{policy_name}
 use Rattle.lift_program.specs.declared.words.Request.{Request}
@@ -66,8 +67,8 @@ help_text = codes "liftd, the group controller of a lift group\n\n  liftd [repla
 
 -- the sectors in a half: 64, or what the option's word spells, 64 to 1,000,000
 abbrev pub IsHalf : Option Text → ℕ → Type 0
-IsHalf None half = half ≡ 64
-IsHalf (Some word) half = (word ≡ decimal half) × (64 ≤ half) × (half ≤ 1000000)
+IsHalf None half = half ≡ LEAST_HALF
+IsHalf (Some word) half = (word ≡ decimal half) × (LEAST_HALF ≤ half) × (half ≤ 1000000)
 
 -- the image and the building that a command is over
 abbrev pub IsOver : List Row → (image building : Text) → Type 0
@@ -133,7 +134,7 @@ AsksNothing is_asked = (request : Request) → is_asked request → ⊥
 
 -- 64 to 1,000,000 sectors in a half
 abbrev pub IsRequestInRange : Request → Type 0
-IsRequestInRange (Format image building half) = (64 ≤ half) × (half ≤ 1000000)
+IsRequestInRange (Format image building half) = (LEAST_HALF ≤ half) × (half ≤ 1000000)
 IsRequestInRange (Serve image building port sessions policy) = (1 ≤ port) × (port ≤ 65535)
     × (1 ≤ sessions)
     × (sessions ≤ 1000000)

@@ -9,6 +9,7 @@ use crate::given::ready::ForServing;
 use crate::leftover::{Failure, Leftover};
 use crate::opening::{FilesView, Listens, Openers, TextOpener};
 use crate::refused::refused;
+use lift_base::LEAST_HALF;
 use lift_disk::{FileOpener, SectorFile};
 use lift_journal::JournalFault;
 use lift_keeper::KeeperFault;
@@ -25,7 +26,7 @@ pub(crate) fn format<B: TextOpener, I: FileOpener, L: Listens>(
     building: &str,
     half: u32,
 ) -> Result<Leftover<SectorFile<I::Told>>, Failure<SectorFile<I::Told>, I::Told, I>>
-    requires least { 64 ≤ half }
+    requires least { LEAST_HALF ≤ half }
     requires most { half ≤ 1000000 }
     ensures made { IfOk result
         (IsMadeWith (⟦<Openers<B, I, L> as FilesView>⟧.view openers) image.now building.now half) }

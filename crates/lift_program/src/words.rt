@@ -9,6 +9,7 @@ ghost use Rattle.lift_policy.specs.declared.policies.Shipped.{Shipped as Shipped
 
 use crate::refused::{NoMemory, matches_of};
 use clap::ArgMatches;
+use lift_base::LEAST_HALF;
 use lift_base::text::number_up_to;
 use lift_policy::{Dispatching, Etd, Shipped};
 use std::alloc::Global;
@@ -50,14 +51,12 @@ const MOST_PORT: u32 = 65_535;
 
 const MOST_SESSIONS: u32 = 1_000_000;
 
-const LEAST_HALF: u32 = 64;
-
 const MOST_HALF: u32 = 1_000_000;
 
 /// The sectors that a word names; 64 where it is absent.
 fn half_of(word: Option<&str>) -> Option<u32>
     ensures some { IfSome result (λ half. IsHalf (option_map (λ w. w.now) word.entry) half) }
-    ensures limits { IfSome result (λ half. (64 ≤ half) × (half ≤ 1000000)) }
+    ensures limits { IfSome result (λ half. (LEAST_HALF ≤ half) × (half ≤ 1000000)) }
     ensures none { IfNone result ((half : ℕ) → IsHalf (option_map (λ w. w.now) word.entry) half
         → ⊥) }
 {

@@ -7,6 +7,7 @@ use Rattle.std.proofs.lemmas.List.{drop_all}
 use Rattle.std.proofs.lemmas.Nat.{from_be_bytes-to_be_bytes_4}
 use Rattle.std.specs.Int.{w32, to_be_bytes, from_be_bytes}
 use Rattle.std.specs.Option.{IfSome, IfNone}
+use Rattle.lift_base.specs.declared.limits.TheConstants.{FIRST_KIOSK, TOP_FLOOR}
 use Rattle.lift_base.specs.declared.travel.Dir.{Dir}
 use Rattle.lift_base.specs.declared.history.Content.{Content}
 use Rattle.lift_base.specs.declared.history.Content.TheVariants.{Letter, Stopped}
@@ -30,7 +31,7 @@ NoWaiting version terminal content number = (row : RowValue) → row.aboard ≡ 
 -- no stop is spelled by these parts
 abbrev pub NoStop : (content : List ℕ) (number : ℕ) → Type 0
 NoStop content number = (floor : ℕ) → (dir : Dir) → 1 ≤ number → number ≤ 16777215
-    → floor ≤ 63 → content ≢ stop_bytes floor dir
+    → floor ≤ TOP_FLOOR → content ≢ stop_bytes floor dir
 
 -- no record is spelled by these bytes
 abbrev pub NoRecord : Version → List ℕ → Type 0
@@ -94,7 +95,7 @@ length_told kind terminal number other car n content said same =
 -- a stop's record has a stop's parts
 stop_told : (kind terminal number other car n floor : ℕ) (dir : Dir) (content : List ℕ)
     → number < 2 ^ 32 → NoStop content number
-    → 1 ≤ n → n ≤ 16777215 → floor ≤ 63
+    → 1 ≤ n → n ≤ 16777215 → floor ≤ TOP_FLOOR
     → record_bytes kind terminal content number ≢ record_bytes other car (stop_bytes floor dir) n
 stop_told kind terminal number other car n floor dir content small absent one most high same =
     let long : length content ≡ 5 =
@@ -116,7 +117,7 @@ no_stop version terminal content number small absent (Entry (Stop car n floor di
 no_stop version terminal content number small absent value spelling = cc (spelling.spelled)
 
 last_call_told : (version : Version) (terminal : ℕ) (content : List ℕ) (number : ℕ)
-    → 16 ≤ terminal → NoWaiting version terminal content number
+    → FIRST_KIOSK ≤ terminal → NoWaiting version terminal content number
     → (t n : ℕ) (said : Content)
     → ¬ IsSpellingOf version (record_bytes 5 terminal content number) (Last t (record {
       number = n;
@@ -143,7 +144,7 @@ last_call_told version terminal content number kiosk absent t n (Stopped floor d
     omega (arith, spelling.lawful.of_car)
 
 last_stop_told : (version : Version) (terminal : ℕ) (content : List ℕ) (number : ℕ)
-    → terminal < 16 → number < 2 ^ 32 → NoStop content number
+    → terminal < FIRST_KIOSK → number < 2 ^ 32 → NoStop content number
     → (t n : ℕ) (said : Content)
     → ¬ IsSpellingOf version (record_bytes 5 terminal content number) (Last t (record {
       number = n;
@@ -159,7 +160,7 @@ last_stop_told version terminal content number car small absent t n (Stopped flo
     spelling.typed.0.number_range spelling.typed.1 spelling.spelled
 
 pub no_last_call : (version : Version) (terminal : ℕ) (content : List ℕ) (number : ℕ)
-    → 16 ≤ terminal → NoWaiting version terminal content number
+    → FIRST_KIOSK ≤ terminal → NoWaiting version terminal content number
     → NoRecord version (record_bytes 5 terminal content number)
 no_last_call version terminal content number kiosk absent (Last t last) spelling =
     last_call_told version terminal content number kiosk absent t last.number last.content spelling
@@ -171,7 +172,7 @@ no_last_call version terminal content number kiosk absent value spelling =
     cc (spelling.spelled)
 
 pub no_last_stop : (version : Version) (terminal : ℕ) (content : List ℕ) (number : ℕ)
-    → terminal < 16 → number < 2 ^ 32 → NoStop content number
+    → terminal < FIRST_KIOSK → number < 2 ^ 32 → NoStop content number
     → NoRecord version (record_bytes 5 terminal content number)
 no_last_stop version terminal content number car small absent (Last t last) spelling =
     last_stop_told version terminal content number car small absent t last.number

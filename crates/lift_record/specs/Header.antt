@@ -1,5 +1,6 @@
 use Rattle.std.specs.Prelude.{ℕ, ◌≡◌, ◌<◌, ◌≤◌, ◌^◌, List, [], ◌∷◌, ◌++◌}
 use Rattle.std.specs.Int.{w16, w32, to_be_bytes}
+use Rattle.lift_base.specs.declared.limits.TheConstants.{MOST_ENTRIES}
 use Rattle.lift_record.specs.declared.headers.Header.{Header}
 use Rattle.lift_record.specs.declared.version.Version.{Version}
 use Rattle.lift_record.specs.Version.{version_number}
@@ -12,6 +13,6 @@ header_bytes version count number =
 
 -- the grammar of headers: these bytes are the one spelling of this header
 pub record IsHeaderSpelling (bytes : List ℕ) (header : Header) : Type 0 where
-  pub count_range : (1 ≤ header.count) × (header.count ≤ 63)
+  pub count_range : (1 ≤ header.count) × (header.count ≤ MOST_ENTRIES)
   pub number_range : (1 ≤ header.number) × (header.number < 2 ^ 32)
   pub spelled : bytes ≡ header_bytes header.version header.count header.number

@@ -45,7 +45,7 @@ fn spell_header(version: Version, count: u16, number: u32) -> [u8; 16]
 
 /// The header of a batch with this many records of the second version.
 pub fn encode_header(count: u16, number: u32) -> [u8; 16]
-    requires count { (1 ≤ count) × (count ≤ 63) }
+    requires count { (1 ≤ count) × (count ≤ MOST_ENTRIES) }
     requires number { 1 ≤ number }
     ensures bytes { result ≡ header_bytes Two count number }
     ensures in_grammar { IsHeaderSpelling result

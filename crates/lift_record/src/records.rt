@@ -16,7 +16,8 @@ ghost use Rattle.lift_record.specs.declared.version.Version.TheVariants.{Two};
 
 use crate::version::Version;
 use lift_base::{
-    Content, Dir, Entry, Floor, Last, Letter, MOST_DONE, Number, Party, Record, Row, Terminal,
+    Content, Dir, Entry, Floor, Last, Letter, MOST_DONE, Number, Party, Record, Row, TOP_FLOOR,
+    Terminal,
 };
 
 /// Whether the journal may hold this call, which any car may have taken for any party.
@@ -37,7 +38,7 @@ fn is_lawful_call(
 /// Whether the journal may hold this stop, which may be at any floor.
 fn is_lawful_stop(terminal: Terminal, number: Number, _floor: Floor) -> bool
     ensures lawful { IsTrue result ↔ IsLawfulStop terminal number }
-    ensures typed { IsTypedCommand terminal number × (_floor ≤ 63) }
+    ensures typed { IsTypedCommand terminal number × (_floor ≤ TOP_FLOOR) }
 {
     !terminal.is_kiosk() && number.get() >= 1
 }
@@ -172,7 +173,7 @@ fn call_bytes(
 
 fn stop_bytes(floor: Floor, dir: Dir) -> [u8; 5]
     ensures bytes { result ≡ stop_bytes_of floor dir }
-    ensures typed { floor ≤ 63 }
+    ensures typed { floor ≤ TOP_FLOOR }
 {
     [floor.get(), dir_to_byte(dir), 0, 0, 0]
 }
@@ -272,10 +273,10 @@ fn read_waiting(version: Version, kiosk: u8, content: [u8; 5], number: u32) -> O
 /// The number, floor and direction of the stop that these parts of a record spell, if they spell
 /// one.
 fn read_stop(content: [u8; 5], number: u32) -> Option<(Number, Floor, Dir)>
-    ensures some { IfSome result (λ stop. (1 ≤ stop.0) × (stop.0 ≤ 16777215) × (stop.1 ≤ 63)
+    ensures some { IfSome result (λ stop. (1 ≤ stop.0) × (stop.0 ≤ 16777215) × (stop.1 ≤ TOP_FLOOR)
         × (stop.0 ≡ number) × (content ≡ stop_bytes_of stop.1 stop.2)) }
     ensures none { IfNone result ((floor : ℕ) → (dir : DirValue) → 1 ≤ number
-        → number ≤ 16777215 → floor ≤ 63 → content ≢ stop_bytes_of floor dir) }
+        → number ≤ 16777215 → floor ≤ TOP_FLOOR → content ≢ stop_bytes_of floor dir) }
 {
     let [floor, dir, 0, 0, 0] = content else {
         return None;

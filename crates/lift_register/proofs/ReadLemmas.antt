@@ -9,6 +9,7 @@ use Rattle.std.proofs.lemmas.List.{length-map, get_or-map, drop_all, get_or-repl
 use Rattle.std.proofs.lemmas.List.FromFn.{length-range_with_len, get_or-range_with_len}
 use Rattle.std.proofs.lemmas.List.Elements.{All-tail}
 use Rattle.arrayvec.specs.declared.array_vec.ArrayVec.{ArrayVec}
+use Rattle.lift_base.specs.declared.limits.TheConstants.{FIRST_KIOSK, MOST_CARS, MOST_KIOSKS, MOST_ROWS, MOST_TERMINALS}
 use Rattle.lift_base.specs.declared.history.Record.{Record}
 use Rattle.lift_base.specs.declared.history.Record.TheVariants.{Row as RowRecord, Done as DoneRecord}
 use Rattle.lift_base.specs.declared.history.Last.{Last}
@@ -20,13 +21,13 @@ use Rattle.lift_register.specs.Register.{RegisterState, rows_of, last_of, termin
 use Rattle.lift_register.specs.lemmas.Sums.{sum_by-range_more, list_on_cars, list_on_terminals}
 use Rattle.lift_register.specs.lemmas.HistoryLemmas.{state_of, same_state}
 
-pub row_lists-at : (rows : List (ArrayVec Row 32 (Unit {0}))) (i : ℕ) (d : ArrayVec Row 32 (Unit {0})) → i < length rows → slice_index_or (row_lists rows) i [] ≡ (slice_index_or rows i d).items
+pub row_lists-at : (rows : List (ArrayVec Row MOST_ROWS (Unit {0}))) (i : ℕ) (d : ArrayVec Row MOST_ROWS (Unit {0})) → i < length rows → slice_index_or (row_lists rows) i [] ≡ (slice_index_or rows i d).items
 row_lists-at rows i d below = get_or-map (λ list. list.items) rows i d [] below
 
-pub all_empty : (rows : List (ArrayVec Row 32 (Unit {0}))) → All (λ (list : ArrayVec Row 32 (Unit {0})). list.items ≡ []) rows → (car : ℕ) → slice_index_or (row_lists rows) car [] ≡ []
+pub all_empty : (rows : List (ArrayVec Row MOST_ROWS (Unit {0}))) → All (λ (list : ArrayVec Row MOST_ROWS (Unit {0})). list.items ≡ []) rows → (car : ℕ) → slice_index_or (row_lists rows) car [] ≡ []
 all_empty [] none car = refl
 all_empty (list ∷ rows) none zero = none 0 list (omega arith)
-all_empty (list ∷ rows) none (suc car) = all_empty rows (All-tail (λ (list : ArrayVec Row 32 (Unit {0})). list.items ≡ []) list rows none) car
+all_empty (list ∷ rows) none (suc car) = all_empty rows (All-tail (λ (list : ArrayVec Row MOST_ROWS (Unit {0})). list.items ≡ []) list rows none) car
 
 pub slice_get-append_left : {X : Type 0} (xs ys : List X) (k : ℕ) → k < length xs → slice_get (xs ++ ys) k ≡ slice_get xs k
 slice_get-append_left [] ys k below = absurd (omega (arith, below))
@@ -48,9 +49,9 @@ rest-step f i n below =
     rw (add-one, drop-cons (range_with_len 0 n) i 0 (omega (arith, length-range_with_len 0 n, below)), get_or-range_with_len 0 n i 0 below, zero-add i) refl
 
 -- the rows of a car, as the code reads them
-pub rows-read : (register now : RegisterState) (rows : List (ArrayVec Row 32 (Unit {0}))) (item : ArrayVec Row 32 (Unit {0})) (i : ℕ) → register ≡ now → register.rows ≡ row_lists rows → i < length rows → item ≡ slice_index_or rows i item → rows_of now i ≡ item.items
+pub rows-read : (register now : RegisterState) (rows : List (ArrayVec Row MOST_ROWS (Unit {0}))) (item : ArrayVec Row MOST_ROWS (Unit {0})) (i : ℕ) → register ≡ now → register.rows ≡ row_lists rows → i < length rows → item ≡ slice_index_or rows i item → rows_of now i ≡ item.items
 rows-read register now rows item i is_now is_rows below is =
-    rw (← is_now, is_rows, row_lists-at rows i item below) (ap (λ (list : ArrayVec Row 32 (Unit {0})). list.items) (sym is))
+    rw (← is_now, is_rows, row_lists-at rows i item below) (ap (λ (list : ArrayVec Row MOST_ROWS (Unit {0})). list.items) (sym is))
 
 pub length-last_records : (register : RegisterState) (terminal : ℕ) → length (last_records register terminal) ≡ cond (is_some (last_of register terminal)) 1 0
 length-last_records register terminal = elim (last_of register terminal) as (λ (o : Option Last). length (record_of_last terminal o) ≡ cond (is_some o) 1 0) [ Some last ↦ refl | None ↦ refl ]
@@ -71,42 +72,42 @@ read-inside f i n k below within = rw (rest-step f i n below) (slice_get-append_
 pub read-past : {X : Type 0} (f : ℕ → List X) (i n k : ℕ) → i < n → length (f i) ≤ k → slice_get (flat_map f (drop i (range_with_len 0 n))) k ≡ slice_get (flat_map f (drop (i + 1) (range_with_len 0 n))) (k - length (f i))
 read-past f i n k below past = rw (rest-step f i n below) (slice_get-append_right (f i) (flat_map f (drop (i + 1) (range_with_len 0 n))) k past)
 
-pub read-inside_cars : {X : Type 0} (f : ℕ → List X) (i k : ℕ) → i < 16 → k < length (f i) → slice_get (flat_map f (drop i cars)) k ≡ slice_get (f i) k
+pub read-inside_cars : {X : Type 0} (f : ℕ → List X) (i k : ℕ) → i < MOST_CARS → k < length (f i) → slice_get (flat_map f (drop i cars)) k ≡ slice_get (f i) k
 unfolding cars
-read-inside_cars f i k below within = read-inside f i 16 k below within
+read-inside_cars f i k below within = read-inside f i MOST_CARS k below within
 
-pub read-past_cars : {X : Type 0} (f : ℕ → List X) (i k : ℕ) → i < 16 → length (f i) ≤ k → slice_get (flat_map f (drop i cars)) k ≡ slice_get (flat_map f (drop (i + 1) cars)) (k - length (f i))
+pub read-past_cars : {X : Type 0} (f : ℕ → List X) (i k : ℕ) → i < MOST_CARS → length (f i) ≤ k → slice_get (flat_map f (drop i cars)) k ≡ slice_get (flat_map f (drop (i + 1) cars)) (k - length (f i))
 unfolding cars
-read-past_cars f i k below past = read-past f i 16 k below past
+read-past_cars f i k below past = read-past f i MOST_CARS k below past
 
-pub read-end_cars : {X : Type 0} (f : ℕ → List X) (i k : ℕ) → 16 ≤ i → slice_get (flat_map f (drop i cars)) k ≡ None
+pub read-end_cars : {X : Type 0} (f : ℕ → List X) (i k : ℕ) → MOST_CARS ≤ i → slice_get (flat_map f (drop i cars)) k ≡ None
 unfolding cars
-read-end_cars f i k above = rw (drop_all i (range_with_len 0 16) (omega (arith, length-range_with_len 0 16))) refl
+read-end_cars f i k above = rw (drop_all i (range_with_len 0 MOST_CARS) (omega (arith, length-range_with_len 0 MOST_CARS))) refl
 
-pub read-inside_terminals : {X : Type 0} (f : ℕ → List X) (i k : ℕ) → i < 63 → k < length (f i) → slice_get (flat_map f (drop i terminals)) k ≡ slice_get (f i) k
+pub read-inside_terminals : {X : Type 0} (f : ℕ → List X) (i k : ℕ) → i < MOST_TERMINALS → k < length (f i) → slice_get (flat_map f (drop i terminals)) k ≡ slice_get (f i) k
 unfolding terminals
-read-inside_terminals f i k below within = read-inside f i 63 k below within
+read-inside_terminals f i k below within = read-inside f i MOST_TERMINALS k below within
 
-pub read-past_terminals : {X : Type 0} (f : ℕ → List X) (i k : ℕ) → i < 63 → length (f i) ≤ k → slice_get (flat_map f (drop i terminals)) k ≡ slice_get (flat_map f (drop (i + 1) terminals)) (k - length (f i))
+pub read-past_terminals : {X : Type 0} (f : ℕ → List X) (i k : ℕ) → i < MOST_TERMINALS → length (f i) ≤ k → slice_get (flat_map f (drop i terminals)) k ≡ slice_get (flat_map f (drop (i + 1) terminals)) (k - length (f i))
 unfolding terminals
-read-past_terminals f i k below past = read-past f i 63 k below past
+read-past_terminals f i k below past = read-past f i MOST_TERMINALS k below past
 
-pub read-end_terminals : {X : Type 0} (f : ℕ → List X) (i k : ℕ) → 63 ≤ i → slice_get (flat_map f (drop i terminals)) k ≡ None
+pub read-end_terminals : {X : Type 0} (f : ℕ → List X) (i k : ℕ) → MOST_TERMINALS ≤ i → slice_get (flat_map f (drop i terminals)) k ≡ None
 unfolding terminals
-read-end_terminals f i k above = rw (drop_all i (range_with_len 0 63) (omega (arith, length-range_with_len 0 63))) refl
+read-end_terminals f i k above = rw (drop_all i (range_with_len 0 MOST_TERMINALS) (omega (arith, length-range_with_len 0 MOST_TERMINALS))) refl
 
 -- a sum over the numbers below one more
 pub sum_by-below_more : (f : ℕ → ℕ) (n : ℕ) → sum_by f (range_with_len 0 (n + 1)) ≡ sum_by f (range_with_len 0 n) + f n
 sum_by-below_more f n = sum_by-range_more f 0 n ∙ ap (λ (i : ℕ). sum_by f (range_with_len 0 n) + f i) (zero-add n)
 
-pub sum_over_all_cars : (f : ℕ → ℕ) (n : ℕ) → n ≡ 16 → sum_by f (range_with_len 0 n) ≡ sum_by f cars
+pub sum_over_all_cars : (f : ℕ → ℕ) (n : ℕ) → n ≡ MOST_CARS → sum_by f (range_with_len 0 n) ≡ sum_by f cars
 unfolding cars
 sum_over_all_cars f n all = ap (λ (i : ℕ). sum_by f (range_with_len 0 i)) all
 
-pub length_over_all_terminals : {X : Type 0} (f : ℕ → List X) (n : ℕ) → n ≡ 63 → sum_by (λ i. length (f i)) (range_with_len 0 n) ≡ length (flat_map f terminals)
+pub length_over_all_terminals : {X : Type 0} (f : ℕ → List X) (n : ℕ) → n ≡ MOST_TERMINALS → sum_by (λ i. length (f i)) (range_with_len 0 n) ≡ length (flat_map f terminals)
 unfolding terminals
 length_over_all_terminals f n all =
-    ap (λ (i : ℕ). sum_by (λ (k : ℕ). length (f k)) (range_with_len 0 i)) all ∙ sym (length-flat_map f (range_with_len 0 63))
+    ap (λ (i : ℕ). sum_by (λ (k : ℕ). length (f k)) (range_with_len 0 i)) all ∙ sym (length-flat_map f (range_with_len 0 MOST_TERMINALS))
 
 pub length-base_records : (register : RegisterState) → length (base_records register) ≡ open_count register + length (flat_map (last_records register) terminals) + 1
 length-base_records register =
@@ -115,20 +116,20 @@ length-base_records register =
     omega (arith, length-append (map RowRecord calls ++ lasts) (DoneRecord register.done ∷ []), length-append (map RowRecord calls) lasts, length-map calls RowRecord, length-flat_map (rows_of register) cars)
 
 -- a new register's fields
-pub empty-made : (rows : List (ArrayVec Row 32 (Unit {0}))) → length rows ≡ 16 → All (λ (list : ArrayVec Row 32 (Unit {0})). list.items ≡ []) rows → state_of (row_lists rows) (replicate 63 None) 0 ≡ empty
+pub empty-made : (rows : List (ArrayVec Row MOST_ROWS (Unit {0}))) → length rows ≡ MOST_CARS → All (λ (list : ArrayVec Row MOST_ROWS (Unit {0})). list.items ≡ []) rows → state_of (row_lists rows) (replicate MOST_TERMINALS None) 0 ≡ empty
 empty-made rows long none =
     same_state _ _ _ _ _ _
-    (list_on_cars (λ (car : ℕ). []) (row_lists rows) [] (length-map rows (λ (list : ArrayVec Row 32 (Unit {0})). list.items) ∙ long) (λ k below. all_empty rows none k))
-    (list_on_terminals (λ (terminal : ℕ). None) (replicate 63 None) None refl (λ k below. get_or-replicate 63 k None None below))
+    (list_on_cars (λ (car : ℕ). []) (row_lists rows) [] (length-map rows (λ (list : ArrayVec Row MOST_ROWS (Unit {0})). list.items) ∙ long) (λ k below. all_empty rows none k))
+    (list_on_terminals (λ (terminal : ℕ). None) (replicate MOST_TERMINALS None) None refl (λ k below. get_or-replicate MOST_TERMINALS k None None below))
     refl
 
 pub IfSome-known : (o : Option Last) (P : Last → Type 0) → ((last : Last) → o ≡ Some last → P last) → IfSome o P
 IfSome-known None P each = tt
 IfSome-known (Some last) P each = each last refl
 
-pub sum_over_all_kiosks : (f : ℕ → ℕ) (n : ℕ) → n ≡ 47 → sum_by f (range_with_len 16 n) ≡ sum_by f kiosk_terminals
+pub sum_over_all_kiosks : (f : ℕ → ℕ) (n : ℕ) → n ≡ MOST_KIOSKS → sum_by f (range_with_len FIRST_KIOSK n) ≡ sum_by f kiosk_terminals
 unfolding kiosk_terminals
-sum_over_all_kiosks f n all = ap (λ (i : ℕ). sum_by f (range_with_len 16 i)) all
+sum_over_all_kiosks f n all = ap (λ (i : ℕ). sum_by f (range_with_len FIRST_KIOSK i)) all
 
 pub first-of_option : {X : Type 0} (o : Option X) → slice_get (option_to_list o) 0 ≡ o
 first-of_option None = refl

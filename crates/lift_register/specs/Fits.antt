@@ -14,6 +14,7 @@ use Rattle.std.specs.Prelude.{
   sum_by,
   IsTrue,
 }
+use Rattle.lift_base.specs.declared.limits.TheConstants.{FIRST_KIOSK}
 use Rattle.lift_building.specs.Plan.{Plan, kiosk_floor_of, places_of, serves_floor}
 use Rattle.lift_base.specs.declared.history.Content.{Content}
 use Rattle.lift_base.specs.declared.history.Content.TheVariants.{Letter, Stopped}
@@ -25,8 +26,8 @@ use Rattle.lift_register.specs.Register.{RegisterState, rows_of, last_number, re
 -- a call that the building allows: of one of its kiosks and from that kiosk's floor, to another
 -- floor, with a car that serves both
 pub record IsPossibleCall (plan : Plan) (terminal from to car : ℕ) : Type 0 where
-  pub of_kiosk : (16 ≤ terminal) × (terminal - 16 < length plan.kiosks)
-  pub from_kiosk : from ≡ kiosk_floor_of plan (terminal - 16)
+  pub of_kiosk : (FIRST_KIOSK ≤ terminal) × (terminal - FIRST_KIOSK < length plan.kiosks)
+  pub from_kiosk : from ≡ kiosk_floor_of plan (terminal - FIRST_KIOSK)
   pub apart : from ≢ to
   pub by_car : car < length plan.cars
   pub served_from : IsTrue (serves_floor plan car from)

@@ -3,6 +3,7 @@ use Rattle.std.specs.Prelude.{ℕ, ◌==◌, ◌+◌, Bool, false, List, [], ◌
 use Rattle.std.specs.Prelude.{sum_by, find, reverse, slice_index_or, Option, Some, None}
 use Rattle.std.specs.Option.{option_map_or}
 use Rattle.std.specs.List.{flat_map, range_with_len}
+use Rattle.lift_base.specs.declared.limits.TheConstants.{FIRST_KIOSK, MOST_CARS, MOST_KIOSKS, MOST_TERMINALS}
 use Rattle.lift_base.specs.History.{terminal_of}
 use Rattle.lift_base.specs.declared.history.Content.TheVariants.{Letter, Stopped}
 use Rattle.lift_base.specs.declared.history.Entry.{Entry}
@@ -18,13 +19,13 @@ pub record RegisterState : Type 0 where
 
 -- the cars A to P, the terminals, and the kiosks among them
 unfoldable pub cars : List ℕ
-cars = range_with_len 0 16
+cars = range_with_len 0 MOST_CARS
 
 unfoldable pub terminals : List ℕ
-terminals = range_with_len 0 63
+terminals = range_with_len 0 MOST_TERMINALS
 
 unfoldable pub kiosk_terminals : List ℕ
-kiosk_terminals = range_with_len 16 47
+kiosk_terminals = range_with_len FIRST_KIOSK MOST_KIOSKS
 
 -- the open calls of a car, in order of allotment
 abbrev pub rows_of : RegisterState → ℕ → List Row

@@ -13,8 +13,9 @@ use crate::rows::{push_row, same_lasts, same_rows, serve_car};
 use crate::rules::{is_possible_call, is_possible_stop, last_fits, note_ranges, persons};
 use arrayvec::ArrayVec;
 use lift_base::{
-    Content, Entry, Last, Letter, MOST_CARS, MOST_DONE, MOST_KIOSKS, MOST_ROWS, MOST_TERMINALS,
-    Party, Record, Row, Shape, Stop, Terminal,
+    Content, Entry, FIRST_KIOSK, Last, Letter, MOST_CARS, MOST_DONE, MOST_KIOSKS, MOST_OPEN,
+    MOST_PLACES, MOST_RECORDS, MOST_ROWS, MOST_TERMINALS, Party, Record, Row, Shape, Stop,
+    Terminal,
 };
 use lift_building::Building;
 use std::marker::Model;
@@ -77,7 +78,7 @@ impl Register {
     pub fn open_rows(&self, car: Letter) -> &[Row]
         ensures value { result.now ≡ rows_of self.now car }
         ensures lawful { IsWellFormed self.now }
-        ensures limit { length result.now ≤ 32 }
+        ensures limit { length result.now ≤ MOST_ROWS }
         ensures own { All (λ (row : RowValue). row.car ≡ car) result.now }
         // Each of them can be written: its parts are in their ranges, and its passengers leave at
         // another floor.
@@ -100,7 +101,7 @@ impl Register {
     pub fn done(&self) -> u32
         ensures value { result ≡ self.now.done }
         ensures lawful { IsWellFormed self.now }
-        ensures limit { result ≤ 788529105 }
+        ensures limit { result ≤ MOST_DONE }
     {
         self.done
     }
@@ -171,7 +172,7 @@ impl Register {
     /// Adds an open call.
     fn add_row(&mut self, row: &Row)
         requires written { IsRecord (RecordValue.Row row.now) }
-        requires room { length (rows_of self.old row.now.car) < 32 }
+        requires room { length (rows_of self.old row.now.car) < MOST_ROWS }
         ensures value { self.new ≡ with_record self.old (RecordValue.Row row.now) }
         ensures was { IsWellFormed self.old }
         ensures lawful { IsWellFormed self.new }
@@ -193,7 +194,7 @@ impl Register {
     /// Lets the passengers of a stop leave and board, and counts the calls that it ends. Whether it
     /// changes a call.
     fn serve(&mut self, car: Letter, stop: &Stop) -> bool
-        requires countable { self.old.done + length (rows_of self.old car) ≤ 788529105 }
+        requires countable { self.old.done + length (rows_of self.old car) ≤ MOST_DONE }
         ensures value { self.new ≡ with_stop self.old car stop.now }
         ensures unchanged { result ≡ false → self.new.rows ≡ self.old.rows }
         ensures was { IsWellFormed self.old }
@@ -211,7 +212,7 @@ impl Register {
     /// Adds a new call, and keeps it as its kiosk's last command.
     fn allot(&mut self, row: &Row)
         requires written { IsRecord (RecordValue.Row row.now) }
-        requires room { length (rows_of self.old row.now.car) < 32 }
+        requires room { length (rows_of self.old row.now.car) < MOST_ROWS }
         ensures value { self.new ≡ with_call self.old row.now }
         ensures was { IsWellFormed self.old }
         ensures lawful { IsWellFormed self.new }
@@ -248,7 +249,7 @@ impl Register {
                 car,
                 party,
             } => {
-                prove!(building.places(car) <= 32);
+                prove!(building.places(car) <= MOST_PLACES);
                 self.allot(&Row {
                     kiosk,
                     number,
@@ -277,7 +278,7 @@ impl Register {
     /// How many calls are open.
     pub fn open_count(&self) -> u32
         ensures count { result ≡ open_count self.now }
-        ensures limit { result ≤ 512 }
+        ensures limit { result ≤ MOST_OPEN }
         ensures lawful { IsWellFormed self.now }
     {
         let mut count = 0;
@@ -289,8 +290,8 @@ impl Register {
 
     /// How many calls a kiosk has numbered.
     fn numbered_by(&self, kiosk: u8) -> u32
-        requires { kiosk < 47 }
-        ensures number { result ≡ last_number self.now (16 + kiosk) }
+        requires { kiosk < MOST_KIOSKS }
+        ensures number { result ≡ last_number self.now (FIRST_KIOSK + kiosk) }
         ensures limit { result < 16777216 }
     {
         match Terminal::of_kiosk(kiosk) {
@@ -344,7 +345,7 @@ impl Register {
         self.note_lawful();
         match part {
             Record::Row(row) => {
-                prove!(building.places(row.car) <= 32);
+                prove!(building.places(row.car) <= MOST_PLACES);
                 self.add_row(row);
             }
             Record::Last { terminal, last } => self.keep_last(*terminal, last),
@@ -358,7 +359,7 @@ impl Register {
     /// How many terminals have a last command.
     fn last_count(&self) -> usize
         ensures count { result ≡ length (flat_map (last_records self.now) terminals) }
-        ensures limit { result ≤ 63 }
+        ensures limit { result ≤ MOST_TERMINALS }
     {
         let mut count = 0;
         for terminal in 0..MOST_TERMINALS {
@@ -370,7 +371,7 @@ impl Register {
     /// How many records a checkpoint of this register has, 1 to 576.
     pub fn base_len(&self) -> usize
         ensures value { result ≡ length (base_records self.now) }
-        ensures limit { (1 ≤ result) × (result ≤ 576) }
+        ensures limit { (1 ≤ result) × (result ≤ MOST_RECORDS) }
         ensures lawful { IsWellFormed self.now }
         // Each record can be written; taken in from nothing, they give this register; and each fits
         // where it comes.
@@ -398,7 +399,7 @@ impl Register {
 
     /// The record of a terminal's last command.
     fn last_record_of(&self, index: u8) -> Option<Record>
-        requires { index < 63 }
+        requires { index < MOST_TERMINALS }
         ensures { option_to_list result ≡ last_records self.now index }
     {
         let terminal = Terminal::new(index)?;

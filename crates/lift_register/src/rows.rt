@@ -14,7 +14,7 @@ fn serve(rows: &mut ArrayVec<Row, MOST_ROWS>, stop: &Stop) -> Option<u32>
     ensures rows { rows.new.items ≡ flat_map (row_after stop.now) rows.old.items }
     ensures unchanged { result ≡ None → rows.new.items ≡ rows.old.items }
     ensures ended { IfSome result (λ ended. ended + length rows.new.items ≡ length rows.old.items) }
-    ensures limit { length rows.old.items ≤ 32 }
+    ensures limit { length rows.old.items ≤ MOST_ROWS }
 {
     let count = rows.len();
     if serve_rows(rows, stop) {
@@ -26,8 +26,8 @@ fn serve(rows: &mut ArrayVec<Row, MOST_ROWS>, stop: &Stop) -> Option<u32>
 
 /// Adds an open call to the rows of its car.
 pub fn push_row(rows: &mut [ArrayVec<Row, MOST_ROWS>; MOST_CARS], row: Row)
-    requires { length (slice_index_or (row_lists rows.old) row.car []) < 32 }
-    ensures car { row.car < 16 }
+    requires { length (slice_index_or (row_lists rows.old) row.car []) < MOST_ROWS }
+    ensures car { row.car < MOST_CARS }
     ensures rows { row_lists rows.new
         ≡ slice_set (row_lists rows.old) row.car
         (slice_index_or (row_lists rows.old) row.car [] ++ row ∷ []) }
@@ -49,8 +49,8 @@ pub fn serve_car(
     ensures ended { IfSome result (λ ended. ended
         + length (flat_map (row_after stop.now) (slice_index_or (row_lists rows.old) car []))
         ≡ length (slice_index_or (row_lists rows.old) car [])) }
-    ensures car { car < 16 }
-    ensures limit { IfSome result (λ ended. ended ≤ 32) }
+    ensures car { car < MOST_CARS }
+    ensures limit { IfSome result (λ ended. ended ≤ MOST_ROWS) }
 {
     let rows = &mut rows[car.get() as usize];
     serve(rows, stop)

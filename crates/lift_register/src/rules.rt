@@ -6,7 +6,10 @@ ghost use Rattle.lift_base.specs.Records.{IsTypedCommand, IsTypedCall, IsTypedCo
 ghost use Rattle.lift_base.specs.Records.{IsLawfulLast};
 ghost use Rattle.lift_base.specs.declared.history.Record.{Record as RecordValue};
 
-use lift_base::{Content, Entry, Floor, Last, Letter, Number, Party, Record, Row, Terminal};
+use lift_base::{
+    Content, Entry, Floor, LAST_CAR, LAST_TERMINAL, Last, Letter, MOST_ROWS, Number, Party, Record,
+    Row, TOP_FLOOR, Terminal,
+};
 use lift_building::Building;
 
 fn has_car(building: &Building, car: Letter) -> bool
@@ -65,13 +68,13 @@ pub fn last_fits(building: &Building, terminal: Terminal, last: &Last) -> bool
 fn note_command(terminal: Terminal, number: Number)
     ensures { IsTypedCommand terminal number }
 {
-    prove!(terminal.get() <= 62 && number.get() <= 16_777_215);
+    prove!(terminal.get() <= LAST_TERMINAL && number.get() <= 16_777_215);
 }
 
 fn note_call(from: Floor, to: Floor, car: Letter, party: Party)
     ensures { IsTypedCall from to car party }
 {
-    prove!(from.get() <= 63 && to.get() <= 63 && car.get() <= 15);
+    prove!(from.get() <= TOP_FLOOR && to.get() <= TOP_FLOOR && car.get() <= LAST_CAR);
     prove!(party.get() >= 1 && party.get() <= 15);
 }
 
@@ -85,7 +88,7 @@ fn note_content(content: &Content)
             car,
             party,
         } => note_call(*from, *to, *car, *party),
-        Content::Stopped { floor, .. } => prove!(floor.get() <= 63),
+        Content::Stopped { floor, .. } => prove!(floor.get() <= TOP_FLOOR),
     }
 }
 
@@ -97,7 +100,7 @@ fn note_entry(entry: &Entry)
     note_content(&last.content);
     match entry {
         Entry::Allot { .. } => {}
-        Entry::Stop { car, .. } => prove!(car.get() <= 15),
+        Entry::Stop { car, .. } => prove!(car.get() <= LAST_CAR),
     }
 }
 
@@ -121,7 +124,7 @@ pub fn note_ranges(record: &Record)
 
 /// How many persons these calls are for.
 pub fn persons(rows: &[Row]) -> u32
-    requires { length rows.now ≤ 32 }
+    requires { length rows.now ≤ MOST_ROWS }
     ensures count { result ≡ persons_of rows.now }
     ensures limit { result ≤ 480 }
 {

@@ -1,6 +1,7 @@
 -- What a turn of the allocator leaves.
 use Rattle.std.proofs.Common.{◌≡◌, ◌≢◌, ℕ, Bool, true, false, Option, Some, None, ◌<◌, ◌≤◌, ◌+◌, List, [], ◌∷◌, ◌++◌, length, refl, sym, ap, ◌∙◌, subst, append-nil, append_assoc, length-append, arith, inl, inr}
 use Rattle.atomic_table.specs.Seated.{TableId}
+use Rattle.lift_base.specs.declared.limits.TheConstants.{MOST_BATCHES, MOST_TERMINALS}
 use Rattle.lift_base.specs.declared.history.Entry.{Entry}
 use Rattle.lift_building.specs.Plan.{Plan}
 use Rattle.lift_register.specs.Register.{RegisterState}
@@ -19,7 +20,7 @@ use Rattle.lift_clerk.specs.Visits.{AreLooksAt, commands_of, looked_at}
 use Rattle.std.proofs.lemmas.List.{length-map}
 use Rattle.lift_parts.specs.declared.taken.NotedCommand.{NotedCommand}
 use Rattle.lift_parts.specs.Batch.{BatchState, turns_of, turns_after, commands_in, replies_in, noted_in}
-use Rattle.lift_parts.specs.Line.{SendState, Tries, tried, Begins, IsNextBatch, WasFull}
+use Rattle.lift_parts.specs.Line.{most_batches, SendState, Tries, tried, Begins, IsNextBatch, WasFull}
 use Rattle.lift_parts.specs.Scan.{TakesAt, turns_in}
 use Rattle.lift_parts.specs.lemmas.Used.{most_turns}
 use Rattle.lift_relay.specs.AllocatorInside.{SendsHand}
@@ -45,7 +46,7 @@ abbrev pub allocator_of : {P : Type 0} → ScannerState P → SendState → List
 allocator_of s end hand = record { desk = s.desk; seat = s.seat; plan = s.plan; state = s.state; start = s.start; policy = s.policy; end = end; hand = hand }
 
 -- there is a turn for one batch more
-pub few_sent : (desk : List TableId) (seat : List ClerkPlace) (sent : ℕ) → IsClerkOf desk seat → length desk ≤ 63 → sent + 1 ≤ turns_in seat → sent < 66060225
+pub few_sent : (desk : List TableId) (seat : List ClerkPlace) (sent : ℕ) → IsClerkOf desk seat → length desk ≤ MOST_TERMINALS → sent + 1 ≤ turns_in seat → sent < most_batches
 few_sent desk seat sent seated few used =
     let many : length seat ≡ length desk = sym (length-map seat (λ (p : ClerkPlace). p.table)) ∙ ap length seated in
     let most = most_turns seat in
@@ -202,11 +203,11 @@ turned {P} chooses old a new s n end hand counts idle made held sent is sends sc
     subst (λ (p : P). IsAllocation (chooses p) old new counts) (ap (λ (v : AllocatorState P). v.policy) before.sends.same) (inr (scan_turn (chooses s.policy) old new s n end hand counts before made scan tries))
 
 -- ---- what a turn leaves
-pub looks : {P : Type 0} (choice : Choice) (old new : AllocatorState P) (counts : Counts) → IsAllocation choice old new counts → length old.end.sent < length old.end.gone + 4 → IsScanTurn choice old new counts
+pub looks : {P : Type 0} (choice : Choice) (old new : AllocatorState P) (counts : Counts) → IsAllocation choice old new counts → length old.end.sent < length old.end.gone + MOST_BATCHES → IsScanTurn choice old new counts
 looks choice old new counts (inl full) few = absurd (let most = full_by old.end full.was_full in omega arith)
 looks choice old new counts (inr scan) few = scan
 
-none_left : {P : Type 0} (choice : Choice) (old new : AllocatorState P) (counts : Counts) (scan : IsScanTurn choice old new counts) → length old.end.sent + length old.hand < length old.end.gone + 4
+none_left : {P : Type 0} (choice : Choice) (old new : AllocatorState P) (counts : Counts) (scan : IsScanTurn choice old new counts) → length old.end.sent + length old.hand < length old.end.gone + MOST_BATCHES
     → (hand : List BatchState) → new.hand ≡ hand → (commands : List Command) → commands_of 0 scan.visits ≡ commands → hand ≡ []
 none_left choice old new counts scan few [] is commands are = refl
 none_left choice old new counts scan few (b ∷ hand) is [] are = sym is ∙ (scan.nothing are).1
@@ -224,7 +225,7 @@ none_left choice old new counts scan few (b ∷ hand) is (c ∷ commands) are =
       length-append old.end.gone scan.later.0,
     ))
 
-pub none_in_hand : {P : Type 0} (choice : Choice) (old new : AllocatorState P) (counts : Counts) → IsAllocation choice old new counts → length old.end.sent + length old.hand < length old.end.gone + 4 → new.hand ≡ []
+pub none_in_hand : {P : Type 0} (choice : Choice) (old new : AllocatorState P) (counts : Counts) → IsAllocation choice old new counts → length old.end.sent + length old.hand < length old.end.gone + MOST_BATCHES → new.hand ≡ []
 none_in_hand choice old new counts turn few =
     let scan = looks choice old new counts turn (omega arith) in
     none_left choice old new counts scan few new.hand refl (commands_of 0 scan.visits) refl

@@ -22,6 +22,7 @@ use Rattle.crossbeam_queue.specs.contracts.array_queue.Slotted as Slotted
 use Rattle.crossbeam_queue.specs.contracts.array_queue.Turns as Turns
 use Rattle.crossbeam_queue.specs.contracts.array_queue.TurnsTableRuleOptionDoingUnit.TheImpl as turns
 use Rattle.crossbeam_queue.proofs.array_queue.Slotted.TheSendSync as queues
+use Rattle.lift_base.specs.declared.limits.TheConstants.{MOST_CARS, MOST_ENTRIES}
 use Rattle.lift_base.specs.contracts.history.Entry as Entry
 use Rattle.lift_building.specs.contracts.building.Building as Building
 use Rattle.lift_register.specs.contracts.registers.Register as Register
@@ -61,13 +62,13 @@ entry_send : IsSend Entry.the_row
 entry_send = search (sendable, crosses) depth 20
 
 basis_send : IsSend Basis.the_row
-basis_send = view_send _ _ _ _ _ (declared_send basis_inside.the_type (snapshot_send Register.the_row, (snapshot_send (Array (Option.the_row Schedule.the_row) tt 16), tt)))
+basis_send = view_send _ _ _ _ _ (declared_send basis_inside.the_type (snapshot_send Register.the_row, (snapshot_send (Array (Option.the_row Schedule.the_row) tt MOST_CARS), tt)))
 
 pub batch_send : IsSend Batch.the_row
 batch_send = view_send _ _ _ _ _ (declared_send batch_inside.the_type (
-  as_row_send (ArrayVec.the_field NotedCommand.the_row (number 63) unit) (arrays.the_send NotedCommand.the_row (number 63) unit taken_is.the_send unit_send),
+  as_row_send (ArrayVec.the_field NotedCommand.the_row (number MOST_ENTRIES) unit) (arrays.the_send NotedCommand.the_row (number MOST_ENTRIES) unit taken_is.the_send unit_send),
   (
-    as_row_send (ArrayVec.the_field Entry.the_row (number 63) unit) (arrays.the_send Entry.the_row (number 63) unit entry_send unit_send),
+    as_row_send (ArrayVec.the_field Entry.the_row (number MOST_ENTRIES) unit) (arrays.the_send Entry.the_row (number MOST_ENTRIES) unit entry_send unit_send),
     (
       snapshot_send Building.the_row,
       (as_row_send Basis.the_field basis_send, (as_row_send Basis.the_field basis_send, (snapshot_send Desk.the_row, (snapshot_send TakeSeat.the_row, tt)))),

@@ -5,12 +5,13 @@ use lib.ListN.{get_elem?}
 use Rattle.crossbeam_queue.specs.Fifo.{Pushes, Pops, Forks, Merges, Learns}
 use Rattle.crossbeam_queue.proofs.Lists.{at_set, at_snoc}
 use Rattle.atomic_table.specs.Seated.{TableId}
+use Rattle.lift_base.specs.declared.limits.TheConstants.{MOST_BATCHES}
 use Rattle.lift_building.specs.Plan.{Plan}
 use Rattle.lift_policy.specs.Step.{State}
 use Rattle.lift_parts.specs.Batch.{BatchState, next_turns}
 use Rattle.lift_relay.specs.declared.line.EndView.{EndView}
-use Rattle.lift_parts.specs.Line.{Begins, IsNextBatch}
-use Rattle.lift_relay.specs.Rule.{opening, opening_view, begun_with, sending, receiving, most_batches, with_both_passes, told_both, spent_pass, LineLists, EndFits, IsLineInOrder, IsLineKept, Opened, Sent, Received, SentAllBut, ReceivedBefore, HoldsUnreceived}
+use Rattle.lift_parts.specs.Line.{most_batches, Begins, IsNextBatch}
+use Rattle.lift_relay.specs.Rule.{opening, opening_view, begun_with, sending, receiving, with_both_passes, told_both, spent_pass, LineLists, EndFits, IsLineInOrder, IsLineKept, Opened, Sent, Received, SentAllBut, ReceivedBefore, HoldsUnreceived}
 use Rattle.lift_parts.specs.Line.{BatchesGoOn}
 
 off : {A : Type 0} → false ≡ true → A
@@ -120,7 +121,7 @@ begun first batch w v push (inr pop) = pop.begins ∙ ap begun_with (head_of bat
 longer : (first whole : List BatchState) (batch : BatchState) → Begins first whole → Begins first (whole ++ batch ∷ [])
 longer first whole batch b = (b.0 ++ batch ∷ [], ap (λ l. l ++ batch ∷ []) b.1 ∙ append_assoc first b.0 (batch ∷ []))
 
-pub sends : (n id : ℕ) (v : EndView) (batch : BatchState) → n ≡ 4 → v.begun ≡ true → v.sends ≡ true → length v.sent < most_batches → IsNextBatch v.building v.desk v.ahead v.turns_ahead batch → Pushes IsLineKept n id v batch (Sent v batch)
+pub sends : (n id : ℕ) (v : EndView) (batch : BatchState) → n ≡ MOST_BATCHES → v.begun ≡ true → v.sends ≡ true → length v.sent < most_batches → IsNextBatch v.building v.desk v.ahead v.turns_ahead batch → Pushes IsLineKept n id v batch (Sent v batch)
 sends n id v batch four begun may room next items views few kept at =
     let h = ordered items views id v begun kept at in
     let l = h.lists in

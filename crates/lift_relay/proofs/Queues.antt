@@ -1,5 +1,6 @@
 -- What the line holds, by its two ends.
 use Rattle.std.proofs.Common.{◌≡◌, ◌+◌, ◌≤◌, List, [], ◌∷◌, ◌++◌, length, refl, sym, ap, ◌∙◌, append-nil, length-append, arith, subst}
+use Rattle.lift_base.specs.declared.limits.TheConstants.{MOST_BATCHES}
 use Rattle.lift_parts.specs.Batch.{BatchState}
 use Rattle.lift_parts.specs.Line.{SendState, ReceiveState, WasFull, BatchesGoOn}
 use Rattle.lift_parts.specs.Queued.{Queued}
@@ -20,5 +21,5 @@ pub same_state : (s : SendState) (r : ReceiveState) → Queued s r → length s.
 same_state s r q same = (subst (λ (items : List BatchState). BatchesGoOn s.building s.desk r.state r.turns items s.state s.turns) (none_waits s r q same) q.goes_on).0
 
 -- it was full of what had not left it
-pub full_by : (s : SendState) → WasFull s → length s.gone + 4 ≤ length s.sent
+pub full_by : (s : SendState) → WasFull s → length s.gone + MOST_BATCHES ≤ length s.sent
 full_by s full = omega (arith, full.four, ap length full.all, length-append full.received full.items, ap length full.later.1, length-append s.gone full.later.0)

@@ -8,8 +8,9 @@ use Rattle.lift_building.specs.Plan.{Plan}
 use Rattle.lift_register.specs.Register.{empty}
 use Rattle.lift_policy.specs.Step.{State}
 use Rattle.lift_parts.specs.Batch.{BatchState, next_turns}
+use Rattle.lift_base.specs.declared.limits.TheConstants.{MOST_BATCHES}
 use Rattle.lift_relay.specs.declared.line.EndView.{EndView}
-use Rattle.lift_parts.specs.Line.{Begins, IsNextBatch, BatchesGoOn}
+use Rattle.lift_parts.specs.Line.{most_batches, Begins, IsNextBatch, BatchesGoOn}
 
 abbrev pub no_building : Plan
 no_building = record { floors = 0; door_ms = 0; kiosks = []; flights = []; cars = [] }
@@ -76,10 +77,6 @@ told_both v w = record (with_both_passes v w) { gone = w.received; known = v.sen
 abbrev pub spent_pass : EndView
 spent_pass = record opening_view { begun = true }
 
--- each batch takes a turn of some terminal: 63 terminals of 1,048,575 turns
-abbrev pub most_batches : ℕ
-most_batches = 66060225
-
 -- what the line has seen so far
 pub record LineLists : Type 0 where
   pub sender : ℕ
@@ -114,7 +111,7 @@ pub record IsLineInOrder (items : List BatchState) (views : List EndView) : Type
       lists.ahead
       lists.turns_ahead
   pub fits : (pass : ℕ) (v : EndView) → get_elem? views pass ≡ some v → EndFits lists pass v
-  pub four : length items ≤ 4
+  pub four : length items ≤ MOST_BATCHES
 
 -- the line is in order, or hasn't begun, and then one pass has pushed all that is there
 abbrev pub IsLineKept : List BatchState → List EndView → Type 0
@@ -140,7 +137,7 @@ pub record Sent (v : EndView) (batch : BatchState) (w : EndView) : Type 0 where
   pub ahead : w.ahead ≡ batch.after
   pub turns : w.turns_ahead ≡ next_turns batch
   pub items : List BatchState
-  pub few : length items < 4
+  pub few : length items < MOST_BATCHES
   pub before : w.sent ≡ w.gone ++ (items ++ batch ∷ [])
   pub later : Begins v.gone w.gone
 
@@ -178,4 +175,4 @@ pub record ReceivedBefore (v : EndView) (items : List BatchState) : Type 0 where
 pub record HoldsUnreceived (v : EndView) (items : List BatchState) : Type 0 where
   pub all : v.sent ≡ v.received ++ items
   pub goes_on : BatchesGoOn v.building v.desk v.behind v.next_turns items v.ahead v.turns_ahead
-  pub four : length items ≤ 4
+  pub four : length items ≤ MOST_BATCHES

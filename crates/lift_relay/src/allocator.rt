@@ -14,6 +14,7 @@ use crate::batch::Batch;
 use crate::deciding::Scanner;
 use crate::line::{ReceiveEnd, SendEnd};
 use crate::settling::Settler;
+use lift_base::MOST_BATCHES;
 use lift_clerk::{Clerk, Counts};
 use lift_decider::Decider;
 use lift_desk::{Desk, Seat, TakeSeat};
@@ -199,11 +200,11 @@ impl<'d, 'b, P: Policy + Drop> Allocator<'d, 'b, P> {
     pub fn turn<R: Wait>(&mut self, rt: &R) -> Counts
         ensures turns { IsAllocation (P.chooses self.old.policy) self.old self.new result }
         // Where, as far as it was told, fewer than four batches wait in the line, it looks.
-        ensures looks { length self.old.end.sent < length self.old.end.gone + 4
+        ensures looks { length self.old.end.sent < length self.old.end.gone + MOST_BATCHES
             → IsScanTurn (P.chooses self.old.policy) self.old self.new result }
         // Where there is room for the batch in hand and one more, none is left in hand.
         ensures sends { length self.old.end.sent + length self.old.hand
-            < length self.old.end.gone + 4 → self.new.hand ≡ [] }
+            < length self.old.end.gone + MOST_BATCHES → self.new.hand ≡ [] }
         ensures same { IsSameAllocator self.old self.new }
     {
         self.send_and_scan(rt)

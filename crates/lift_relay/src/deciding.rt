@@ -14,6 +14,7 @@ use crate::batch::Batch;
 use crate::line::SendEnd;
 use crate::scan::AheadParts;
 use crate::settling::Settler;
+use lift_base::MOST_TERMINALS;
 use lift_clerk::{Clerk, Counts};
 use lift_decider::Decider;
 use lift_desk::{Desk, Seat, TakeSeat};
@@ -127,7 +128,7 @@ impl<'d, 'b, P: Policy + Drop> Scanner<'d, 'b, P> {
     /// How many terminals it looks at.
     pub fn terminals(&self) -> usize
         ensures count { result ≡ length self.now.desk }
-        ensures in_range { result ≤ 63 }
+        ensures in_range { result ≤ MOST_TERMINALS }
     {
         self.desk.len()
     }

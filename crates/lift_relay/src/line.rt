@@ -1,7 +1,7 @@
 //! A queue of four batches with one end that sends and one that receives.
 ghost use Rattle.std.specs.Prelude.{◌≡◌, ◌<◌, length, MatchResult, MatchOption, IfOk};
 ghost use Rattle.lift_parts.specs.Line.{SendsOne, ReceivesOne, IsNextBatch, IsLine, FindsNoRoom};
-ghost use Rattle.lift_parts.specs.Line.{FindsNone};
+ghost use Rattle.lift_parts.specs.Line.{FindsNone, most_batches};
 ghost use Rattle.lift_parts.specs.Queued.{Queued};
 
 use crate::basis::Basis;
@@ -186,7 +186,7 @@ impl SendEnd {
     /// Tries once to send a batch that goes on from what was sent. It comes back only if the line
     /// was full at that try.
     pub fn send<R: Wait>(&mut self, rt: &R, batch: Batch) -> Result<(), Batch>
-        requires few { length self.old.sent < 66060225 }
+        requires few { length self.old.sent < most_batches }
         requires next { IsNextBatch self.old.building self.old.desk self.old.state self.old.turns
             batch }
         ensures { MatchResult result (λ _. SendsOne self.old batch self.new) (λ back.

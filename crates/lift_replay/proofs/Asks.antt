@@ -2,6 +2,7 @@
 use Rattle.std.proofs.Common.{◌≡◌, ◌⊎◌, ℕ, ◌+◌, ◌<◌, List, [], ◌∷◌, length, drop, refl, sym, ap, ◌∙◌, subst, inl, inr, arith}
 use Rattle.std.specs.Prelude.{codes}
 use Rattle.std.specs.Fmt.{decimal}
+use Rattle.lift_base.specs.declared.limits.TheConstants.{MOST_CARS, MOST_FLOORS, MOST_KIOSKS}
 use Rattle.lift_base.specs.Text.{AreWords, letter_text, dir_text}
 use Rattle.lift_base.specs.declared.travel.Dir.{Dir}
 use Rattle.lift_building.specs.Plan.{Plan}
@@ -49,33 +50,33 @@ ask_one words (Stop car number stop) (Stop car2 number2 stop2) p q =
 -- the ways in which a line may have a terminal ask
 module _ (line : List ℕ) where
   abbrev Placed : Type 0
-  Placed = Within 16 (λ car. Within 64 (λ floor. (dir : Dir) × AreWords line (codes "place" ∷ letter_text car ∷ decimal floor ∷ dir_text dir ∷ [])))
+  Placed = Within MOST_CARS (λ car. Within MOST_FLOORS (λ floor. (dir : Dir) × AreWords line (codes "place" ∷ letter_text car ∷ decimal floor ∷ dir_text dir ∷ [])))
 
   abbrev Called : Type 0
-  Called = Within 47 (λ kiosk. Within 16777216 (λ number. Within 64 (λ floor. AreWords line (codes "call" ∷ decimal kiosk ∷ decimal number ∷ decimal floor ∷ []))))
+  Called = Within MOST_KIOSKS (λ kiosk. Within 16777216 (λ number. Within MOST_FLOORS (λ floor. AreWords line (codes "call" ∷ decimal kiosk ∷ decimal number ∷ decimal floor ∷ []))))
 
   abbrev CalledFor : Type 0
-  CalledFor = Within 47 (λ kiosk. Within 16777216 (λ number. Within 64 (λ floor. Within 16 (λ party.
+  CalledFor = Within MOST_KIOSKS (λ kiosk. Within 16777216 (λ number. Within MOST_FLOORS (λ floor. Within 16 (λ party.
       (0 < party) × AreWords line (codes "call" ∷ decimal kiosk ∷ decimal number ∷ decimal floor ∷ decimal party ∷ [])))))
 
   abbrev Stopped : Type 0
-  Stopped = Within 16 (λ car. Within 16777216 (λ number. Within 64 (λ floor. (dir : Dir) × AreWords line (codes "stop" ∷ letter_text car ∷ decimal number ∷ decimal floor ∷ dir_text dir ∷ []))))
+  Stopped = Within MOST_CARS (λ car. Within 16777216 (λ number. Within MOST_FLOORS (λ floor. (dir : Dir) × AreWords line (codes "stop" ∷ letter_text car ∷ decimal number ∷ decimal floor ∷ dir_text dir ∷ []))))
 
   abbrev Ways : Type 0
   Ways = Placed ⊎ (Called ⊎ (CalledFor ⊎ Stopped))
 
   placed : IsDecided Placed
-  placed = within _ (λ car. within _ (λ floor. directed _ (λ dir. worded line (codes "place") (letter_text car ∷ decimal floor ∷ dir_text dir ∷ []))) 64) 16
+  placed = within _ (λ car. within _ (λ floor. directed _ (λ dir. worded line (codes "place") (letter_text car ∷ decimal floor ∷ dir_text dir ∷ []))) MOST_FLOORS) MOST_CARS
 
   called : IsDecided Called
-  called = within _ (λ kiosk. within _ (λ number. within _ (λ floor. worded line (codes "call") (decimal kiosk ∷ decimal number ∷ decimal floor ∷ [])) 64) 16777216) 47
+  called = within _ (λ kiosk. within _ (λ number. within _ (λ floor. worded line (codes "call") (decimal kiosk ∷ decimal number ∷ decimal floor ∷ [])) MOST_FLOORS) 16777216) MOST_KIOSKS
 
   called_for : IsDecided CalledFor
   called_for = within _ (λ kiosk. within _ (λ number. within _ (λ floor. within _ (λ party.
-      both _ _ (below 0 party) (worded line (codes "call") (decimal kiosk ∷ decimal number ∷ decimal floor ∷ decimal party ∷ []))) 16) 64) 16777216) 47
+      both _ _ (below 0 party) (worded line (codes "call") (decimal kiosk ∷ decimal number ∷ decimal floor ∷ decimal party ∷ []))) 16) MOST_FLOORS) 16777216) MOST_KIOSKS
 
   stopped : IsDecided Stopped
-  stopped = within _ (λ car. within _ (λ number. within _ (λ floor. directed _ (λ dir. worded line (codes "stop") (letter_text car ∷ decimal number ∷ decimal floor ∷ dir_text dir ∷ []))) 64) 16777216) 16
+  stopped = within _ (λ car. within _ (λ number. within _ (λ floor. directed _ (λ dir. worded line (codes "stop") (letter_text car ∷ decimal number ∷ decimal floor ∷ dir_text dir ∷ []))) MOST_FLOORS) 16777216) MOST_CARS
 
   ways : IsDecided Ways
   ways = either _ _ placed (either _ _ called (either _ _ called_for stopped))
@@ -117,7 +118,7 @@ known_ask plan (Call kiosk number floor party) = below kiosk (length plan.kiosks
 known_ask plan (Stop car number stop) = below car (length plan.cars)
 
 -- who asks is a terminal of the building
-pub ask_inside : (plan : Plan) (words : List (List ℕ)) (ask : ScriptAsk) → AskToAsk words ask → IsKnownAsk plan ask → (asked_command ask).terminal < 16 + length plan.kiosks
+pub ask_inside : (plan : Plan) (words : List (List ℕ)) (ask : ScriptAsk) → AskToAsk words ask → IsKnownAsk plan ask → (asked_command ask).terminal < MOST_CARS + length plan.kiosks
 ask_inside plan words (Place car position) asks known = let few = asks.0 in omega (arith, few)
 ask_inside plan words (Call kiosk number floor party) asks known = omega (arith, known)
 ask_inside plan words (Stop car number stop) asks known = let few = asks.0 in omega (arith, few)

@@ -5,6 +5,7 @@ use Rattle.std.specs.Option.{is_some}
 use Rattle.std.proofs.lemmas.List.{length-set, append_assoc, append-nil}
 use Rattle.std.proofs.lemmas.Grind.{get_or-set_at}
 use Rattle.std.proofs.lemmas.Bool.{cases_eq, eq-eqb, ne_eqb}
+use Rattle.lift_base.specs.declared.limits.TheConstants.{MOST_CARS}
 use Rattle.lift_base.specs.declared.command.Body.{Body}
 use Rattle.lift_building.specs.Plan.{Plan}
 use Rattle.lift_desk.specs.declared.words.Ask.{Ask}
@@ -149,7 +150,7 @@ shown_is plan g keeper query (Some s) stands = ap (λ b. shown_text b plan (view
 
 -- a line that is carried out tells what is computed, and makes the group that is computed
 module _ (computed : StepsAreDecisions IsEtdChoice etd_pick) (plan : Plan) (g : ScriptGroup) (old new : ScriptClerk) (seats after : List TerminalSeat)
-    (shows : Shows plan g old seats) (count : length seats ≡ 16 + length plan.kiosks) (long : (device_of new).is_short ≡ false) where
+    (shows : Shows plan g old seats) (count : length seats ≡ MOST_CARS + length plan.kiosks) (long : (device_of new).is_short ≡ false) where
   abbrev pub Carried : ScriptLine → List ℕ → Type 0
   Carried (AskThis ask) told = (told ≡ line_text plan g (AskThis ask)) × Shows plan (after_line plan g (AskThis ask)) new after
   Carried Turn told = (told ≡ line_text plan g Turn) × Shows plan (after_line plan g Turn) new after
@@ -159,7 +160,7 @@ module _ (computed : StepsAreDecisions IsEtdChoice etd_pick) (plan : Plan) (g : 
   rests : ScriptRests old new seats after → Shows plan g new after
   rests is = subst (λ c. Shows plan g c after) (sym is.clerk) (subst (Shows plan g old) (sym is.terminals) shows)
 
-  asks_so : (c : Command) (told : List ℕ) → c.terminal < 16 + length plan.kiosks → Asks seats after old.seat new.seat c.terminal c.number c.body told → KeepsKeeper old new
+  asks_so : (c : Command) (told : List ℕ) → c.terminal < MOST_CARS + length plan.kiosks → Asks seats after old.seat new.seat c.terminal c.number c.body told → KeepsKeeper old new
       → (told ≡ ask_text (asking_at g.terminals c.terminal) c) × Shows plan (after_asking g c) new after
   asks_so c told below asks keeps =
       let result = asks_shows g.terminals seats after old.seat new.seat c.terminal c.number c.body shows.terminals (omega (arith, below, count, shows.terminals.seat_count)) told asks in
@@ -183,7 +184,7 @@ module _ (computed : StepsAreDecisions IsEtdChoice etd_pick) (plan : Plan) (g : 
 
 -- what a line tells, where another follows, and where it is the last
 module _ (computed : StepsAreDecisions IsEtdChoice etd_pick) (plan : Plan) (g : ScriptGroup) (old new : ScriptClerk) (seats after : List TerminalSeat)
-    (shows : Shows plan g old seats) (count : length seats ≡ 16 + length plan.kiosks) (long : (device_of new).is_short ≡ false)
+    (shows : Shows plan g old seats) (count : length seats ≡ MOST_CARS + length plan.kiosks) (long : (device_of new).is_short ≡ false)
     (so_far later : ℕ) (first : ScriptGroup) (script rest behind : List (List ℕ)) (line before told : List ℕ) (number : ℕ)
     (at : rest ≡ line ∷ behind) (next_number : number ≡ later + 1) (leads : Continues plan so_far first script before later g rest) where
   -- what the rest tells, as the line and what is after it

@@ -2,6 +2,7 @@
 use Rattle.std.proofs.Common.{◌≡◌, ◌⊎◌, ℕ, ◌<◌, List, [], ◌∷◌, length, drop, refl, sym, ap, ◌∙◌, subst, inl, inr, arith}
 use Rattle.std.specs.Prelude.{codes}
 use Rattle.std.specs.Fmt.{decimal}
+use Rattle.lift_base.specs.declared.limits.TheConstants.{MOST_CARS, MOST_FLOORS, MOST_KIOSKS}
 use Rattle.lift_base.specs.Text.{AreWords, letter_text}
 use Rattle.lift_building.specs.Plan.{Plan}
 use Rattle.lift_replay.specs.declared.query.Query.{Query}
@@ -40,13 +41,13 @@ query_one words Rows Rows p q = refl
 -- the ways in which a line may ask to be shown something
 module _ (line : List ℕ) where
   abbrev Listed : Type 0
-  Listed = Within 16 (λ car. AreWords line (codes "stops" ∷ letter_text car ∷ []))
+  Listed = Within MOST_CARS (λ car. AreWords line (codes "stops" ∷ letter_text car ∷ []))
 
   abbrev Costed : Type 0
-  Costed = Within 47 (λ kiosk. Within 64 (λ floor. AreWords line (codes "cost" ∷ decimal kiosk ∷ decimal floor ∷ [])))
+  Costed = Within MOST_KIOSKS (λ kiosk. Within MOST_FLOORS (λ floor. AreWords line (codes "cost" ∷ decimal kiosk ∷ decimal floor ∷ [])))
 
   abbrev CostedFor : Type 0
-  CostedFor = Within 47 (λ kiosk. Within 64 (λ floor. Within 16 (λ party. (0 < party) × AreWords line (codes "cost" ∷ decimal kiosk ∷ decimal floor ∷ decimal party ∷ []))))
+  CostedFor = Within MOST_KIOSKS (λ kiosk. Within MOST_FLOORS (λ floor. Within 16 (λ party. (0 < party) × AreWords line (codes "cost" ∷ decimal kiosk ∷ decimal floor ∷ decimal party ∷ []))))
 
   abbrev Shown : Type 0
   Shown = AreWords line (codes "rows" ∷ [])
@@ -55,13 +56,13 @@ module _ (line : List ℕ) where
   Ways = Listed ⊎ (Costed ⊎ (CostedFor ⊎ Shown))
 
   listed : IsDecided Listed
-  listed = within _ (λ car. worded line (codes "stops") (letter_text car ∷ [])) 16
+  listed = within _ (λ car. worded line (codes "stops") (letter_text car ∷ [])) MOST_CARS
 
   costed : IsDecided Costed
-  costed = within _ (λ kiosk. within _ (λ floor. worded line (codes "cost") (decimal kiosk ∷ decimal floor ∷ [])) 64) 47
+  costed = within _ (λ kiosk. within _ (λ floor. worded line (codes "cost") (decimal kiosk ∷ decimal floor ∷ [])) MOST_FLOORS) MOST_KIOSKS
 
   costed_for : IsDecided CostedFor
-  costed_for = within _ (λ kiosk. within _ (λ floor. within _ (λ party. both _ _ (below 0 party) (worded line (codes "cost") (decimal kiosk ∷ decimal floor ∷ decimal party ∷ []))) 16) 64) 47
+  costed_for = within _ (λ kiosk. within _ (λ floor. within _ (λ party. both _ _ (below 0 party) (worded line (codes "cost") (decimal kiosk ∷ decimal floor ∷ decimal party ∷ []))) 16) MOST_FLOORS) MOST_KIOSKS
 
   ways : IsDecided Ways
   ways = either _ _ listed (either _ _ costed (either _ _ costed_for (worded line (codes "rows") [])))

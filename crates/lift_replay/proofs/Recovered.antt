@@ -5,6 +5,7 @@ use Rattle.std.proofs.lemmas.List.{length-map, length-replicate}
 use Rattle.std.proofs.lemmas.List.Concat.{flat_map-cons}
 use Rattle.atomic_table.specs.Seated.{TableId}
 use Rattle.std.specs.Prelude.{slice_get}
+use Rattle.lift_base.specs.declared.limits.TheConstants.{LEAST_HALF, MOST_CARS}
 use Rattle.lift_base.specs.declared.history.Shape.{Shape}
 use Rattle.lift_desk.specs.Rule.{no_asks, no_answers}
 use Rattle.lift_desk.specs.Seats.{TerminalSeat, seats_from, clerk_of, view_at, placed_at}
@@ -121,7 +122,7 @@ none_used shape (batch ∷ batches) image holds none = absurd (some_record (take
     some_record (gate ∷ rest) chain = let some = chain.1.some in omega (arith, some, length-append batch.records (records_of batches), ap length (sym (flat_map-cons (λ (b : Batch). b.records) batch batches) ∙ none))
 
 -- an empty journal
-pub empty_found : (plan : Plan) (image : Image) → ReadsAs (shape_of plan 64) [] [] image → Picks false image → IsFound plan nothing_found image
+pub empty_found : (plan : Plan) (image : Image) → ReadsAs (shape_of plan LEAST_HALF) [] [] image → Picks false image → IsFound plan nothing_found image
 unfolding cars terminals
 empty_found plan image reads picks = record {
   found = record {
@@ -133,7 +134,7 @@ empty_found plan image reads picks = record {
   };
   sectors = refl;
   picks = picks;
-  counts = none_used (shape_of plan 64) reads.batches image reads.holds reads.joined;
+  counts = none_used (shape_of plan LEAST_HALF) reads.batches image reads.holds reads.joined;
 }
 
 -- at a new desk nobody has asked
@@ -152,21 +153,21 @@ first_askings zero t = refl
 first_askings (suc n) zero = refl
 first_askings (suc n) (suc t) = first_askings n t
 
-pub new_in_step : (plan : Plan) (desk : List TableId) → length desk ≡ 16 + length plan.kiosks → AreInStep (new_terminals plan) (seats_from 0 desk) (clerk_of desk)
+pub new_in_step : (plan : Plan) (desk : List TableId) → length desk ≡ MOST_CARS + length plan.kiosks → AreInStep (new_terminals plan) (seats_from 0 desk) (clerk_of desk)
 new_in_step plan desk count =
-    let many : length (new_terminals plan) ≡ 16 + length plan.kiosks = length-replicate (16 + length plan.kiosks) unasked in
+    let many : length (new_terminals plan) ≡ MOST_CARS + length plan.kiosks = length-replicate (MOST_CARS + length plan.kiosks) unasked in
     record {
       seat_count = count_from 0 desk ∙ count ∙ sym many;
       place_count = length-map desk (λ (table : TableId). placed_at table no_answers) ∙ count ∙ sym many;
       own = λ t below. own_from 0 desk t (omega (arith, below, many, count, count_from 0 desk)) ∙ omega arith;
       each = λ t below.
-          subst (λ a. IsInStep a (seat_at (seats_from 0 desk) t).view (view_at (clerk_of desk) t)) (sym (first_askings (16 + length plan.kiosks) t))
+          subst (λ a. IsInStep a (seat_at (seats_from 0 desk) t).view (view_at (clerk_of desk) t)) (sym (first_askings (MOST_CARS + length plan.kiosks) t))
           (subst (λ v. IsInStep unasked v (view_at (clerk_of desk) t)) (sym (first_seats 0 desk t))
           (subst (λ v. IsInStep unasked no_asks v) (sym (first_places desk t)) (record { turns = refl; told = refl; heard = refl; even = refl; waits = refl })));
     }
 
 pub new_shows : (plan : Plan) (g : ScriptGroup) (keeper : KeeperView FusedDisk) (clerk : ScriptClerk) (seats : List TerminalSeat) (desk : List TableId) → IsKeeperOf plan g keeper → g.terminals ≡ new_terminals plan
-    → clerk.keeper ≡ keeper → clerk.seat ≡ clerk_of desk → seats ≡ seats_from 0 desk → length desk ≡ 16 + length plan.kiosks → Shows plan g clerk seats
+    → clerk.keeper ≡ keeper → clerk.seat ≡ clerk_of desk → seats ≡ seats_from 0 desk → length desk ≡ MOST_CARS + length plan.kiosks → Shows plan g clerk seats
 new_shows plan g keeper clerk seats desk kept new keeper_is clerk_is seats_is count = record {
   keeper = subst (IsKeeperOf plan g) (sym keeper_is) kept;
   terminals = subst (λ l. AreInStep l seats clerk.seat) (sym new)

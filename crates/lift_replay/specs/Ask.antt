@@ -7,6 +7,7 @@ use Rattle.lift_base.specs.declared.command.Body.{Body}
 use Rattle.lift_base.specs.declared.command.Body.TheVariants.{Call as Calls, Stop as Stopping}
 use Rattle.lift_base.specs.declared.command.Body.TheVariants.{Place as Placing}
 use Rattle.lift_building.specs.Plan.{Plan}
+use Rattle.lift_base.specs.declared.limits.TheConstants.{FIRST_KIOSK, MOST_CARS, MOST_FLOORS, MOST_KIOSKS}
 use Rattle.lift_policy.specs.declared.command.Command.{Command}
 use Rattle.lift_replay.specs.declared.ask.ScriptAsk.{ScriptAsk}
 use Rattle.lift_replay.specs.declared.ask.ScriptAsk.TheVariants.{Place, Call, Stop}
@@ -14,12 +15,12 @@ use Rattle.lift_replay.specs.declared.ask.ScriptAsk.TheVariants.{Place, Call, St
 -- These words have a terminal ask this: of cars A to P, kiosks 0 to 46, floors 0 to 63, numbers up
 -- to 16,777,215 and parties of 1 to 15.
 abbrev pub AskToAsk : List (List ℕ) → ScriptAsk → Type 0
-AskToAsk words (Place car at) = (car < 16) × (at.floor < 64)
+AskToAsk words (Place car at) = (car < MOST_CARS) × (at.floor < MOST_FLOORS)
     × (words ≡ codes "place" ∷ letter_text car ∷ decimal at.floor ∷ dir_text at.dir ∷ [])
-AskToAsk words (Call kiosk number floor party) = (kiosk < 47) × (number < 16777216) × (floor < 64)
+AskToAsk words (Call kiosk number floor party) = (kiosk < MOST_KIOSKS) × (number < 16777216) × (floor < MOST_FLOORS)
     × (1 ≤ party) × (party ≤ 15) × (last : List (List ℕ)) × ArePartyWords last party
     × (words ≡ codes "call" ∷ decimal kiosk ∷ decimal number ∷ decimal floor ∷ last)
-AskToAsk words (Stop car number stop) = (car < 16) × (number < 16777216) × (stop.floor < 64)
+AskToAsk words (Stop car number stop) = (car < MOST_CARS) × (number < 16777216) × (stop.floor < MOST_FLOORS)
     × (words
     ≡ codes "stop" ∷ letter_text car ∷ decimal number ∷ decimal stop.floor ∷ dir_text stop.dir ∷ [])
 
@@ -40,5 +41,5 @@ asked_by terminal number body = record { terminal = terminal; number = number; b
 
 abbrev pub asked_command : ScriptAsk → Command
 asked_command (Place car position) = asked_by car 0 (Placing position.floor position.dir)
-asked_command (Call kiosk number floor party) = asked_by (16 + kiosk) number (Calls floor party)
+asked_command (Call kiosk number floor party) = asked_by (FIRST_KIOSK + kiosk) number (Calls floor party)
 asked_command (Stop car number stop) = asked_by car number (Stopping stop.floor stop.dir)

@@ -7,6 +7,7 @@ use Rattle.std.specs.Prelude.{codes, Option, Some, None}
 use Rattle.std.specs.Option.{is_some, option_map, option_map_or}
 use Rattle.lift_base.specs.declared.command.Reply.{Reply}
 use Rattle.lift_base.specs.declared.history.Entry.{Entry}
+use Rattle.lift_base.specs.declared.limits.TheConstants.{LEAST_HALF, MOST_CARS}
 use Rattle.lift_base.specs.declared.travel.Position.{Position}
 use Rattle.lift_building.specs.Plan.{Plan}
 use Rattle.lift_disk.specs.declared.outcome.Outcome.{Outcome}
@@ -52,7 +53,7 @@ pub record ScriptGroup : Type 0 where
 
 -- the sectors of a half
 abbrev pub half : ℕ
-half = 64
+half = LEAST_HALF
 
 abbrev pub unasked : Asking
 unasked = record { turns = 0; waiting = None }
@@ -62,7 +63,7 @@ asking_at terminals terminal = slice_index_or terminals terminal unasked
 
 -- nobody has asked
 abbrev pub new_terminals : Plan → List Asking
-new_terminals plan = replicate (16 + length plan.kiosks) unasked
+new_terminals plan = replicate (MOST_CARS + length plan.kiosks) unasked
 
 abbrev pub stored : RegisterState → Bool → ℕ → Found
 stored r second used = record { register = r; is_in_second_half = second; used = used }
@@ -71,7 +72,7 @@ stored r second used = record { register = r; is_in_second_half = second; used =
 abbrev pub recovered : Plan → Found → ScriptGroup
 recovered plan found = record {
   safe = found;
-  positions = replicate 16 None;
+  positions = replicate MOST_CARS None;
   passing = None;
   failed = None;
   terminals = new_terminals plan;

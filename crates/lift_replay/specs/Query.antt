@@ -4,6 +4,7 @@ use Rattle.std.specs.Prelude.{Bool, length, codes, Option, Some, None}
 use Rattle.std.specs.Fmt.{decimal}
 use Rattle.std.specs.List.{flat_map}
 use Rattle.lift_base.specs.Text.{ArePartyWords, letter_text}
+use Rattle.lift_base.specs.declared.limits.TheConstants.{MOST_CARS, MOST_FLOORS, MOST_KIOSKS}
 use Rattle.lift_base.specs.declared.travel.Position.{Position}
 use Rattle.lift_base.specs.declared.history.Row.{Row}
 use Rattle.lift_base.specs.declared.command.Reason.TheVariants.{NoSuchFloor, SameFloor}
@@ -20,8 +21,8 @@ use Rattle.lift_replay.specs.Report.{halt_text, cost_text, refused_text, registe
 
 -- these words ask for this, of cars A to P, kiosks 0 to 46, floors 0 to 63 and parties of 1 to 15
 abbrev pub AskToShow : List (List ℕ) → Query → Type 0
-AskToShow words (Stops car) = (car < 16) × (words ≡ codes "stops" ∷ letter_text car ∷ [])
-AskToShow words (Cost kiosk floor party) = (kiosk < 47) × (floor < 64) × (1 ≤ party) × (party ≤ 15)
+AskToShow words (Stops car) = (car < MOST_CARS) × (words ≡ codes "stops" ∷ letter_text car ∷ [])
+AskToShow words (Cost kiosk floor party) = (kiosk < MOST_KIOSKS) × (floor < MOST_FLOORS) × (1 ≤ party) × (party ≤ 15)
     × (last : List (List ℕ)) × ArePartyWords last party
     × (words ≡ codes "cost" ∷ decimal kiosk ∷ decimal floor ∷ last)
 AskToShow words Rows = words ≡ codes "rows" ∷ []

@@ -7,7 +7,9 @@ ghost use Rattle.lift_replay.specs.Ask.{AreReadAsAsk, IsKnownAsk, asked_command}
 
 use crate::parsing::{at_of, floor_of, kiosk_of};
 use lift_base::text::{letter_of_word, number_of_word, party_of_words};
-use lift_base::{Body, Floor, Letter, Number, Party, Position, Stop, Terminal};
+use lift_base::{
+    Body, FIRST_KIOSK, Floor, Letter, MOST_CARS, Number, Party, Position, Stop, Terminal,
+};
 use lift_building::Building;
 use lift_policy::Command;
 
@@ -88,7 +90,7 @@ pub fn ask_of(first: &str, others: &[&str]) -> Option<ScriptAsk>
 /// The terminal of a kiosk of the building.
 fn terminal_of(building: &Building, kiosk: u8) -> Terminal
     requires { kiosk < length building.now.kiosks }
-    ensures { result ≡ 16 + kiosk }
+    ensures { result ≡ FIRST_KIOSK + kiosk }
 {
     let _limit = building.kiosks();
     match Terminal::of_kiosk(kiosk) {
@@ -113,7 +115,7 @@ impl ScriptAsk {
     pub fn command(&self, building: &Building) -> Command
         requires { IsKnownAsk building.now self.now }
         ensures asked { result ≡ asked_command self.now }
-        ensures inside { result.terminal < 16 + length building.now.kiosks }
+        ensures inside { result.terminal < MOST_CARS + length building.now.kiosks }
     {
         match *self {
             ScriptAsk::Place { car, position } => Command {

@@ -14,14 +14,14 @@ use crate::device_action::device_action_of;
 use crate::line::ScriptLine;
 use crate::query::query_of;
 use lift_base::text::{dir_of_word, number_up_to, words_of};
-use lift_base::{Dir, Floor};
+use lift_base::{Dir, Floor, LAST_KIOSK, MOST_FLOORS, MOST_KIOSKS, TOP_FLOOR};
 
 /// The floor, 0 to 63, that a word names.
 pub fn floor_of(word: &str) -> Option<Floor>
-    ensures some { IfSome result (λ floor. (word.now ≡ decimal floor) × (floor < 64)) }
-    ensures none { IfNone result ((floor : ℕ) → floor < 64 → word.now ≢ decimal floor) }
+    ensures some { IfSome result (λ floor. (word.now ≡ decimal floor) × (floor < MOST_FLOORS)) }
+    ensures none { IfNone result ((floor : ℕ) → floor < MOST_FLOORS → word.now ≢ decimal floor) }
 {
-    match number_up_to(word, 63) {
+    match number_up_to(word, TOP_FLOOR.into()) {
         Some(number) => Floor::new(number as u8),
         None => None,
     }
@@ -29,10 +29,10 @@ pub fn floor_of(word: &str) -> Option<Floor>
 
 /// The kiosk, 0 to 46, that a word names.
 pub fn kiosk_of(word: &str) -> Option<u8>
-    ensures some { IfSome result (λ kiosk. (word.now ≡ decimal kiosk) × (kiosk < 47)) }
-    ensures none { IfNone result ((kiosk : ℕ) → kiosk < 47 → word.now ≢ decimal kiosk) }
+    ensures some { IfSome result (λ kiosk. (word.now ≡ decimal kiosk) × (kiosk < MOST_KIOSKS)) }
+    ensures none { IfNone result ((kiosk : ℕ) → kiosk < MOST_KIOSKS → word.now ≢ decimal kiosk) }
 {
-    match number_up_to(word, 46) {
+    match number_up_to(word, LAST_KIOSK.into()) {
         Some(number) => Some(number as u8),
         None => None,
     }
@@ -40,9 +40,9 @@ pub fn kiosk_of(word: &str) -> Option<u8>
 
 /// The floor and the direction that two words name.
 pub fn at_of(floor: &str, dir: &str) -> Option<(Floor, Dir)>
-    ensures some { IfSome result (λ at. (floor.now ≡ decimal at.0) × (at.0 < 64)
+    ensures some { IfSome result (λ at. (floor.now ≡ decimal at.0) × (at.0 < MOST_FLOORS)
         × (dir.now ≡ dir_text at.1)) }
-    ensures none { IfNone result (((at : ℕ) → at < 64 → floor.now ≢ decimal at)
+    ensures none { IfNone result (((at : ℕ) → at < MOST_FLOORS → floor.now ≢ decimal at)
         ⊎ ((to : Direction) → dir.now ≢ dir_text to)) }
 {
     let floor = floor_of(floor)?;

@@ -1,12 +1,13 @@
 //! What takes memory, and the evidence that none was left.
 
-ghost use Rattle.std.specs.Prelude.{◌≡◌, ◌≤◌, ◌<◌, ◌+◌, ◌++◌, ◌∷◌, [], length, vec_len, string_bytes};
-ghost use Rattle.std.specs.Prelude.{is_ok, if◌then◌else◌, IfOk, OnOk, OnErr, vec_capacity};
+ghost use Rattle.std.specs.Prelude.{◌≡◌, ◌≤◌, ◌<◌, ◌+◌, ◌*◌, ◌++◌, ◌∷◌, [], length, vec_len, is_ok};
+ghost use Rattle.std.specs.Prelude.{string_bytes, if◌then◌else◌, IfOk, OnOk, OnErr, vec_capacity};
 ghost use Rattle.std.specs.String.{string_capacity};
 ghost use Rattle.lift_desk.specs.Seats.{AreSeatsOf, IsClerkOf, OwesNothing, clerk_of, seats_from};
 ghost use Rattle.lift_disk.specs.Blank.{IsBlankDisk};
 ghost use Rattle.lift_disk.specs.Outcomes.{state_of};
 
+use lift_base::{LEAST_HALF, MOST_TERMINALS};
 use lift_desk::{Desk, DeskParts};
 use lift_disk::MemDisk;
 use std::alloc::Global;
@@ -88,7 +89,7 @@ pub(crate) fn empty_piece(alloc: Global) -> Result<String, NoMemory>
 
 /// A device in memory of this many sectors of zeros.
 pub(crate) fn empty_disk(alloc: Global, sectors: u32) -> Result<MemDisk, NoMemory>
-    requires { sectors ≤ 130 }
+    requires { sectors ≤ 2 * LEAST_HALF + 2 }
     ensures blank { IfOk result (λ disk. IsBlankDisk sectors (state_of disk)) }
 {
     match MemDisk::new(alloc, sectors) {
@@ -99,7 +100,7 @@ pub(crate) fn empty_disk(alloc: Global, sectors: u32) -> Result<MemDisk, NoMemor
 
 /// A desk of this many terminals, with all its seats.
 pub(crate) fn new_desk(alloc: Global, terminals: usize) -> Result<DeskParts, NoMemory>
-    requires { (1 ≤ terminals) × (terminals ≤ 63) }
+    requires { (1 ≤ terminals) × (terminals ≤ MOST_TERMINALS) }
     ensures count { IfOk result (λ parts. (length parts.desk ≡ terminals)
         × (vec_len parts.seats ≡ terminals)) }
     ensures seats { IfOk result (λ parts. parts.seats.items ≡ seats_from 0 parts.desk) }

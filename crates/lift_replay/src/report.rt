@@ -11,7 +11,8 @@ ghost use Rattle.lift_replay.specs.Report.{fault_text, refused_text, building_te
 use crate::refused::{NoMemory, add, add_char};
 use itoa::Buffer;
 use lift_base::{
-    Dir, Floor, Halt, Letter, MOST_CARS, Number, Party, Reason, Reply, Row, Stop, Terminal,
+    Dir, FIRST_KIOSK, Floor, Halt, Letter, MOST_CARS, Number, Party, Reason, Reply, Row, Stop,
+    Terminal,
 };
 use lift_building::BuildingFault;
 use lift_register::Register;
@@ -43,11 +44,11 @@ fn push_terminal(report: &mut String, terminal: Terminal) -> Result<(), NoMemory
         ++ terminal_text terminal) }
 {
     let index = terminal.get();
-    if index < 16 {
+    if index < FIRST_KIOSK {
         add_char(report, (b'A' + index) as char)
     } else {
         add_char(report, 'K')?;
-        push_number(report, u64::from(index - 16))
+        push_number(report, u64::from(index - FIRST_KIOSK))
     }
 }
 

@@ -20,6 +20,7 @@ use crate::report::push_cut;
 use crate::script::ReplayFault;
 use crate::source::Lines;
 use crate::station::{Station, keeper_over};
+use lift_base::MOST_CARS;
 use lift_base::text::Outflow;
 use lift_building::Building;
 use lift_desk::DeskParts;
@@ -210,7 +211,7 @@ pub fn add_segment<W: Outflow>(
         IfCut end (length lines.new.rest.now < length lines.old.rest.now)) }
     ensures small { IfOk result (λ end. IfCut end (length (string_bytes piece.new) < 32768)) }
 {
-    let terminals = 16 + usize::from(building.kiosks());
+    let terminals = MOST_CARS + usize::from(building.kiosks());
     let DeskParts { desk, seats, clerk } = new_desk(alloc, terminals)?;
     // (keeper and station have no names, which would each be a copy more)
     run_station(

@@ -1,7 +1,8 @@
 //! The group that a script runs between two power cuts: its terminals, and its clerk over a device
 //! in memory.
 
-ghost use Rattle.std.specs.Prelude.{◌≡◌, ◌+◌, length, false, [], IfOk};
+ghost use Rattle.std.specs.Prelude.{◌≡◌, ◌+◌, ◌*◌, length, false, [], IfOk};
+ghost use Rattle.lift_base.specs.declared.limits.TheConstants.{MOST_CARS};
 ghost use Rattle.lift_disk.specs.Disk.{IsUnarmed};
 ghost use Rattle.lift_disk.specs.Faults.{fuse_state_of};
 ghost use Rattle.lift_disk.specs.Outcomes.{IsLeftBy, state_of};
@@ -15,6 +16,7 @@ ghost use Rattle.lift_replay.specs.Shows.{Shows, IsFound};
 
 use crate::refused::{NoMemory, empty_disk};
 use crate::terminals::Terminals;
+use lift_base::{LEAST_HALF, MOST_CARS};
 use lift_building::Building;
 use lift_clerk::Clerk;
 use lift_desk::{ClerkSeat, Desk, Seat};
@@ -24,9 +26,6 @@ use lift_keeper::Keeper;
 use lift_policy::Etd;
 use std::alloc::Global;
 
-/// The sectors in each half of a script's disk.
-const HALF: u32 = 64;
-
 /// What a script plays on: a building with its terminals and the clerk, over a disk in memory.
 #[derive(Drop)]
 pub struct Station<'d, 'b> {
@@ -35,7 +34,7 @@ pub struct Station<'d, 'b> {
     pub clerk: Clerk<'d, 'b, FuseDisk, Etd>,
     ghost plan: { clerk.keeper.writer.plan ≡ building.now },
     ghost same_desk: { clerk.desk ≡ terminals.desk.now },
-    ghost count: { length terminals.seats.items ≡ 16 + length building.now.kiosks },
+    ghost count: { length terminals.seats.items ≡ MOST_CARS + length building.now.kiosks },
 }
 
 /// The keeper over a device in memory that fails no call by itself, and reads as a register of the
@@ -66,12 +65,12 @@ pub fn keeper_over(disk: FuseDisk, building: &Building) -> Keeper<'_, FuseDisk>
 /// A formatted device in memory, of two halves and the two sectors before them. It is refused only
 /// where the device takes its memory.
 pub fn first_disk(alloc: Global, building: &Building) -> Result<MemDisk, NoMemory>
-    ensures sectors { IfOk result (λ disk. length (state_of disk).image ≡ 130) }
+    ensures sectors { IfOk result (λ disk. length (state_of disk).image ≡ 2 * LEAST_HALF + 2) }
     ensures found { IfOk result (λ disk.
         IsFound building.now nothing_found (state_of disk).image) }
 {
-    let mut disk = empty_disk(alloc, 2 * HALF + 2)?;
-    match format(&mut disk, building.shape(HALF)) {
+    let mut disk = empty_disk(alloc, 2 * LEAST_HALF + 2)?;
+    match format(&mut disk, building.shape(LEAST_HALF)) {
         Ok(()) => Ok(disk),
         Err(_) => unreachable!(),
     }
@@ -92,7 +91,7 @@ impl<'d, 'b> Station<'d, 'b> {
         requires new { seats.items ≡ seats_from 0 desk.now }
         requires clerk_seated { IsClerkOf desk.now seat }
         requires answered { OwesNothing seat }
-        requires count { length desk.now ≡ 16 + length building.now.kiosks }
+        requires count { length desk.now ≡ MOST_CARS + length building.now.kiosks }
         requires plan { keeper.writer.plan ≡ building.now }
         requires empty_batch { keeper.state.batch ≡ [] }
         ensures building { result.building.now ≡ building.now }

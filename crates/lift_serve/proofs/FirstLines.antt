@@ -6,6 +6,7 @@ use Rattle.std.proofs.lemmas.Fmt.{IsAscii-decimal}
 use Rattle.std.proofs.lemmas.Grind.{common_steps}
 use Rattle.std.proofs.lemmas.Option.{IfSome_then}
 use Rattle.std.proofs.lemmas.Str.Ascii.{IsAscii-cons, IsAscii-nil}
+use Rattle.lift_base.specs.declared.limits.TheConstants.{MOST_CARS, MOST_KIOSKS}
 use Rattle.lift_base.specs.Text.{AreWords}
 use Rattle.lift_base.specs.lemmas.Words.{one_reading, same_text}
 use Rattle.lift_base.specs.lemmas.Texts.{none_weaker, pair, texts}
@@ -33,11 +34,11 @@ line_none r cars kiosks line words are none =
     none_weaker r _ _ (λ refuses terminal speaks. let same = one_reading line words speaks.words are speaks.spaced in refuses terminal (search rules)) none
 
 -- the words that name a terminal are two, in ASCII
-few_words : (cars kiosks : ℕ) (words : List (List ℕ)) (terminal : ℕ) → cars ≤ 16 → kiosks ≤ 47 → AreTerminalWords cars kiosks words terminal
+few_words : (cars kiosks : ℕ) (words : List (List ℕ)) (terminal : ℕ) → cars ≤ MOST_CARS → kiosks ≤ MOST_KIOSKS → AreTerminalWords cars kiosks words terminal
     → (length words ≤ 2) × AreAscii words
 few_words cars kiosks words terminal few many names = grind (arith, common_steps, IsAscii-cons, IsAscii-nil, IsAscii-decimal)
 
-pub names_few_words : (cars kiosks : ℕ) (line : List ℕ) → cars ≤ 16 → kiosks ≤ 47
+pub names_few_words : (cars kiosks : ℕ) (line : List ℕ) → cars ≤ MOST_CARS → kiosks ≤ MOST_KIOSKS
     → ((words : List (List ℕ)) → AreWords line words → AreAscii words → length line ≤ 64 → 6 < length words)
     → (terminal : ℕ) → SpeaksFor cars kiosks line terminal → ⊥
 names_few_words cars kiosks line few many none terminal speaks =

@@ -1,13 +1,14 @@
 -- What a connection's first line says.
 use Rattle.std.specs.Prelude.{ℕ, ◌≡◌, ◌<◌, ◌+◌, ◌⊎◌, List, [], ◌∷◌, codes}
 use Rattle.std.specs.Fmt.{decimal}
+use Rattle.lift_base.specs.declared.limits.TheConstants.{FIRST_KIOSK}
 use Rattle.lift_base.specs.Text.{AreWords, letter_text}
 use Rattle.lift_kiosk.specs.Lines.{IsShortLine}
 
--- the terminal of a kiosk: its number and 16
+-- the terminal of a kiosk: its number behind the cars
 abbrev pub IsKioskWord : (kiosks : ℕ) → List ℕ → (terminal : ℕ) → Type 0
 IsKioskWord kiosks word terminal = (kiosk : ℕ) × (word ≡ decimal kiosk) × (kiosk < kiosks)
-    × (terminal ≡ 16 + kiosk)
+    × (terminal ≡ FIRST_KIOSK + kiosk)
 
 -- the terminal of a car, by its letter
 abbrev pub IsCarWord : (cars : ℕ) → List ℕ → (terminal : ℕ) → Type 0

@@ -6,6 +6,7 @@ use Rattle.lift_disk.specs.Disk.{DiskState}
 use Rattle.lift_register.specs.Register.{RegisterState}
 use Rattle.lift_desk.specs.Seats.{clerk_of, seats_from}
 use Rattle.lift_keeper.specs.Keeper.{KeeperView}
+use Rattle.lift_base.specs.declared.limits.TheConstants.{MOST_CARS}
 use Rattle.lift_world.specs.declared.event.Taken.{Taken}
 use Rattle.lift_clerk.specs.Clerk.{ClerkState}
 use Rattle.lift_clerk.specs.History.{History}
@@ -27,7 +28,7 @@ pub record IsNewGroup {D P : Type 0} (state : D → DiskState) (policy : P) (kee
   pub begins : clerk.keeper ≡ keeper
   pub unused : clerk.seat ≡ clerk_of clerk.desk
   pub policy_is : clerk.policy ≡ policy
-  pub seats : length clerk.desk ≡ 16 + length keeper.writer.plan.kiosks
+  pub seats : length clerk.desk ≡ MOST_CARS + length keeper.writer.plan.kiosks
   pub leaves : LeavesSafe keeper.writer (state keeper.writer.device)
   pub parts : AreParts clerk a f
   pub first : IsFlusher f

@@ -12,6 +12,7 @@ use Rattle.lift_kiosk.specs.Lines.{Source}
 use Rattle.lift_kiosk.specs.Kiosk.{WantsCall, keeps_letter}
 use Rattle.lift_kiosk.specs.Port.{PortView}
 use Rattle.lift_kiosk.specs.Session.{Converses, Standing, standing}
+use Rattle.lift_base.specs.declared.limits.TheConstants.{FIRST_KIOSK}
 use Rattle.lift_kiosk.specs.declared.terms.End.{End}
 use Rattle.lift_kiosk.specs.declared.terms.LastLetter.{LastLetter}
 use Rattle.lift_kiosk.specs.declared.terms.Limits.{Limits}
@@ -29,9 +30,9 @@ abbrev pub IsVisitAs : (is_car : Bool) → End → (before after : Standing) →
 IsVisitAs true end before after = Converses WantsMove keeps_stop limits end before after
 IsVisitAs false end before after = Converses WantsCall keeps_letter limits end before after
 
--- a session of the terminal: terminals below 16 are cars
+-- a session of the terminal: those of the cars come first
 abbrev pub IsVisit : (terminal : ℕ) → End → (before after : Standing) → Type 0
-IsVisit terminal end before after = IsVisitAs (nat_lt terminal 16) end before after
+IsVisit terminal end before after = IsVisitAs (nat_lt terminal FIRST_KIOSK) end before after
 
 -- one session: why it ended, and where it stood before and after
 pub record SessionVisit : Type 0 where

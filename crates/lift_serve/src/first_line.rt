@@ -5,19 +5,19 @@ ghost use Rattle.std.specs.Str.Lines.{strip_carriage_return};
 ghost use Rattle.lift_kiosk.specs.Lines.{Keeps65};
 ghost use Rattle.lift_serve.specs.FirstLine.{AreTerminalWords, IsCarWord, IsKioskWord, SpeaksFor};
 
-use lift_base::Terminal;
 use lift_base::text::{letter_of_word, number_up_to};
+use lift_base::{LAST_KIOSK, MOST_CARS, MOST_KIOSKS, Terminal};
 use lift_building::Building;
 use lift_kiosk::{Line, without_return, words_in};
 
 /// The kiosk of a building with so many that a word names.
 #[tactic(auto, using(std::proofs::lemmas::Fmt::decimal_injective))]
 fn kiosk_named(word: &str, kiosks: u8) -> Option<Terminal>
-    requires { kiosks ≤ 47 }
+    requires { kiosks ≤ MOST_KIOSKS }
     ensures some { IfSome result (λ terminal. IsKioskWord kiosks word.now terminal) }
     ensures none { IfNone result ((terminal : ℕ) → IsKioskWord kiosks word.now terminal → ⊥) }
 {
-    let index = number_up_to(word, 46)?;
+    let index = number_up_to(word, LAST_KIOSK.into())?;
     if index >= u32::from(kiosks) {
         return None;
     }
@@ -26,7 +26,7 @@ fn kiosk_named(word: &str, kiosks: u8) -> Option<Terminal>
 
 /// The car of a building with so many that a word names.
 fn car_named(word: &str, cars: u8) -> Option<Terminal>
-    requires { cars ≤ 16 }
+    requires { cars ≤ MOST_CARS }
     ensures some { IfSome result (λ terminal. IsCarWord cars word.now terminal) }
     ensures none { IfNone result ((terminal : ℕ) → IsCarWord cars word.now terminal → ⊥) }
 {
@@ -40,8 +40,8 @@ fn car_named(word: &str, cars: u8) -> Option<Terminal>
 /// The terminal that the words of a first line name.
 #[tactic(auto, using(crate::proofs::FirstLines::pair_of, crate::proofs::FirstLines::kiosk_none))]
 fn named_by(words: &[&str], cars: u8, kiosks: u8) -> Option<Terminal>
-    requires cars { cars ≤ 16 }
-    requires kiosks { kiosks ≤ 47 }
+    requires cars { cars ≤ MOST_CARS }
+    requires kiosks { kiosks ≤ MOST_KIOSKS }
     ensures some { IfSome result (λ terminal.
         AreTerminalWords cars kiosks (map (λ word. word.now) words.now) terminal) }
     ensures none { IfNone result ((terminal : ℕ)

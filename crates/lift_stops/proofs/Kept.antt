@@ -6,6 +6,7 @@ use Rattle.std.proofs.lemmas.List.Folds.{list_any_at}
 use Rattle.std.proofs.lemmas.List.Sums.{sum_by-cons}
 use Rattle.lift_base.specs.Travel.{same_dir}
 use Rattle.lift_base.specs.History.{dir_of}
+use Rattle.lift_base.specs.declared.limits.TheConstants.{MOST_FLOORS, TOP_FLOOR}
 use Rattle.lift_base.specs.declared.travel.Dir.{Dir}
 use Rattle.lift_base.specs.declared.travel.Dir.TheVariants.{Up, Down}
 use Rattle.lift_base.specs.declared.travel.Pass.{Pass}
@@ -51,10 +52,10 @@ own_needed position row = rw (same_pass-self (pass_of position row)) (either row
     either true from to = rw (eq-eqb to to refl) refl
     either false from to = rw (eq-eqb from from refl) refl
 
-own_low : (row : Row) → HasFloors row → first_leg row < 64
+own_low : (row : Row) → HasFloors row → first_leg row < MOST_FLOORS
 own_low row floors = either row.aboard row.from row.to floors
   where
-    either : (aboard : Bool) (from to : ℕ) → All (λ leg. leg < 64) (cond aboard (to ∷ []) (from ∷ to ∷ [])) → cond aboard to from < 64
+    either : (aboard : Bool) (from to : ℕ) → All (λ leg. leg < MOST_FLOORS) (cond aboard (to ∷ []) (from ∷ to ∷ [])) → cond aboard to from < MOST_FLOORS
     either true from to low = low 0 0 (omega arith)
     either false from to low = low 0 0 (omega arith)
 
@@ -66,17 +67,17 @@ own_listed rows position k blank within floors =
     IsIn-filter (is_needed rows position) own (all_halts position.dir) (all_halts-all position.dir (pass_of position row) (first_leg row) (own_low row floors))
     (list_any_at (λ (other : Row). is_halt_of position other own) rows k blank within (own_needed position row))
 
-low_rank : (dir : Dir) (leg : ℕ) → leg < 64 → floor_rank dir leg ≤ 63
+low_rank : (dir : Dir) (leg : ℕ) → leg < MOST_FLOORS → floor_rank dir leg ≤ TOP_FLOOR
 low_rank Up leg low = omega (arith, low)
 low_rank Down leg low = omega arith
 
 -- a floor behind one ahead, as travelled, is ahead too
-ahead_after : (dir : Dir) (leg floor other : ℕ) → leg < 64 → floor_rank dir floor ≤ floor_rank dir leg → is_ahead dir floor other ≡ true → is_ahead dir leg other ≡ true
+ahead_after : (dir : Dir) (leg floor other : ℕ) → leg < MOST_FLOORS → floor_rank dir floor ≤ floor_rank dir leg → is_ahead dir floor other ≡ true → is_ahead dir leg other ≡ true
 ahead_after Up leg floor other low le ahead = le-leb other leg (omega (arith, le, leb-true other floor ahead))
 ahead_after Down leg floor other low le ahead = le-leb leg other (omega (arith, le, low, leb-true floor other ahead))
 
 -- no leg of the first pass is behind a floor that its first halt isn't behind
-first_ahead : (dir : Dir) (low : ℕ) (halts : List Halt) (leg floor : ℕ) → Rises (rank_of dir) low halts → IsIn (halt_at First leg) halts → leg < 64
+first_ahead : (dir : Dir) (low : ℕ) (halts : List Halt) (leg floor : ℕ) → Rises (rank_of dir) low halts → IsIn (halt_at First leg) halts → leg < MOST_FLOORS
     → ((h : Halt) → slice_get halts 0 ≡ Some h → h.pass ≡ First → is_ahead dir h.floor floor ≡ true) → is_ahead dir leg floor ≡ true
 first_ahead dir low [] leg floor rises member below first = absurd member
 first_ahead dir low (h ∷ hs) leg floor rises member below first = of h.pass refl

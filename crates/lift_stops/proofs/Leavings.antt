@@ -4,6 +4,7 @@ use Rattle.std.proofs.Math.ListN.{set, length-set}
 use Rattle.std.proofs.lemmas.Bool.{cases_Bool}
 use Rattle.std.proofs.lemmas.List.{get_or-set_same, get_or-set_other, length_push}
 use Rattle.std.proofs.lemmas.List.Sums.{sum_by_push}
+use Rattle.lift_base.specs.declared.limits.TheConstants.{MOST_FLOORS}
 use Rattle.lift_base.specs.declared.travel.Position.{Position}
 use Rattle.lift_base.specs.declared.travel.Halt.{Halt}
 use Rattle.lift_base.specs.declared.history.Row.{Row}
@@ -24,7 +25,7 @@ leaving-most position halt row few = elim (cases_Bool (same_halt (halt_at positi
   | inr elsewhere ↦ omega (arith, leaving-elsewhere position halt row elsewhere)
 ]
 
-pub one_leaves : (rows : List Row) (row : Row) (position : Position) (table : List ℕ) (place persons : ℕ) → row.to < 64 → row.party ≤ 15 → place ≡ place_of (halt_at position row row.to)
+pub one_leaves : (rows : List Row) (row : Row) (position : Position) (table : List ℕ) (place persons : ℕ) → row.to < MOST_FLOORS → row.party ≤ 15 → place ≡ place_of (halt_at position row row.to)
     → persons ≡ get_or table place 0 + row.party → AreLeaving rows position table → AreLeaving (rows ++ row ∷ []) position (set table place persons)
 one_leaves rows row position table place persons low few place-is persons-is leaving =
     let goal : Halt = halt_at position row row.to in

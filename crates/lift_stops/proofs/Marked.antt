@@ -14,6 +14,7 @@ use Rattle.std.proofs.Math.ListN.{set}
 use Rattle.std.proofs.lemmas.List.{take_more, take_all, append-nil, get_or-set_same, get_or-set_other}
 use Rattle.std.proofs.lemmas.List.Elements.{filter_agree, filter-append}
 use Rattle.lift_base.specs.Travel.{pass_number, reverse_of}
+use Rattle.lift_base.specs.declared.limits.TheConstants.{MOST_FLOORS}
 use Rattle.lift_base.specs.declared.travel.Dir.{Dir}
 use Rattle.lift_base.specs.declared.travel.Dir.TheVariants.{Up, Down}
 use Rattle.lift_base.specs.declared.travel.Pass.{Pass}
@@ -53,7 +54,7 @@ first_among : (xs : List ℕ) (n : ℕ) → xs ≡ range_with_len 0 n → (p q :
 first_among xs n is p q k within kept passed none agree =
     rw is (first_kept p q k 0 n (omega arith) (omega (arith, within)) kept passed none (λ i below. agree i (omega (arith, below))))
 
-places-are : places ≡ range_with_len 0 64
+places-are : places ≡ range_with_len 0 MOST_FLOORS
 unfolding places
 places-are = refl
 
@@ -70,30 +71,30 @@ abbrev pub flipped : ℕ → ℕ → ℕ
 flipped set floor = bit_xor set (1 * 2 ^ floor % 2 ^ 64)
 
 -- a floor that was there is gone
-flipped-same : (set floor : ℕ) → floor < 64 → bit_at set floor ≡ 1 → bit_at (flipped set floor) floor ≡ 0
+flipped-same : (set floor : ℕ) → floor < MOST_FLOORS → bit_at set floor ≡ 1 → bit_at (flipped set floor) floor ≡ 0
 flipped-same set floor below there =
     let one : bit_at (1 * 2 ^ floor % 2 ^ 64) floor ≡ 1 = bit_at_set_same w64 0 floor below in
     omega (arith, bit_at_xor set (1 * 2 ^ floor % 2 ^ 64) floor, there, one)
 
-flipped-other : (set floor other : ℕ) → floor < 64 → other ≢ floor → bit_at (flipped set floor) other ≡ bit_at set other
+flipped-other : (set floor other : ℕ) → floor < MOST_FLOORS → other ≢ floor → bit_at (flipped set floor) other ≡ bit_at set other
 flipped-other set floor other below differs =
     let none : bit_at (1 * 2 ^ floor % 2 ^ 64) other ≡ 0 = bit_at_set_other w64 0 floor below other differs ∙ bit_at-zero other in
     omega (arith, bit_at_xor set (1 * 2 ^ floor % 2 ^ 64) other, none)
 
-pub rank_below : (dir : Dir) (place : ℕ) → place < 64 → floor_rank dir place < 64
+pub rank_below : (dir : Dir) (place : ℕ) → place < MOST_FLOORS → floor_rank dir place < MOST_FLOORS
 rank_below Up place below = below
 rank_below Down place below = omega arith
 
-pub rank_twice : (dir : Dir) (place : ℕ) → place < 64 → floor_rank dir (floor_rank dir place) ≡ place
+pub rank_twice : (dir : Dir) (place : ℕ) → place < MOST_FLOORS → floor_rank dir (floor_rank dir place) ≡ place
 rank_twice Up place below = refl
 rank_twice Down place below = omega (arith, below)
 
 -- the first floor of a set in a direction, and the others
-marked-first : (dir : Dir) (set others floor : ℕ) → floor < 64 → has_bit set floor ≡ true → ((place : ℕ) → place < floor_rank dir floor → has_bit set (floor_rank dir place) ≡ false)
-    → has_bit others floor ≡ false → ((other : ℕ) → other < 64 → other ≢ floor → has_bit others other ≡ has_bit set other) → marked dir set ≡ floor_rank dir floor ∷ marked dir others
+marked-first : (dir : Dir) (set others floor : ℕ) → floor < MOST_FLOORS → has_bit set floor ≡ true → ((place : ℕ) → place < floor_rank dir floor → has_bit set (floor_rank dir place) ≡ false)
+    → has_bit others floor ≡ false → ((other : ℕ) → other < MOST_FLOORS → other ≢ floor → has_bit others other ≡ has_bit set other) → marked dir set ≡ floor_rank dir floor ∷ marked dir others
 marked-first dir set others floor low there first gone stay =
     let back = rank_twice dir floor low in
-    first_among places 64 places-are (λ place. has_bit set (floor_rank dir place)) (λ place. has_bit others (floor_rank dir place)) (floor_rank dir floor) (rank_below dir floor low)
+    first_among places MOST_FLOORS places-are (λ place. has_bit set (floor_rank dir place)) (λ place. has_bit others (floor_rank dir place)) (floor_rank dir floor) (rank_below dir floor low)
     (ap (has_bit set) back ∙ there) (ap (has_bit others) back ∙ gone) first
     (λ i below other. stay (floor_rank dir i) (rank_below dir i below) (λ same. other (sym (rank_twice dir i below) ∙ ap (floor_rank dir) same)))
 
@@ -166,7 +167,7 @@ first-down set some fits =
     let (j, count, low, high) = leading_top 64 set some fits in
     let floor : ℕ = 63 - count_leading_zeros 64 set in
     let here : floor ≡ j = omega (arith, count) in
-    let below : floor < 64 = omega arith in
+    let below : floor < MOST_FLOORS = omega arith in
     marked-first Down set (flipped set floor) floor below
     (ap (has_bit set) here ∙ set_bit (bit_at set j) (top_bit j set low high))
     (λ place before. unset_bit (bit_at set (63 - place)) (bit_at_above set (suc j) (63 - place) high (omega (arith, count, before))))
@@ -187,7 +188,7 @@ or_true true = refl
 or_true false = refl
 
 -- the bit of a floor that joins, and those that stay
-pub bit_joins : (set floor place : ℕ) → floor < 64 → has_bit (bit_or set (1 * 2 ^ floor % 2 ^ 64)) place ≡ (has_bit set place || floor == place)
+pub bit_joins : (set floor place : ℕ) → floor < MOST_FLOORS → has_bit (bit_or set (1 * 2 ^ floor % 2 ^ 64)) place ≡ (has_bit set place || floor == place)
 bit_joins set floor place below = elim (cases_eq floor place) [
   | inl here ↦
       let bit : has_bit (bit_or set (1 * 2 ^ floor % 2 ^ 64)) place ≡ true = ap (λ (i : ℕ). has_bit (bit_or set (1 * 2 ^ floor % 2 ^ 64)) i) (sym here) ∙ set_bit (bit_at (bit_or set (1 * 2 ^ floor % 2 ^ 64)) floor) (bit_at_set_same w64 set floor below) in
@@ -269,8 +270,8 @@ place-below k a zero member = absurd member
 place-below k a (suc n) (inl same) = omega (arith, same)
 place-below k a (suc n) (inr later) = omega (arith, place-below k (a + 1) n later)
 
-places-below : (k : ℕ) → IsIn k places → k < 64
-places-below k member = omega (arith, place-below k 0 64 (subst (λ (xs : List ℕ). IsIn k xs) places-are member))
+places-below : (k : ℕ) → IsIn k places → k < MOST_FLOORS
+places-below k member = omega (arith, place-below k 0 MOST_FLOORS (subst (λ (xs : List ℕ). IsIn k xs) places-are member))
 
 pass_marked : (rows : List Row) (position : Position) (marks : Marks) (pass : Pass) → HasHalts rows position marks
     → halts_marked pass (dir_in position.dir pass) (set_in marks pass) ≡ filter (is_needed rows position) (halts_in position.dir pass)

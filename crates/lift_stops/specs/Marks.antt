@@ -4,6 +4,7 @@ use Rattle.std.specs.Prelude.{length, slice_index}
 use Rattle.std.specs.Int.{bit_at}
 use Rattle.std.specs.List.{range_with_len}
 use Rattle.lift_base.specs.Travel.{pass_number, reverse_of}
+use Rattle.lift_base.specs.declared.limits.TheConstants.{MOST_FLOORS}
 use Rattle.lift_base.specs.declared.travel.Dir.{Dir}
 use Rattle.lift_base.specs.declared.travel.Pass.{Pass}
 use Rattle.lift_base.specs.declared.travel.Pass.TheVariants.{First, Second, Third}
@@ -20,7 +21,7 @@ has_bit set place = bit_at set place == 1
 
 -- the places of a pass: how many floors a car that travels all of them reaches before
 unfoldable pub places : List ℕ
-places = range_with_len 0 64
+places = range_with_len 0 MOST_FLOORS
 
 -- the places of a pass in this direction whose floors are in a set, in order
 abbrev pub marked : Dir → ℕ → List ℕ
@@ -48,6 +49,6 @@ all_marked marks dir =
 -- Those halts are marked that some call needs.
 pub record HasHalts (rows : List Row) (position : Position) (marks : Marks) : Type 0 where
   pub size : length marks.sets ≡ 3
-  pub needed : (pass : Pass) (floor : ℕ) → floor < 64
+  pub needed : (pass : Pass) (floor : ℕ) → floor < MOST_FLOORS
       → has_bit (set_in marks pass) floor
       ≡ is_needed rows position (record { pass = pass; floor = floor })

@@ -1,5 +1,6 @@
 -- What a schedule stands for.
 use Rattle.std.specs.Prelude.{◌≡◌, ℕ, ◌≤◌, Bool, true, List, All, length}
+use Rattle.lift_base.specs.declared.limits.TheConstants.{MOST_WEIGHED}
 use Rattle.lift_base.specs.declared.travel.Halt.{Halt}
 use Rattle.lift_base.specs.declared.travel.Position.{Position}
 use Rattle.lift_base.specs.declared.travel.Stop.{Stop}
@@ -30,8 +31,8 @@ pub record AreListed (position : Position) (rows : List Row) (halts : List Halt)
   pub parties : All HasParty rows
   pub leaving : AreLeaving rows position table
 
--- A car has at most 33 calls. Where its schedule is listed, halts and table are those of the calls.
+-- A car has at most so many calls. Where its schedule is listed, halts and table are those of the calls.
 pub record IsPlanned (position : Position) (rows : List Row) (is_listed : Bool) (halts : List Halt)
     (table : List ℕ) : Type 0 where
-  pub few : length rows ≤ 33
+  pub few : length rows ≤ MOST_WEIGHED
   pub listed : is_listed ≡ true → AreListed position rows halts table

@@ -5,6 +5,7 @@ use Rattle.std.specs.Prelude.{option_map}
 use Rattle.std.specs.List.{list_any, range_with_len}
 use Rattle.lift_base.specs.Travel.{reverse_of, same_dir}
 use Rattle.lift_base.specs.History.{dir_of}
+use Rattle.lift_base.specs.declared.limits.TheConstants.{MOST_FLOORS, TOP_FLOOR}
 use Rattle.lift_base.specs.declared.travel.Dir.{Dir}
 use Rattle.lift_base.specs.declared.travel.Dir.TheVariants.{Up, Down}
 use Rattle.lift_base.specs.declared.travel.Pass.{Pass}
@@ -21,7 +22,7 @@ legs_of row = if row.aboard then row.to ∷ [] else row.from ∷ row.to ∷ []
 
 -- the legs are floors that a building may have
 abbrev pub HasFloors : Row → Type 0
-HasFloors row = All (λ leg. leg < 64) (legs_of row)
+HasFloors row = All (λ leg. leg < MOST_FLOORS) (legs_of row)
 
 abbrev pub first_leg : Row → ℕ
 first_leg row = if row.aboard then row.to else row.from
@@ -69,8 +70,8 @@ is_needed rows position halt = list_any (λ (row : Row). is_halt_of position row
 
 -- all floors, in a direction
 abbrev pub floors_along : Dir → List ℕ
-floors_along Up = range_with_len 0 64
-floors_along Down = map (λ floor. 63 - floor) (range_with_len 0 64)
+floors_along Up = range_with_len 0 MOST_FLOORS
+floors_along Down = map (λ floor. TOP_FLOOR - floor) (range_with_len 0 MOST_FLOORS)
 
 -- every halt of a pass, in the order of travel
 abbrev pub halts_in : Dir → Pass → List Halt

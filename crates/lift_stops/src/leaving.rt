@@ -7,25 +7,28 @@ ghost use Rattle.lift_stops.specs.StopList.{halt_at, pass_of};
 ghost use Rattle.lift_stops.specs.Leaving.{AreLeaving, HasParty, leaving_at, place_of};
 
 use crate::stops::pass_of;
-use lift_base::{Halt, Pass, Position, Row};
+use lift_base::{Halt, MOST_FLOORS, MOST_ROWS, MOST_WEIGHED, Pass, Position, Row};
 use std::marker::Model;
+
+/// The places of a table: one for each floor of each pass.
+const PLACES: usize = 3 * MOST_FLOORS;
 
 /// Where a halt stands in a table.
 fn place_of(halt: &Halt) -> usize
     ensures value { result ≡ place_of halt.now }
-    ensures limit { result < 192 }
-    ensures floor { halt.now.floor < 64 }
+    ensures limit { result < PLACES }
+    ensures floor { halt.now.floor < MOST_FLOORS }
 {
     let floor = usize::from(halt.floor.get());
-    64 * usize::from(halt.pass.number() - 1) + floor
+    MOST_FLOORS * usize::from(halt.pass.number() - 1) + floor
 }
 
 /// Where the halt stands at which the passengers of a call leave a car that makes it in this pass.
 fn goal_of(pass: Pass, row: &Row) -> usize
     ensures value { (position : PositionValue) → pass ≡ pass_of position row.now
         → result ≡ place_of (halt_at position row.now row.now.to) }
-    ensures limit { result < 192 }
-    ensures floor { row.now.to < 64 }
+    ensures limit { result < PLACES }
+    ensures floor { row.now.to < MOST_FLOORS }
 {
     place_of(&Halt {
         pass,
@@ -36,7 +39,7 @@ fn goal_of(pass: Pass, row: &Row) -> usize
 /// How many persons of a car's open calls leave at each halt.
 #[derive(Drop)]
 pub struct Leaving {
-    persons: [u16; 192],
+    persons: [u16; PLACES],
 }
 
 impl Model for Leaving {
@@ -52,12 +55,14 @@ impl Leaving {
     pub(crate) fn new() -> Self
         ensures { (position : PositionValue) → AreLeaving [] position result }
     {
-        Leaving { persons: [0; 192] }
+        Leaving {
+            persons: [0; PLACES],
+        }
     }
 
     /// Counts one call more, which a car makes in this pass.
     pub(crate) fn add(&mut self, pass: Pass, row: &Row)
-        ensures added { (rows : List RowValue) (position : PositionValue) → length rows ≤ 32
+        ensures added { (rows : List RowValue) (position : PositionValue) → length rows ≤ MOST_ROWS
             → pass ≡ pass_of position row.now → AreLeaving rows position self.old
             → AreLeaving (rows ++ row.now ∷ []) position self.new }
         ensures party { HasParty row.now }
@@ -70,7 +75,7 @@ impl Leaving {
 
     /// Who leaves where, of these calls of a car at this position, at most 33.
     pub fn of(rows: &[Row], position: &Position) -> Self
-        requires { length rows.now ≤ 33 }
+        requires { length rows.now ≤ MOST_WEIGHED }
         ensures leaving { AreLeaving rows.now position.now result }
         ensures parties { All HasParty rows.now }
     {

@@ -17,7 +17,7 @@ ghost use Rattle.lift_stops.specs.Leaving.{AreLeaving, HasParty};
 use crate::leaving::Leaving;
 use crate::stops::{is_ahead, pass_of};
 use arrayvec::ArrayVec;
-use lift_base::{Dir, Floor, Halt, MOST_HALTS, Pass, Position, Row};
+use lift_base::{Dir, Floor, Halt, MOST_FLOORS, MOST_HALTS, MOST_WEIGHED, Pass, Position, Row};
 
 /// The halts of a car, a set of floors for each pass. Bit n of a set stands for floor n.
 #[derive(Clone, Copy)]
@@ -35,7 +35,7 @@ fn place_of(pass: Pass) -> usize
 
 /// The halt at this floor in a pass.
 fn halt_at(pass: Pass, floor: u32) -> Halt
-    requires { floor < 64 }
+    requires { floor < MOST_FLOORS }
     ensures { result ≡ record { pass = pass; floor = floor } }
 {
     let floor = Floor::new(floor as u8).unwrap_or_default();
@@ -44,9 +44,9 @@ fn halt_at(pass: Pass, floor: u32) -> Halt
 
 /// A set with a floor.
 fn mark(set: u64, floor: Floor) -> u64
-    ensures bits { (place : ℕ) → place < 64
+    ensures bits { (place : ℕ) → place < MOST_FLOORS
         → has_bit result place ≡ (has_bit set place || floor == place) }
-    ensures floor { floor < 64 }
+    ensures floor { floor < MOST_FLOORS }
 {
     set | 1 << u32::from(floor.get())
 }
@@ -54,7 +54,7 @@ fn mark(set: u64, floor: Floor) -> u64
 /// The floors that a call still needs.
 // (of bits that are there in any case, so that a walk along calls need not branch)
 fn legs_of(row: &Row) -> u64
-    ensures bits { (place : ℕ) → place < 64
+    ensures bits { (place : ℕ) → place < MOST_FLOORS
         → has_bit result place ≡ list_any (λ leg. leg == place) (legs_of row.now) }
     ensures floors { HasFloors row.now }
 {
@@ -83,7 +83,7 @@ fn pass_tested(row: &Row, position: &Position) -> Pass
 /// The floor of a set that a car reaches first in this direction, and the set of the others.
 fn first_of(set: u64, dir: Dir) -> (u32, u64)
     requires { 0 < set }
-    ensures below { result.0 < 64 }
+    ensures below { result.0 < MOST_FLOORS }
     ensures first { marked dir set ≡ floor_rank dir result.0 ∷ marked dir result.1 }
 {
     match dir {
@@ -107,7 +107,7 @@ fn first_in(pass: Pass, dir: Dir, set: u64) -> Halt
 
 /// Appends the halts of a pass in this direction, in the order of travel.
 fn push_pass(halts: &mut ArrayVec<Halt, MOST_HALTS>, pass: Pass, dir: Dir, set: u64)
-    requires { length halts.old.items + length (marked dir set) ≤ 66 }
+    requires { length halts.old.items + length (marked dir set) ≤ MOST_HALTS }
     ensures { halts.new.items ≡ halts.old.items ++ halts_marked pass dir set }
 {
     let mut left = set;
@@ -154,7 +154,7 @@ impl Marks {
 
     /// Writes the halts of a car in this direction, in the order in which it makes them.
     fn write(&self, halts: &mut ArrayVec<Halt, MOST_HALTS>, dir: Dir)
-        requires { length (all_marked self.now dir) ≤ 66 }
+        requires { length (all_marked self.now dir) ≤ MOST_HALTS }
         ensures { halts.new.items ≡ all_marked self.now dir }
     {
         let [first, second, third] = self.sets;
@@ -184,7 +184,7 @@ fn marks_of(rows: &[Row], position: &Position) -> Marks
 
 /// The same. Those who leave at these halts join a table in which nobody leaves.
 fn marks_of_leaving(rows: &[Row], position: &Position, leaving: &mut Leaving) -> Marks
-    requires few { length rows.now ≤ 33 }
+    requires few { length rows.now ≤ MOST_WEIGHED }
     requires nobody { AreLeaving [] position.now leaving.old }
     ensures marks { HasHalts rows.now position.now result }
     ensures floors { All HasFloors rows.now }
@@ -210,7 +210,7 @@ pub fn first_halt(rows: &[Row], position: &Position) -> Option<Halt>
 /// Writes the halts that a car at this position still has to make for these calls, in the order in
 /// which it makes them.
 pub fn write_halts(halts: &mut ArrayVec<Halt, MOST_HALTS>, rows: &[Row], position: &Position)
-    requires { length rows.now ≤ 33 }
+    requires { length rows.now ≤ MOST_WEIGHED }
     ensures halts { halts.new.items ≡ stop_list rows.now position.now }
     ensures count { length halts.new.items ≤ 2 * length rows.now }
     ensures floors { All HasFloors rows.now }
@@ -225,7 +225,7 @@ pub fn write_list(
     rows: &[Row],
     position: &Position,
 )
-    requires { length rows.now ≤ 33 }
+    requires { length rows.now ≤ MOST_WEIGHED }
     ensures { AreListed position.now rows.now halts.new.items leaving.new }
 {
     *leaving = Leaving::new();

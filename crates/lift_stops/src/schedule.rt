@@ -14,11 +14,11 @@ use crate::leaving::Leaving;
 use crate::marks::write_list;
 use crate::stops::{insert_row, is_ahead, next_stop, pass_of, stop_list, stop_of};
 use arrayvec::ArrayVec;
-use lift_base::{Halt, MOST_HALTS, Pass, Position, Row, Stop, serve_rows};
+use lift_base::{Halt, MOST_HALTS, MOST_ROWS, MOST_WEIGHED, Pass, Position, Row, Stop, serve_rows};
 use std::marker::Model;
 
 fn copy_of(halts: &[Halt]) -> ArrayVec<Halt, MOST_HALTS>
-    requires { length halts.now ≤ 66 }
+    requires { length halts.now ≤ MOST_HALTS }
     ensures { result.items ≡ halts.now }
 {
     let mut copy = ArrayVec::new();
@@ -66,7 +66,7 @@ const FEW_ROWS: usize = 8;
 pub struct Schedule {
     position: Position,
     /// Those of a car, at most 32, or one more while it is weighed.
-    rows: ArrayVec<Row, 33>,
+    rows: ArrayVec<Row, MOST_WEIGHED>,
     is_listed: bool,
     /// Whether a new call was weighed by the list.
     is_weighed: bool,
@@ -111,7 +111,7 @@ impl Schedule {
 
     /// A call is allotted to the car.
     pub fn insert(&mut self, row: Row)
-        requires { length self.old.rows ≤ 32 }
+        requires { length self.old.rows ≤ MOST_ROWS }
         ensures { self.new ≡ record self.old { rows = self.old.rows ++ row ∷ [] } }
     {
         if self.is_listed {
@@ -194,7 +194,7 @@ impl Schedule {
     pub fn listed(&self) -> Option<Listed<'_>>
         ensures halts { IfSome result
             (λ listed. listed.halts.now ≡ stop_list self.now.rows self.now.position) }
-        ensures limit { IfSome result (λ listed. length listed.halts.now ≤ 66) }
+        ensures limit { IfSome result (λ listed. length listed.halts.now ≤ MOST_HALTS) }
         ensures leaving { IfSome result
             (λ listed. AreLeaving self.now.rows self.now.position listed.leaving.now) }
     {
@@ -210,7 +210,7 @@ impl Schedule {
     /// The halts that the car still has to make, in the order in which it makes them.
     pub fn halts(&self) -> ArrayVec<Halt, MOST_HALTS>
         ensures halts { result.items ≡ stop_list self.now.rows self.now.position }
-        ensures limit { length result.items ≤ 66 }
+        ensures limit { length result.items ≤ MOST_HALTS }
         ensures count { length result.items ≤ 2 * length self.now.rows }
         // No halt stands twice.
         ensures differ { AllDiffer result.items }
@@ -229,7 +229,7 @@ impl Schedule {
 
     /// The halts with one call more.
     pub fn halts_with(&self, row: &Row) -> ArrayVec<Halt, MOST_HALTS>
-        requires { length self.now.rows ≤ 32 }
+        requires { length self.now.rows ≤ MOST_ROWS }
         ensures { result.items ≡ stop_list (self.now.rows ++ row.now ∷ []) self.now.position }
     {
         let mut halts = self.halts();
@@ -258,7 +258,7 @@ impl Schedule {
     /// The open calls, in order of allotment.
     pub fn rows(&self) -> &[Row]
         ensures rows { result.now ≡ self.now.rows }
-        ensures limit { length result.now ≤ 33 }
+        ensures limit { length result.now ≤ MOST_WEIGHED }
     {
         self.rows.as_slice()
     }

@@ -11,7 +11,9 @@ ghost use Rattle.lift_stops.specs.StopList.{stop_list, stop_of, next_stop};
 
 use crate::marks::{first_halt, write_halts};
 use arrayvec::ArrayVec;
-use lift_base::{Dir, Floor, Halt, MOST_HALTS, Pass, Position, Row, Stop};
+use lift_base::{
+    Dir, Floor, Halt, MOST_FLOORS, MOST_HALTS, MOST_WEIGHED, Pass, Position, Row, Stop,
+};
 
 /// Whether a floor is at another one, or ahead of it in a direction.
 pub fn is_ahead(dir: Dir, floor: Floor, other: Floor) -> bool
@@ -62,7 +64,7 @@ pub fn stop_of(halt: Halt, position: Position) -> Stop
 /// Whether a car of this direction makes one halt before another.
 fn comes_before(dir: Dir, halt: &Halt, other: &Halt) -> bool
     ensures order { result ≡ nat_lt (rank_of dir halt.now) (rank_of dir other.now) }
-    ensures floors { halt.now.floor < 64 × other.now.floor < 64 }
+    ensures floors { halt.now.floor < MOST_FLOORS × other.now.floor < MOST_FLOORS }
 {
     let (here, there) = (halt.floor.get(), other.floor.get());
     if halt.pass != other.pass {
@@ -123,10 +125,10 @@ pub fn split_at<'h>(halts: &'h [Halt], dir: Dir, halt: &Halt) -> Split<'h>
 
 /// Puts a halt at its place, unless it is there already.
 fn insert_halt(halts: &mut ArrayVec<Halt, MOST_HALTS>, dir: Dir, halt: &Halt)
-    requires { array_vec_len halts.old < 66 }
+    requires { array_vec_len halts.old < MOST_HALTS }
     ensures halts { halts.new.items ≡ put (rank_of dir) halt.now halts.old.items }
     ensures count { array_vec_len halts.new ≤ array_vec_len halts.old + 1 }
-    ensures floor { halt.now.floor < 64 }
+    ensures floor { halt.now.floor < MOST_FLOORS }
 {
     let _floor = halt.floor.get();
     if let Err(at) = find_halt(halts, dir, halt) {
@@ -136,7 +138,7 @@ fn insert_halt(halts: &mut ArrayVec<Halt, MOST_HALTS>, dir: Dir, halt: &Halt)
 
 /// Puts the halts of a call at their places.
 pub fn insert_row(halts: &mut ArrayVec<Halt, MOST_HALTS>, position: &Position, row: &Row)
-    requires { array_vec_len halts.old < 65 }
+    requires { array_vec_len halts.old + 1 < MOST_HALTS }
     ensures halts { (rows : List RowValue) → halts.old.items ≡ stop_list rows position.now
         → halts.new.items ≡ stop_list (rows ++ row.now ∷ []) position.now }
     ensures count { array_vec_len halts.new ≤ array_vec_len halts.old + 2 }
@@ -155,7 +157,7 @@ pub fn insert_row(halts: &mut ArrayVec<Halt, MOST_HALTS>, position: &Position, r
 /// The halts that a car at this position still has to make for these calls, in the order in which
 /// it makes them.
 pub fn stop_list(rows: &[Row], position: Position) -> ArrayVec<Halt, MOST_HALTS>
-    requires { length rows.now ≤ 33 }
+    requires { length rows.now ≤ MOST_WEIGHED }
     ensures halts { result.items ≡ stop_list rows.now position }
     ensures count { length result.items ≤ 2 * length rows.now }
     // No halt stands twice.

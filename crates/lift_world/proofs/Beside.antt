@@ -5,6 +5,7 @@ use Rattle.std.proofs.lemmas.Bool.{false≢true, and_parts, not-true}
 use Rattle.std.proofs.lemmas.List.{append-nil, reverse-append}
 use Rattle.std.proofs.lemmas.List.Elements.{filter-append}
 use Rattle.std.proofs.lemmas.List.Sums.{length-filter}
+use Rattle.lift_base.specs.declared.limits.TheConstants.{MOST_BATCHES}
 use Rattle.lift_policy.specs.declared.command.Command.{Command}
 use Rattle.lift_world.specs.declared.event.Answer.{Answer}
 use Rattle.lift_world.specs.declared.event.Kept.{Kept}
@@ -110,7 +111,7 @@ module _ (w : World) (asked : List Command) (heard : List Answer) where
 
   abbrev taking_from : ℕ → Option ℕ → ℕ → Option Command → Option World
   taking_from terminal letter count found =
-      cond ((not (is_off w.power) && Rattle.std.specs.Prelude.nat_le (length w.queue) 4) && (nat_lt (count_by (is_answer_to terminal) w.answered) count && not (Rattle.std.specs.List.list_any (is_taken_of terminal) (unanswered w))))
+      cond ((not (is_off w.power) && Rattle.std.specs.Prelude.nat_le (length w.queue) MOST_BATCHES) && (nat_lt (count_by (is_answer_to terminal) w.answered) count && not (Rattle.std.specs.List.list_any (is_taken_of terminal) (unanswered w))))
       (option_and_then (taking (on_words w) letter) found) None
 
   take_beside : (terminal : ℕ) (letter : Option ℕ) → filter (asks terminal) asked ≡ filter (asks terminal) w.asked → next (on_words w) (Take terminal letter) ≡ option_map on_words (next w (Take terminal letter))

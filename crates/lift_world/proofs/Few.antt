@@ -7,6 +7,7 @@ use Rattle.std.proofs.lemmas.List.{length-append}
 use Rattle.std.proofs.lemmas.List.Elements.{All-nil, All-cons}
 use Rattle.lift_building.specs.Plan.{Plan}
 use Rattle.lift_register.specs.Register.{RegisterState}
+use Rattle.lift_base.specs.declared.limits.TheConstants.{MOST_ENTRIES, MOST_TERMINALS}
 use Rattle.lift_policy.specs.declared.command.Command.{Command}
 use Rattle.lift_world.specs.declared.event.Taken.{Taken}
 use Rattle.lift_world.specs.declared.event.Event.{Event}
@@ -55,7 +56,7 @@ pigeons (suc n) cs one none =
     omega arith
 
 -- no ask is of a terminal beyond
-beyond : (terminal : ℕ) (w : World) (event : Event) → 63 ≤ terminal → IsOfTerminal event → asked_by w terminal ≡ 0 → asked_by (unwrap_or (next w event) w) terminal ≡ 0
+beyond : (terminal : ℕ) (w : World) (event : Event) → MOST_TERMINALS ≤ terminal → IsOfTerminal event → asked_by w terminal ≡ 0 → asked_by (unwrap_or (next w event) w) terminal ≡ 0
 beyond terminal w event above of_terminal k =
     leads (λ (x : World). asked_by x terminal ≡ 0) w event (record {
       stays = k;
@@ -74,28 +75,28 @@ beyond terminal w event above of_terminal k =
       reopened = λ kept may is_reopen. k;
     })
   where
-    asked_one : (command : Command) (b : Bool) → eqb command.terminal terminal ≡ b → command.terminal < 63 → count_by (asks terminal) (w.asked ++ command ∷ []) ≡ 0
+    asked_one : (command : Command) (b : Bool) → eqb command.terminal terminal ≡ b → command.terminal < MOST_TERMINALS → count_by (asks terminal) (w.asked ++ command ∷ []) ≡ 0
     asked_one command true e below = let same = eqb-true command.terminal terminal e in absurd (omega arith)
     asked_one command false e below =
         let both = count_both (asks terminal) w.asked (command ∷ []) in
         let none : count_by (asks terminal) (command ∷ []) ≡ 0 = count_cons (asks terminal) command false e [] in
         omega arith
 
-run_beyond : (terminal : ℕ) (events : List Event) (w : World) → 63 ≤ terminal → AllByRecursion IsOfTerminal events → asked_by w terminal ≡ 0 → asked_by (run events w) terminal ≡ 0
+run_beyond : (terminal : ℕ) (events : List Event) (w : World) → MOST_TERMINALS ≤ terminal → AllByRecursion IsOfTerminal events → asked_by w terminal ≡ 0 → asked_by (run events w) terminal ≡ 0
 run_beyond terminal [] w above all k = k
 run_beyond terminal (event ∷ events) w above all k = run_beyond terminal events (unwrap_or (next w event) w) above all.1 (beyond terminal w event above all.0 k)
 
-queue_few : (queue : List SealedBatch) → length (in_queue queue) ≤ 63 → All (λ (b : SealedBatch). length b.commands ≤ 63) queue
-queue_few [] few = All-nil (λ (b : SealedBatch). length b.commands ≤ 63)
+queue_few : (queue : List SealedBatch) → length (in_queue queue) ≤ MOST_TERMINALS → All (λ (b : SealedBatch). length b.commands ≤ MOST_ENTRIES) queue
+queue_few [] few = All-nil (λ (b : SealedBatch). length b.commands ≤ MOST_ENTRIES)
 queue_few (b ∷ queue) few =
     let whole = length-append b.commands (in_queue queue) in
-    All-cons (λ (x : SealedBatch). length x.commands ≤ 63) b queue (omega arith) (queue_few queue (omega arith))
+    All-cons (λ (x : SealedBatch). length x.commands ≤ MOST_ENTRIES) b queue (omega arith) (queue_few queue (omega arith))
 
 pub holds_few : (building : Plan) (base : RegisterState) (events : List Event) → AllByRecursion IsOfTerminal events → HoldsFew (run events (start building base))
 holds_few building base events all =
     let w : World = run events (start building base) in
-    let few : length (unanswered w) ≤ 63 =
-    pigeons 63 (unanswered w) (λ t. (all_ask_one_by_one building base events t).one_on_its_way) (λ t above.
+    let few : length (unanswered w) ≤ MOST_TERMINALS =
+    pigeons MOST_TERMINALS (unanswered w) (λ t. (all_ask_one_by_one building base events t).one_on_its_way) (λ t above.
     let k = (all_ask_one_by_one building base events t).answered in
     let none = run_beyond t events (start building base) above all refl in
     omega arith) in
@@ -104,5 +105,5 @@ holds_few building base events all =
     let c = length-append (w.due ++ w.flight.commands ++ in_queue w.queue) w.taken in
     record {
       on_their_way = few;
-      batches = All-cons (λ (x : SealedBatch). length x.commands ≤ 63) w.flight w.queue (omega arith) (queue_few w.queue (omega arith));
+      batches = All-cons (λ (x : SealedBatch). length x.commands ≤ MOST_ENTRIES) w.flight w.queue (omega arith) (queue_few w.queue (omega arith));
     }

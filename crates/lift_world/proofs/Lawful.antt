@@ -17,6 +17,7 @@ use Rattle.lift_building.specs.Plan.{Plan, IsBuilding, serves_floor}
 use Rattle.lift_register.specs.Register.{RegisterState, kept_of, register_of}
 use Rattle.lift_register.specs.Fits.{Fits}
 use Rattle.lift_register.specs.lemmas.Laws.{IsRecord-fitting}
+use Rattle.lift_base.specs.declared.limits.TheConstants.{LAST_TERMINAL}
 use Rattle.lift_policy.specs.declared.command.Command.{Command}
 use Rattle.lift_policy.specs.Laws.{IsTypedBody, Joins}
 use Rattle.lift_policy.specs.Step.{State, is_same}
@@ -45,7 +46,7 @@ party_typed (Place floor dir) from to car party typed same = absurd (false≢tru
 
 command_typed : (terminal number of_terminal of_number : ℕ) → IsTypedCommand terminal number → of_terminal ≡ terminal → of_number ≡ number → IsTypedCommand of_terminal of_number
 command_typed terminal number t n k e f =
-    record { terminal_range = subst (λ (x : ℕ). x ≤ 62) (sym e) k.terminal_range; number_range = subst (λ (x : ℕ). x ≤ 16777215) (sym f) k.number_range }
+    record { terminal_range = subst (λ (x : ℕ). x ≤ LAST_TERMINAL) (sym e) k.terminal_range; number_range = subst (λ (x : ℕ). x ≤ 16777215) (sym f) k.number_range }
 
 -- an entry that keeps a typed command, and fits, is typed
 entry_typed : (building : Plan) (register : RegisterState) (terminal number : ℕ) (body : Body) (e : Entry) → IsBuilding building → IsTypedCommand terminal number → IsTypedBody body

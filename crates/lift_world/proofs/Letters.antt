@@ -3,6 +3,7 @@ use Rattle.std.proofs.Common.{ℕ, ◌≡◌, ◌<◌, ◌⊎◌, Bool, true, fa
 use Rattle.std.specs.Prelude.{Contains}
 use Rattle.std.proofs.lemmas.Bool.{false≢true, and_parts, eqb-true, eq-eqb}
 use Rattle.std.proofs.lemmas.List.Elements.{All-weaker, Contains-append_right, Contains-append_cases}
+use Rattle.lift_base.specs.declared.limits.TheConstants.{MOST_FLOORS}
 use Rattle.lift_base.specs.declared.history.Entry.{Entry}
 use Rattle.lift_base.specs.declared.history.Entry.TheVariants.{Allot, Stop as Stopping}
 use Rattle.lift_base.specs.declared.history.Row.{Row}
@@ -22,8 +23,8 @@ module _ (building : Plan) (base : RegisterState) (entries : List Entry) (kiosk 
   in_order r =
       let from_is : r.row.from ≡ from = ap (λ (x : Row). x.from) r.is in
       let to_is : r.row.to ≡ to = ap (λ (x : Row). x.to) r.is in
-      stops_in_order (rows_of (register_of base entries) car) r.row r.held (λ e. good.apart (sym from_is ∙ e ∙ to_is)) (subst (λ n. n < 64) (sym from_is) good.from_below)
-      (subst (λ n. n < 64) (sym to_is) good.to_below)
+      stops_in_order (rows_of (register_of base entries) car) r.row r.held (λ e. good.apart (sym from_is ∙ e ∙ to_is)) (subst (λ n. n < MOST_FLOORS) (sym from_is) good.from_below)
+      (subst (λ n. n < MOST_FLOORS) (sym to_is) good.to_below)
 
   still_call : IsRow base entries car (waiting_row kiosk number from to car party) ⊎ IsDoneCall base entries car (waiting_row kiosk number from to car party)
       → StillNames base entries (Allot kiosk number from to car party)

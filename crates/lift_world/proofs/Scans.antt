@@ -8,6 +8,7 @@ use Rattle.std.proofs.Math.Seq.{take-length}
 use Rattle.std.proofs.lemmas.List.Folds.{list_any-append}
 use Rattle.lift_base.specs.declared.history.Entry.{Entry}
 use Rattle.lift_base.specs.declared.command.Reply.{Reply}
+use Rattle.lift_base.specs.declared.limits.TheConstants.{MOST_BATCHES}
 use Rattle.lift_policy.specs.declared.command.Command.{Command}
 use Rattle.lift_policy.specs.Eligible.{any_eligible}
 use Rattle.lift_policy.specs.Step.{State}
@@ -34,13 +35,13 @@ one_more w command d =
 pub found_still : (w : World) (command : Command) (d : Decision) (other : Command) → TakeFinds w other.terminal other → other.terminal ≢ command.terminal → TakeFinds (deciding w command d) other.terminal other
 found_still w command d other finds apart =
     let test = is_taken_of other.terminal in
-    let may = and_parts (not (is_off w.power) && nat_le (length w.queue) 4) (is_waiting w other.terminal) finds.0 in
+    let may = and_parts (not (is_off w.power) && nat_le (length w.queue) MOST_BATCHES) (is_waiting w other.terminal) finds.0 in
     let waits = and_parts (nat_lt (count_by (is_answer_to other.terminal) w.answered) (count_by (asks other.terminal) w.asked)) (not (list_any test (unanswered w))) may.1 in
     let none : list_any test (unanswered w) ≡ false = not-true (list_any test (unanswered w)) waits.1 in
     let still : list_any test (unanswered (deciding w command d)) ≡ false =
     ap (list_any test) (one_more w command d) ∙ list_any-append test (unanswered w) (taken_as command d.reply ∷ [])
     ∙ or_from (list_any test (unanswered w)) (eqb command.terminal other.terminal || false) none (or_from (eqb command.terminal other.terminal) false (ne_eqb command.terminal other.terminal (λ e. apart (sym e))) refl) in
-    (and_from (not (is_off w.power) && nat_le (length w.queue) 4) _ may.0 (and_from (nat_lt (count_by (is_answer_to other.terminal) w.answered) (count_by (asks other.terminal) w.asked)) _ waits.0 (not_from_false _ still)), finds.1)
+    (and_from (not (is_off w.power) && nat_le (length w.queue) MOST_BATCHES) _ may.0 (and_from (nat_lt (count_by (is_answer_to other.terminal) w.answered) (count_by (asks other.terminal) w.asked)) _ waits.0 (not_from_false _ still)), finds.1)
 
 all_found_still : (w : World) (command : Command) (d : Decision) (others : List Command) → AllByRecursion (λ (c : Command). c.terminal ≢ command.terminal) others → AreFound w others → AreFound (deciding w command d) others
 all_found_still w command d [] apart found = tt

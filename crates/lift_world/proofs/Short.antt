@@ -7,6 +7,7 @@ use Rattle.std.proofs.lemmas.List.{length-append, length-take, length-drop, take
 use Rattle.std.proofs.lemmas.List.Elements.{All-head, All-tail}
 use Rattle.lift_building.specs.Plan.{Plan}
 use Rattle.lift_register.specs.Register.{RegisterState}
+use Rattle.lift_base.specs.declared.limits.TheConstants.{MOST_ENTRIES, MOST_TERMINALS}
 use Rattle.lift_policy.specs.declared.command.Command.{Command}
 use Rattle.lift_policy.specs.lemmas.Joins.{Step-joins}
 use Rattle.lift_world.specs.declared.event.Taken.{Taken}
@@ -38,12 +39,12 @@ counted_push : (low : ℕ) (queue : List SealedBatch) (b : SealedBatch) → b.up
 counted_push low [] b le h = (le, tt)
 counted_push low (x ∷ queue) b le h = (h.0, counted_push x.upto queue b le h.1)
 
-short_by : (low : ℕ) (queue : List SealedBatch) → AreCounted low queue → All (λ (b : SealedBatch). length b.commands ≤ 63) queue → AreShort low queue
+short_by : (low : ℕ) (queue : List SealedBatch) → AreCounted low queue → All (λ (b : SealedBatch). length b.commands ≤ MOST_ENTRIES) queue → AreShort low queue
 short_by low [] counted few = tt
 short_by low (b ∷ queue) counted few =
     let one = counted.0 in
-    let at = All-head (λ (x : SealedBatch). length x.commands ≤ 63) b queue few in
-    (omega arith, short_by b.upto queue counted.1 (All-tail (λ (x : SealedBatch). length x.commands ≤ 63) b queue few))
+    let at = All-head (λ (x : SealedBatch). length x.commands ≤ MOST_ENTRIES) b queue few in
+    (omega arith, short_by b.upto queue counted.1 (All-tail (λ (x : SealedBatch). length x.commands ≤ MOST_ENTRIES) b queue few))
 
 -- a decision accepts at most one entry
 decided_one : (w : World) (command : Command) (letter : Rattle.std.specs.Prelude.Option ℕ) (d : Decision) → decided w.building (state_of w) command.terminal command.number command.body letter ≡ Rattle.std.specs.Prelude.Some d
@@ -62,30 +63,30 @@ decided_one w command letter d made =
 
 -- where the first queued batch begins, and that no batch has more entries than commands; after a fault or a cut no more than 63
 pub record Counts (accepted safe sealed : ℕ) (flight : SealedBatch) (phase : Phase) (queue : List SealedBatch) (power : Power) (taken : List Taken) : Type 0 where
-  pub flying : flight.upto ≤ safe + 63
+  pub flying : flight.upto ≤ safe + MOST_ENTRIES
   pub begins : ℕ
   pub behind : cond (is_idle phase) safe flight.upto ≤ begins
   pub first : is_running power ≡ true → begins ≡ cond (is_idle phase) safe flight.upto
   pub ends : is_off power ≡ false → last_end begins queue ≡ sealed
   pub counted : AreCounted begins queue
   pub gathered : is_off power ≡ false → accepted ≤ sealed + length taken
-  pub lost : is_off power ≡ true → accepted ≤ sealed + 63
+  pub lost : is_off power ≡ true → accepted ≤ sealed + MOST_ENTRIES
 
 abbrev pub AreFew : World → Type 0
 AreFew w = Counts (length w.accepted) w.safe w.sealed w.flight w.phase w.queue w.power w.taken
 
-taken_few : (w : World) → HoldsFew w → length w.taken ≤ 63
+taken_few : (w : World) → HoldsFew w → length w.taken ≤ MOST_TERMINALS
 taken_few w few =
     let whole = length-append (w.due ++ w.flight.commands ++ in_queue w.queue) w.taken in
     let all = few.on_their_way in
     omega arith
 
-first_few : (w : World) (batch : SealedBatch) (rest : List SealedBatch) → HoldsFew w → w.queue ≡ batch ∷ rest → length batch.commands ≤ 63
+first_few : (w : World) (batch : SealedBatch) (rest : List SealedBatch) → HoldsFew w → w.queue ≡ batch ∷ rest → length batch.commands ≤ MOST_ENTRIES
 first_few w batch rest few at =
-    All-head (λ (x : SealedBatch). length x.commands ≤ 63) batch rest
-    (subst (λ (q : List SealedBatch). All (λ (x : SealedBatch). length x.commands ≤ 63) q) at (All-tail (λ (x : SealedBatch). length x.commands ≤ 63) w.flight w.queue few.batches))
+    All-head (λ (x : SealedBatch). length x.commands ≤ MOST_ENTRIES) batch rest
+    (subst (λ (q : List SealedBatch). All (λ (x : SealedBatch). length x.commands ≤ MOST_ENTRIES) q) at (All-tail (λ (x : SealedBatch). length x.commands ≤ MOST_ENTRIES) w.flight w.queue few.batches))
 
-gathered_few : (w : World) (b : Bool) → is_off w.power ≡ b → HoldsFew w → AreFew w → length w.accepted ≤ w.sealed + 63
+gathered_few : (w : World) (b : Bool) → is_off w.power ≡ b → HoldsFew w → AreFew w → length w.accepted ≤ w.sealed + MOST_ENTRIES
 gathered_few w true e few k = k.lost e
 gathered_few w false e few k = let t = taken_few w few in let g = k.gathered e in omega arith
 
@@ -254,6 +255,6 @@ holds_few_entries building base events all =
       begins = k.begins;
       behind = k.behind;
       first = k.first;
-      queued = short_by k.begins w.queue k.counted (All-tail (λ (x : SealedBatch). length x.commands ≤ 63) w.flight w.queue few.batches);
+      queued = short_by k.begins w.queue k.counted (All-tail (λ (x : SealedBatch). length x.commands ≤ MOST_ENTRIES) w.flight w.queue few.batches);
       gathered = omega arith;
     }

@@ -6,6 +6,7 @@ use Rattle.std.proofs.lemmas.Bool.{ne_eqb, eq-eqb}
 use Rattle.std.proofs.lemmas.List.{append-nil, reverse-append}
 use Rattle.std.proofs.lemmas.List.Elements.{filter-append}
 use Rattle.std.proofs.lemmas.List.Sums.{length-filter, sum_by-append, sum_by-cons}
+use Rattle.lift_base.specs.declared.limits.TheConstants.{MOST_BATCHES}
 use Rattle.lift_policy.specs.declared.command.Command.{Command}
 use Rattle.lift_world.specs.declared.event.Answer.{Answer}
 use Rattle.lift_world.specs.declared.event.Taken.{Taken}
@@ -168,7 +169,7 @@ answered_before v asked before (c ∷ commands) more k = (
 )
 
 -- the asks of all stand, those before them in the list being older
-stand_from : (v : World) (before commands : List Command) → v.asked ≡ before ++ commands → is_off v.power ≡ false → length v.queue ≤ 4
+stand_from : (v : World) (before commands : List Command) → v.asked ≡ before ++ commands → is_off v.power ≡ false → length v.queue ≤ MOST_BATCHES
     → AreAnsweredBefore v before commands → AreFound v commands
 stand_from v before [] e on few k = tt
 stand_from v before (c ∷ commands) e on few k =

@@ -9,6 +9,7 @@ use Rattle.lift_base.specs.declared.command.Reply.{Reply}
 use Rattle.lift_policy.specs.Eligible.{any_eligible}
 use Rattle.lift_policy.specs.Step.{State}
 use Rattle.lift_policy.specs.Run.{Run}
+use Rattle.lift_base.specs.declared.limits.TheConstants.{MOST_BATCHES}
 use Rattle.lift_policy.specs.declared.command.Command.{Command}
 use Rattle.lift_world.specs.declared.event.Kept.{Kept}
 use Rattle.lift_world.specs.declared.event.Taken.{Taken}
@@ -101,8 +102,8 @@ AsksStandOn w = (terminal : ℕ) (command : Command) (event : Event) (after : Wo
 -- A look finds an ask exactly where it stands and at most four batches are queued.
 pub record LooksFindAsks (w : World) (terminal : ℕ) (command : Command) : Type 0 where
   pub stands : TakeFinds w terminal command → StandsAsk w terminal command
-  pub few_queued : TakeFinds w terminal command → length w.queue ≤ 4
-  pub finds : StandsAsk w terminal command → length w.queue ≤ 4 → TakeFinds w terminal command
+  pub few_queued : TakeFinds w terminal command → length w.queue ≤ MOST_BATCHES
+  pub finds : StandsAsk w terminal command → length w.queue ≤ MOST_BATCHES → TakeFinds w terminal command
 
 -- The queue grows by seals alone: so an ask that a look finds is found until it is taken, something
 -- is sealed or the power is cut.

@@ -2,6 +2,7 @@
 use Rattle.std.specs.Prelude.{◌≡◌, ◌≢◌, ◌≤◌, false, Some, List, [], ◌∷◌, ◌++◌, length, count_by}
 use Rattle.std.specs.Prelude.{IsTrue}
 use Rattle.std.specs.List.{AllByRecursion}
+use Rattle.lift_base.specs.declared.limits.TheConstants.{MOST_BATCHES}
 use Rattle.lift_policy.specs.declared.command.Command.{Command}
 use Rattle.lift_world.specs.declared.event.Answer.{Answer}
 use Rattle.lift_world.specs.declared.event.Taken.{Taken}
@@ -28,7 +29,7 @@ asked_on w commands heard = record w { asked = w.asked ++ commands; heard = hear
 -- Whatever these commands are, their terminals can hear their answers and ask them, and then the
 -- asks stand. Nobody else does anything.
 abbrev pub AsksStand : World → Type 0
-AsksStand w = (commands : List Command) → is_off w.power ≡ false → length w.queue ≤ 4
+AsksStand w = (commands : List Command) → is_off w.power ≡ false → length w.queue ≤ MOST_BATCHES
     → HearsInOrder w → AreAnswered w commands
     → (events : List Event) × (heard : List Answer)
     × AllByRecursion (λ (e : Event). IsTrue (is_of_terminals e)) events

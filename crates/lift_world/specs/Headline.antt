@@ -14,6 +14,7 @@ use Rattle.lift_register.specs.Fits.{IsPossibleLast}
 use Rattle.lift_register.specs.Register.{Call, calls_of, status}
 use Rattle.lift_register.specs.Status.{Done}
 use Rattle.lift_stops.specs.StopList.{StopsInOrder}
+use Rattle.lift_base.specs.declared.limits.TheConstants.{MOST_BATCHES, MOST_CARS, MOST_ENTRIES, MOST_TERMINALS}
 use Rattle.lift_world.specs.declared.event.Kept.{Kept}
 use Rattle.lift_world.specs.declared.event.Phase.TheVariants.{Idle}
 use Rattle.lift_world.specs.declared.event.Power.TheVariants.{Running}
@@ -25,11 +26,11 @@ use Rattle.lift_world.specs.World.{World, SealedBatch, no_batch, unplaced, outco
 use Rattle.lift_world.specs.World.{may_keep, acknowledged, is_off, asks, is_taken_of, is_answer_to}
 use Rattle.lift_world.specs.Next.{next, answer_of, unanswered}
 
--- a register of the building, with places for 16 cars and 63 terminals: the building allows what
+-- a register of the building, with places for all cars and terminals: the building allows what
 -- each terminal said last
 pub record IsOfBuilding (building : Plan) (register : RegisterState) : Type 0 where
-  pub row_count : length register.rows ≡ 16
-  pub last_count : length register.lasts ≡ 63
+  pub row_count : length register.rows ≡ MOST_CARS
+  pub last_count : length register.lasts ≡ MOST_TERMINALS
   pub lasts : (terminal : ℕ) (last : Last) → last_of register terminal ≡ Some last
       → IsPossibleLast building terminal last.content
 
@@ -128,8 +129,8 @@ pub record StoresGiven (w : World) : Type 0 where
 
 -- at most five batches are queued, and at most four while something is taken
 pub record QueuesFew (w : World) : Type 0 where
-  pub queued : length w.queue ≤ 5
-  pub in_hand : w.taken ≢ [] → length w.queue ≤ 4
+  pub queued : length w.queue ≤ MOST_BATCHES + 1
+  pub in_hand : w.taken ≢ [] → length w.queue ≤ MOST_BATCHES
 
 -- where no batch is being written, none is in flight or in doubt
 abbrev pub FliesNothingWhileIdle : World → Type 0
@@ -161,12 +162,12 @@ pub record AsksOneByOne (w : World) (terminal : ℕ) : Type 0 where
 abbrev pub AllAskOneByOne : World → Type 0
 AllAskOneByOne w = (terminal : ℕ) → AsksOneByOne w terminal
 
--- an ask is of one of the 63 terminals
+-- an ask is of one of the terminals
 abbrev pub IsOfTerminal : Event → Type 0
-IsOfTerminal (Ask terminal number body) = terminal < 63
+IsOfTerminal (Ask terminal number body) = terminal < MOST_TERMINALS
 IsOfTerminal event = Unit {0}
 
 -- no more commands are on their way than there are terminals, and so no batch holds more
 pub record HoldsFew (w : World) : Type 0 where
-  pub on_their_way : length (unanswered w) ≤ 63
-  pub batches : All (λ (b : SealedBatch). length b.commands ≤ 63) (w.flight ∷ w.queue)
+  pub on_their_way : length (unanswered w) ≤ MOST_TERMINALS
+  pub batches : All (λ (b : SealedBatch). length b.commands ≤ MOST_ENTRIES) (w.flight ∷ w.queue)

@@ -5,6 +5,7 @@ use Rattle.std.specs.Prelude.{filter, find, count_by, slice_get, Option, Some, N
 use Rattle.std.specs.Prelude.{option_and_then, unwrap_or}
 use Rattle.std.specs.List.{list_any, flat_map}
 use Rattle.lift_base.specs.declared.command.Reply.TheVariants.{Unknown}
+use Rattle.lift_base.specs.declared.limits.TheConstants.{MOST_BATCHES}
 use Rattle.lift_policy.specs.declared.command.Command.{Command}
 use Rattle.lift_world.specs.declared.event.Kept.{Kept}
 use Rattle.lift_world.specs.declared.event.Power.{Power}
@@ -50,7 +51,7 @@ is_waiting w terminal =
 
 -- the allocator decides on while four batches are sealed ahead, also after a fault
 abbrev pub may_take : World → ℕ → Bool
-may_take w terminal = not (is_off w.power) && nat_le (length w.queue) 4 && is_waiting w terminal
+may_take w terminal = not (is_off w.power) && nat_le (length w.queue) MOST_BATCHES && is_waiting w terminal
 
 -- the batch so far ends with what the decision accepted
 abbrev pub deciding : World → Command → Decision → World

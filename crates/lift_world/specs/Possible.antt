@@ -4,6 +4,7 @@ use Rattle.std.specs.Prelude.{◌∷◌, ◌++◌, length, map, filter, replicat
 use Rattle.std.specs.Prelude.{Some, None, find, IsTrue}
 use Rattle.std.specs.List.{AllByRecursion}
 use Rattle.lift_base.specs.declared.command.Body.{Body}
+use Rattle.lift_base.specs.declared.limits.TheConstants.{MOST_BATCHES}
 use Rattle.lift_world.specs.declared.event.Kept.{Kept}
 use Rattle.lift_world.specs.declared.event.Kept.TheVariants.{Safe, WithBatch}
 use Rattle.lift_world.specs.declared.event.Phase.TheVariants.{Idle, Writing, Synced, GateWritten}
@@ -142,7 +143,7 @@ pub record HearsTheNext (w : World) : Type 0 where
 -- ask that isn't answered and wasn't taken
 pub record CanBeLookedAt (w : World) (terminal : ℕ) : Type 0 where
   pub powered : is_off w.power ≡ false
-  pub few_queued : length w.queue ≤ 4
+  pub few_queued : length w.queue ≤ MOST_BATCHES
   pub asks_more : count_by (is_answer_to terminal) w.answered < count_by (asks terminal) w.asked
   pub not_taken : AllByRecursion (λ (c : Taken). c.terminal ≢ terminal) (unanswered w)
 

@@ -7,6 +7,7 @@ use Rattle.lift_base.specs.declared.command.Reply.{Reply}
 use Rattle.lift_policy.specs.Eligible.{any_eligible}
 use Rattle.lift_policy.specs.Step.{State}
 use Rattle.lift_policy.specs.Run.{Run}
+use Rattle.lift_base.specs.declared.limits.TheConstants.{MOST_BATCHES}
 use Rattle.lift_policy.specs.declared.command.Command.{Command}
 use Rattle.lift_world.specs.declared.event.Event.{Event}
 use Rattle.lift_world.specs.declared.event.Event.TheVariants.{Take, Seal, Pull, Fold}
@@ -87,7 +88,7 @@ AllocationsAreEvents w =
 
 -- With four batches queued and one in hand nothing is taken.
 abbrev pub FullQueueWaits : World → Type 0
-FullQueueWaits w = (terminal : ℕ) (letter : Option ℕ) → 4 < length w.queue
+FullQueueWaits w = (terminal : ℕ) (letter : Option ℕ) → MOST_BATCHES < length w.queue
     → next w (Take terminal letter) ≡ None
 
 -- the flusher between two turns: no batch is in flight

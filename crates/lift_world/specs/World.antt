@@ -2,6 +2,7 @@
 use Rattle.std.specs.Prelude.{ℕ, ◌==◌, ◌-◌, Bool, true, false, List, [], ◌∷◌, ◌++◌, take, drop}
 use Rattle.std.specs.Prelude.{replicate, Option, Some, None}
 use Rattle.std.specs.List.{flat_map}
+use Rattle.lift_base.specs.declared.limits.TheConstants.{MOST_CARS}
 use Rattle.lift_base.specs.declared.travel.Position.{Position}
 use Rattle.lift_base.specs.declared.history.Entry.{Entry}
 use Rattle.lift_base.specs.declared.history.Entry.TheVariants.{Allot, Stop as Stopping}
@@ -52,7 +53,7 @@ no_batch = record { commands = []; upto = 0 }
 
 -- no car has reported its position
 abbrev pub unplaced : List (Option Position)
-unplaced = replicate 16 None
+unplaced = replicate MOST_CARS None
 
 -- a fresh group over a journal of this register
 abbrev pub start : Plan → RegisterState → World

@@ -45,7 +45,9 @@ ghost use Rattle.lift_world.specs.Faults.{goes_on};
 ghost use Rattle.lift_world.specs.Outcomes.{moves_outcomes};
 
 use crate::event::Event;
-use lift_base::{Body, Number, Terminal};
+use lift_base::{
+    Body, LAST_TERMINAL, MOST_CARS, MOST_ENTRIES, MOST_TERMINALS, Number, TOP_FLOOR, Terminal,
+};
 use lift_policy::Policy;
 
 /// What holds at each point of every run, whatever comes, over whatever register of the building the
@@ -90,7 +92,7 @@ pub fn every_run()
 /// and written, and of answers that are heard. What was given stays given over all of them.
 pub fn events_are_possible()
     ensures events { (w : World) → EventsArePossible w }
-    ensures sectors { (count : ℕ) → 1 ≤ count → count ≤ 63 → FillsSectors count }
+    ensures sectors { (count : ℕ) → 1 ≤ count → count ≤ MOST_ENTRIES → FillsSectors count }
 {}
 
 /// Each take is one decision of the rules, and whatever the rules allow, under any policy, is a
@@ -214,18 +216,18 @@ pub fn definitions_are_exact()
         ⊎ WasDone base kiosk number from to car party) }
     ensures typed_call { (terminal number floor party : ℕ)
         → IsTypedEvent (Ask terminal number (Calling floor party))
-        ↔ ((terminal ≤ 62) × (number ≤ 16777215) × (floor ≤ 63) × (1 ≤ party) × (party ≤ 15)) }
+        ↔ ((terminal ≤ LAST_TERMINAL) × (number ≤ 16777215) × (floor ≤ TOP_FLOOR) × (1 ≤ party) × (party ≤ 15)) }
     ensures typed_stop { (terminal number floor : ℕ) (dir : Dir)
         → IsTypedEvent (Ask terminal number (Stopping floor dir))
-        ↔ ((terminal ≤ 62) × (number ≤ 16777215) × (floor ≤ 63)) }
+        ↔ ((terminal ≤ LAST_TERMINAL) × (number ≤ 16777215) × (floor ≤ TOP_FLOOR)) }
     ensures typed_place { (terminal number floor : ℕ) (dir : Dir)
         → IsTypedEvent (Ask terminal number (Place floor dir))
-        ↔ ((terminal ≤ 62) × (number ≤ 16777215) × (floor ≤ 63)) }
+        ↔ ((terminal ≤ LAST_TERMINAL) × (number ≤ 16777215) × (floor ≤ TOP_FLOOR)) }
     ensures typed_others { (event : Event)
         → ((terminal number : ℕ) (body : Body) → event ≢ Ask terminal number body)
         → IsTypedEvent event }
     ensures of_terminal { (terminal number : ℕ) (body : Body)
-        → IsOfTerminal (Ask terminal number body) ↔ (terminal < 63) }
+        → IsOfTerminal (Ask terminal number body) ↔ (terminal < MOST_TERMINALS) }
     ensures of_terminal_others { (event : Event)
         → ((terminal number : ℕ) (body : Body) → event ≢ Ask terminal number body)
         → IsOfTerminal event }
@@ -240,7 +242,7 @@ pub fn definitions_are_exact()
 pub fn premises_are_exact()
     ensures of_building { (building : Plan) (register : RegisterState)
         → IsOfBuilding building register
-        ↔ ((length register.rows ≡ 16) × (length register.lasts ≡ 63)
+        ↔ ((length register.rows ≡ MOST_CARS) × (length register.lasts ≡ MOST_TERMINALS)
         × ((terminal : ℕ) (last : Last) → last_of register terminal ≡ Some last
         → IsPossibleLast building terminal last.content)) }
     ensures fails_writing { (writes n : ℕ) → MayFailIn writes (Writing n) ↔ (n ≤ writes) }
@@ -276,14 +278,14 @@ pub fn events_are_typed(event: &Event)
 
 fn note_ask(terminal: Terminal, number: Number, body: &Body)
     ensures typed { IsTypedEvent (Ask terminal number body.now) }
-    ensures of_terminal { terminal < 63 }
+    ensures of_terminal { terminal < MOST_TERMINALS }
 {
-    prove!(terminal.get() <= 62 && number.get() <= 16_777_215);
+    prove!(terminal.get() <= LAST_TERMINAL && number.get() <= 16_777_215);
     match body {
         Body::Call(floor, party) => {
-            prove!(floor.get() <= 63 && party.get() >= 1 && party.get() <= 15);
+            prove!(floor.get() <= TOP_FLOOR && party.get() >= 1 && party.get() <= 15);
         }
-        Body::Stop(floor, _) => prove!(floor.get() <= 63),
-        Body::Place(floor, _) => prove!(floor.get() <= 63),
+        Body::Stop(floor, _) => prove!(floor.get() <= TOP_FLOOR),
+        Body::Place(floor, _) => prove!(floor.get() <= TOP_FLOOR),
     }
 }

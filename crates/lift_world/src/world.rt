@@ -309,7 +309,7 @@ impl<'b> World<'b> {
     fn is_decided(&self, command: &Command, letter: Option<Letter>) -> bool
         ensures { IsTrue result ↔ IsSome (taking self.now letter command.now) }
     {
-        prove!(self.building.cars() <= 16);
+        prove!(self.building.cars() <= MOST_CARS as u8);
         let mut register = replay(self.building, self.half, &self.accepted);
         let mut positions = unplaced();
         positions.copy_from_slice(&self.positions);
@@ -335,7 +335,7 @@ impl<'b> World<'b> {
             }
             return Err(memory);
         }
-        prove!(self.building.cars() <= 16);
+        prove!(self.building.cars() <= MOST_CARS as u8);
         let Some(decided) = decide(
             self.building,
             &mut self.register,

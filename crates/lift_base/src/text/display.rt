@@ -6,6 +6,7 @@ ghost use Rattle.lift_base.specs.Text.{letter_text, dir_text, terminal_text, nex
 
 use crate::checked::{Letter, Terminal};
 use crate::command::Reply;
+use crate::limits::FIRST_KIOSK;
 use crate::travel::{Dir, Stop};
 use std::fmt;
 
@@ -35,11 +36,11 @@ impl fmt::Display for Terminal {
 
     fn fmt<W: fmt::Write>(&self, f: &mut fmt::Formatter<W>) -> fmt::Result {
         let index = self.get();
-        if index < 16 {
+        if index < FIRST_KIOSK {
             let letter = (b'A' + index) as char;
             write!(f, "{letter}")
         } else {
-            let kiosk = index - 16;
+            let kiosk = index - FIRST_KIOSK;
             write!(f, "K{kiosk}")
         }
     }

@@ -7,12 +7,13 @@ ghost use Rattle.lift_base.specs.declared.travel.Dir.{Dir as Direction};
 
 use super::number::number_up_to;
 use crate::checked::{Letter, Number, Party};
+use crate::limits::MOST_CARS;
 use crate::travel::Dir;
 
 /// The car that a word names by its letter.
 pub fn letter_of_word(word: &str) -> Option<Letter>
     ensures some { IfSome result (λ car. word.now ≡ letter_text car) }
-    ensures none { IfNone result ((car : ℕ) → car < 16 → word.now ≢ letter_text car) }
+    ensures none { IfNone result ((car : ℕ) → car < MOST_CARS → word.now ≢ letter_text car) }
 {
     let bytes = word.as_bytes();
     if bytes.len() != 1 || bytes[0] < b'A' {

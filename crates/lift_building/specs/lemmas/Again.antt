@@ -7,6 +7,7 @@ use Rattle.std.specs.List.{AllByRecursion}
 use Rattle.std.proofs.lemmas.List.Elements.{recursion_from_All}
 use Rattle.toml.specs.Data.{Data, integer, array, table, Items, no_items, item, Members, get}
 use Rattle.toml.specs.Parse.{parse_document}
+use Rattle.lift_base.specs.declared.limits.TheConstants.{MOST_CARS, MOST_FLOORS, MOST_KIOSKS, MOST_PLACES}
 use Rattle.lift_building.specs.declared.fault.Field.{Field}
 use Rattle.lift_building.specs.declared.fault.Field.TheVariants.{Floors, DoorMs, Kiosks, Flight}
 use Rattle.lift_building.specs.declared.fault.Field.TheVariants.{Cars, Places, Serves}
@@ -168,7 +169,7 @@ car_read : (floors : ℕ) (members : Members) (car : CarPlan)
 unfolding car_in
 car_read floors members car places served is =
     rw (
-      number_at_again Places 1 32 (table members) car.places places is.some_place is.few_places,
+      number_at_again Places 1 MOST_PLACES (table members) car.places places is.some_place is.few_places,
       served_again floors (get (name_of Serves) (table members)) car.served served,
     ) refl
 
@@ -197,13 +198,13 @@ count_cars floors (item v vs) [] texts = absurd texts
 count_cars floors (item v vs) (car ∷ cars) texts = ap suc (count_cars floors vs cars texts.1)
 
 cars_again : (floors : ℕ) (values : Items) (cars : List CarPlan) → AreCarTexts floors values cars
-    → 1 ≤ length cars → length cars ≤ 16 → All (IsCar floors) cars
+    → 1 ≤ length cars → length cars ≤ MOST_CARS → All (IsCar floors) cars
     → cars_in floors (array values) ≡ Ok cars
 unfolding cars_in
 cars_again floors values cars texts some few are =
     let count = count_cars floors values cars texts in
-    rw (counted_again (is_between 1 16 (item_count values)) (OutOfRange Cars) values
-    (between_again 1 16 (item_count values) (omega arith) (omega arith)))
+    rw (counted_again (is_between 1 MOST_CARS (item_count values)) (OutOfRange Cars) values
+    (between_again 1 MOST_CARS (item_count values) (omega arith) (omega arith)))
     (cars_read floors 0 values cars texts (recursion_from_All (IsCar floors) cars are))
 
 pub plan_again : (document : Data) (plan : Plan) → Describes document plan → HasLimits plan
@@ -211,12 +212,12 @@ pub plan_again : (document : Data) (plan : Plan) → Describes document plan →
 unfolding plan_in
 plan_again document plan d limits =
     rw (
-      number_at_again Floors 2 64 document plan.floors d.floors limits.two_floors limits.few_floors,
+      number_at_again Floors 2 MOST_FLOORS document plan.floors d.floors limits.two_floors limits.few_floors,
       number_at_again DoorMs 0 60000 document plan.door_ms d.door_ms
           (omega arith) limits.short_door,
       key_again Kiosks document (array (numbers plan.kiosks)) d.kiosks,
-      floors_again Kiosks (is_between 1 47) plan.floors plan.kiosks
-          (between_again 1 47 (length plan.kiosks) limits.some_kiosk limits.few_kiosks)
+      floors_again Kiosks (is_between 1 MOST_KIOSKS) plan.floors plan.kiosks
+          (between_again 1 MOST_KIOSKS (length plan.kiosks) limits.some_kiosk limits.few_kiosks)
           limits.kiosks,
       key_again Flight document (array (number_rows plan.flights)) d.flight,
       table_again plan.floors plan.flights limits.flights.rows (rows_are plan limits.flights),

@@ -5,6 +5,7 @@ use Rattle.std.proofs.Common.{◌∙◌, arith, inl, inr}
 use Rattle.std.proofs.lemmas.Bool.Decides.{nat_tests}
 use Rattle.std.proofs.lemmas.Bool.{cases_Bool}
 use Rattle.toml.specs.Data.{Data, integer, array, table, Items, no_items, item, get}
+use Rattle.lift_base.specs.declared.limits.TheConstants.{MOST_CARS, MOST_FLOORS, MOST_KIOSKS, MOST_PLACES}
 use Rattle.lift_building.specs.declared.fault.Field.{Field}
 use Rattle.lift_building.specs.declared.fault.Field.TheVariants.{Floors, DoorMs, Kiosks, Flight}
 use Rattle.lift_building.specs.declared.fault.Field.TheVariants.{Cars, Places, Serves}
@@ -130,13 +131,13 @@ pub car_is : (floors : ℕ) (v : Data) (car : CarPlan) → 1 ≤ floors → car_
     → IsCarText floors v car
 unfolding car_in
 car_is floors (table members) car some e =
-    let a = bind_ok (number_at Places 1 32 (table members)) _ car e in
+    let a = bind_ok (number_at Places 1 MOST_PLACES (table members)) _ car e in
     let b = bind_ok (served_in floors (get (name_of Serves) (table members))) _ car a.2 in
     let made : CarPlan = record { places = a.0; served = b.0 } in
     subst (IsCarText floors (table members)) {x = made} (ok_is made car b.2) (
       members,
       refl,
-      number_at_is Places 1 32 (table members) a.0 a.1,
+      number_at_is Places 1 MOST_PLACES (table members) a.0 a.1,
       served_is floors
           (get (name_of Serves) (table members)) b.0 some b.1,
     )
@@ -157,17 +158,17 @@ all_cars : (floors : ℕ) (v : Data) (cars : List CarPlan) → 1 ≤ floors → 
 unfolding cars_in
 all_cars floors v cars some e =
     let a = bind_ok (items_in Cars v) _ cars e in
-    let b = bind_ok (counted (is_between 1 16 (item_count a.0)) (OutOfRange Cars) a.0) _ cars a.2 in
-    let c = counted_ok (is_between 1 16 (item_count a.0)) (OutOfRange Cars) a.0 b.0 b.1 in
+    let b = bind_ok (counted (is_between 1 MOST_CARS (item_count a.0)) (OutOfRange Cars) a.0) _ cars a.2 in
+    let c = counted_ok (is_between 1 MOST_CARS (item_count a.0)) (OutOfRange Cars) a.0 b.0 b.1 in
     (b.0, items_are Cars v a.0 a.1 ∙ ap array c.1, cars_are floors 0 b.0 cars some b.2)
 
 pub plan_is : (document : Data) (plan : Plan) → plan_in document ≡ Ok plan → Describes document plan
 unfolding plan_in
 plan_is document plan e =
-    let floors = bind_ok (number_at Floors 2 64 document) _ plan e in
+    let floors = bind_ok (number_at Floors 2 MOST_FLOORS document) _ plan e in
     let door_ms = bind_ok (number_at DoorMs 0 60000 document) _ plan floors.2 in
     let kiosk_value = bind_ok (key Kiosks document) _ plan door_ms.2 in
-    let kiosks = bind_ok (floors_in Kiosks (is_between 1 47) floors.0 kiosk_value.0) _ plan
+    let kiosks = bind_ok (floors_in Kiosks (is_between 1 MOST_KIOSKS) floors.0 kiosk_value.0) _ plan
     kiosk_value.2 in
     let flight_value = bind_ok (key Flight document) _ plan kiosks.2 in
     let flights = bind_ok (table_in floors.0 flight_value.0) _ plan flight_value.2 in
@@ -181,13 +182,13 @@ plan_is document plan e =
       cars = cars.0;
     } in
     let some : 1 ≤ floors.0 =
-    (let fit = number_at_ok Floors 2 64 document floors.0 floors.1 in omega (arith, fit.0)) in
+    (let fit = number_at_ok Floors 2 MOST_FLOORS document floors.0 floors.1 in omega (arith, fit.0)) in
     let values = all_cars floors.0 car_value.0 cars.0 some cars.1 in
     subst (Describes document) {x = made} (ok_is made plan cars.2) (record {
-      floors = number_at_is Floors 2 64 document floors.0 floors.1;
+      floors = number_at_is Floors 2 MOST_FLOORS document floors.0 floors.1;
       door_ms = number_at_is DoorMs 0 60000 document door_ms.0 door_ms.1;
       kiosks = key_is Kiosks (get (name_of Kiosks) document) kiosk_value.0 kiosk_value.1 ∙ ap Some
-          (floors_are Kiosks (is_between 1 47) floors.0 kiosk_value.0 kiosks.0 kiosks.1);
+          (floors_are Kiosks (is_between 1 MOST_KIOSKS) floors.0 kiosk_value.0 kiosks.0 kiosks.1);
       flight = key_is Flight (get (name_of Flight) document) flight_value.0 flight_value.1 ∙ ap Some
           (table_is floors.0 flight_value.0 flights.0 flights.1);
       cars = (

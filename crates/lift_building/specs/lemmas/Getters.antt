@@ -3,6 +3,7 @@ use Rattle.std.proofs.Common.{◌≡◌, ℕ, ◌≤◌, ◌<◌, ◌↔◌, [],
 use Rattle.std.proofs.Common.{arith, inl, inr}
 use Rattle.std.proofs.lemmas.Bool.{cases_lt}
 use Rattle.std.proofs.lemmas.List.{get_or_past}
+use Rattle.lift_base.specs.declared.limits.TheConstants.{LEAST_HALF, MOST_PLACES}
 use Rattle.lift_base.specs.History.{IsWithinLimits}
 use Rattle.lift_building.specs.Plan.{Plan, car_at, places_of, serves_floor}
 use Rattle.lift_building.specs.Plan.{shape_of, IsCar, IsBuilding}
@@ -16,7 +17,7 @@ car_is_none : (plan : Plan) (car : ℕ) → length plan.cars ≤ car
 car_is_none plan car out = get_or_past plan.cars car (record { places = 0; served = [] }) out
 
 -- no car takes more than 32 persons
-pub places_short : (plan : Plan) (car : ℕ) → IsBuilding plan → places_of plan car ≤ 32
+pub places_short : (plan : Plan) (car : ℕ) → IsBuilding plan → places_of plan car ≤ MOST_PLACES
 places_short plan car lawful = elim (cases_lt car (length plan.cars)) [
   | inl lt ↦ (car_is plan car lawful lt).few_places
   | inr out ↦ let none : places_of plan car ≡ 0 = ap (λ c. c.places) (car_is_none plan car out) in
@@ -52,7 +53,7 @@ serves_within plan car floor lawful serves = elim (cases_lt car (length plan.car
 ]
 
 -- the journal of a building is within the limits where its half is
-pub shape_within : (plan : Plan) (half : ℕ) → IsBuilding plan → 64 ≤ half → half ≤ 1000000
+pub shape_within : (plan : Plan) (half : ℕ) → IsBuilding plan → LEAST_HALF ≤ half → half ≤ 1000000
     → IsWithinLimits (shape_of plan half)
 shape_within plan half lawful some few = record {
   floors = (lawful.limits.two_floors, lawful.limits.few_floors);

@@ -10,6 +10,7 @@ use Rattle.std.proofs.lemmas.List.{length-replicate, get_or-replicate}
 use Rattle.std.proofs.lemmas.List.FromFn.{length-map-range_with_len, get_or-map-range_with_len}
 use Rattle.std.proofs.lemmas.List.Folds.{list_any_at}
 use Rattle.toml.specs.Data.{Data, integer, table, Items, no_items, item, get}
+use Rattle.lift_base.specs.declared.limits.TheConstants.{MOST_CARS, MOST_FLOORS, MOST_KIOSKS, MOST_PLACES}
 use Rattle.lift_building.specs.declared.fault.Field.{Field}
 use Rattle.lift_building.specs.declared.fault.Field.TheVariants.{Floors, DoorMs, Kiosks, Flight}
 use Rattle.lift_building.specs.declared.fault.Field.TheVariants.{Cars, Places, Serves}
@@ -223,12 +224,12 @@ pub car_ok : (floors : ℕ) (v : Data) (car : CarPlan) → 1 ≤ floors → car_
     → IsCar floors car
 unfolding car_in
 car_ok floors (table members) car some e =
-    let a = bind_ok (number_at Places 1 32 (table members)) (λ places.
+    let a = bind_ok (number_at Places 1 MOST_PLACES (table members)) (λ places.
     served_in floors (get (name_of Serves) (table members)) >>= λ served.
     Ok (record { places = places; served = served })) car e in
     let b = bind_ok (served_in floors (get (name_of Serves) (table members))) (λ served.
     Ok (record { places = a.0; served = served })) car a.2 in
-    let places = number_at_ok Places 1 32 (table members) a.0 a.1 in
+    let places = number_at_ok Places 1 MOST_PLACES (table members) a.0 a.1 in
     let served = served_ok floors (get (name_of Serves) (table members)) b.0 some b.1 in
     let made : CarPlan = record { places = a.0; served = b.0 } in
     subst (IsCar floors) (ok_is made car b.2) (record {
@@ -240,18 +241,18 @@ car_ok floors (table members) car some e =
 car_ok floors _ car some e = absurd cc
 
 cars_ok : (floors : ℕ) (v : Data) (cars : List CarPlan) → 1 ≤ floors → cars_in floors v ≡ Ok cars
-    → (1 ≤ length cars) × (length cars ≤ 16) × All (IsCar floors) cars
+    → (1 ≤ length cars) × (length cars ≤ MOST_CARS) × All (IsCar floors) cars
 unfolding cars_in
 cars_ok floors v cars some e =
     let one : ℕ → Data → Result CarPlan BuildingFault = λ _. car_in floors in
     let a = bind_ok (items_in Cars v) (λ items.
-    counted (is_between 1 16 (item_count items)) (OutOfRange Cars) items >>= λ those.
+    counted (is_between 1 MOST_CARS (item_count items)) (OutOfRange Cars) items >>= λ those.
     each one 0 those) cars e in
-    let b = bind_ok (counted (is_between 1 16 (item_count a.0)) (OutOfRange Cars) a.0) (λ those.
+    let b = bind_ok (counted (is_between 1 MOST_CARS (item_count a.0)) (OutOfRange Cars) a.0) (λ those.
     each one 0 those) cars a.2 in
-    let c = counted_ok (is_between 1 16 (item_count a.0)) (OutOfRange Cars) a.0 b.0 b.1 in
+    let c = counted_ok (is_between 1 MOST_CARS (item_count a.0)) (OutOfRange Cars) a.0 b.0 b.1 in
     let len = each_count one 0 b.0 cars b.2 in
-    let few = between 1 16 (item_count a.0) c.0 in
+    let few = between 1 MOST_CARS (item_count a.0) c.0 in
     let same : length cars ≡ item_count a.0 = len ∙ ap item_count (sym c.1) in (
       omega arith,
       omega arith,
@@ -274,10 +275,10 @@ flights_ok plan found = record {
 pub plan_ok : (document : Data) (plan : Plan) → plan_in document ≡ Ok plan → HasLimits plan
 unfolding plan_in
 plan_ok document plan e =
-    let floors = bind_ok (number_at Floors 2 64 document) _ plan e in
+    let floors = bind_ok (number_at Floors 2 MOST_FLOORS document) _ plan e in
     let door_ms = bind_ok (number_at DoorMs 0 60000 document) _ plan floors.2 in
     let kiosk_value = bind_ok (key Kiosks document) _ plan door_ms.2 in
-    let kiosks = bind_ok (floors_in Kiosks (is_between 1 47) floors.0 kiosk_value.0) _ plan
+    let kiosks = bind_ok (floors_in Kiosks (is_between 1 MOST_KIOSKS) floors.0 kiosk_value.0) _ plan
     kiosk_value.2 in
     let flight_value = bind_ok (key Flight document) _ plan kiosks.2 in
     let flights = bind_ok (table_in floors.0 flight_value.0) _ plan flight_value.2 in
@@ -290,12 +291,12 @@ plan_ok document plan e =
       flights = flights.0;
       cars = cars.0;
     } in
-    let floors-fit = number_at_ok Floors 2 64 document floors.0 floors.1 in
+    let floors-fit = number_at_ok Floors 2 MOST_FLOORS document floors.0 floors.1 in
     let some : 1 ≤ floors.0 = omega (arith, floors-fit.0) in
     let door-fits = number_at_ok DoorMs 0 60000 document door_ms.0 door_ms.1 in
-    let kiosks-fit = floors_ok Kiosks (is_between 1 47) floors.0 kiosk_value.0 kiosks.0 some
+    let kiosks-fit = floors_ok Kiosks (is_between 1 MOST_KIOSKS) floors.0 kiosk_value.0 kiosks.0 some
     kiosks.1 in
-    let few-kiosks = between 1 47 (length kiosks.0) kiosks-fit.0 in
+    let few-kiosks = between 1 MOST_KIOSKS (length kiosks.0) kiosks-fit.0 in
     let cars-fit = cars_ok floors.0 car_value.0 cars.0 some cars.1 in
     subst HasLimits {x = made} (ok_is made plan cars.2) (record {
       two_floors = floors-fit.0;

@@ -3,6 +3,7 @@ use Rattle.std.proofs.Common.{◌≡◌, ◌≢◌, ℕ, ◌+◌, ◌==◌, pos,
 use Rattle.std.proofs.Common.{Result, Ok, Err, Option, Some, None, IfErr, ap, ◌∙◌}
 use Rattle.toml.specs.Data.{Data, integer, array, table, Items, no_items, item, get}
 use Rattle.toml.specs.Parse.{parse_document}
+use Rattle.lift_base.specs.declared.limits.TheConstants.{MOST_CARS, MOST_FLOORS, MOST_KIOSKS, MOST_PLACES}
 use Rattle.lift_building.specs.declared.fault.Field.{Field}
 use Rattle.lift_building.specs.declared.fault.Field.TheVariants.{Floors, DoorMs, Kiosks, Flight}
 use Rattle.lift_building.specs.declared.fault.Field.TheVariants.{Cars, Places, Serves}
@@ -96,7 +97,7 @@ served_spares floors (Some value) = bind_spares (floors_in Serves is_some_number
 car_spares : (floors : ℕ) (v : Data) → Spares (car_in floors v)
 unfolding car_in
 car_spares floors (table members) =
-    bind_spares (number_at Places 1 32 (table members)) _ (number_at_spares Places 1 32 (table members))
+    bind_spares (number_at Places 1 MOST_PLACES (table members)) _ (number_at_spares Places 1 MOST_PLACES (table members))
     (λ places. bind_spares (served_in floors (get (name_of Serves) (table members))) _ (served_spares floors (get (name_of Serves) (table members))) (λ served. ok_spares _))
 car_spares floors _ = λ text e. cc
 
@@ -104,16 +105,16 @@ cars_spares : (floors : ℕ) (v : Data) → Spares (cars_in floors v)
 unfolding cars_in
 cars_spares floors v =
     bind_spares (items_in Cars v) _ (items_spares Cars v)
-    (λ items. bind_spares (counted (is_between 1 16 (item_count items)) (OutOfRange Cars) items) _ (counted_spares (is_between 1 16 (item_count items)) (OutOfRange Cars) items (λ text e. cc))
+    (λ items. bind_spares (counted (is_between 1 MOST_CARS (item_count items)) (OutOfRange Cars) items) _ (counted_spares (is_between 1 MOST_CARS (item_count items)) (OutOfRange Cars) items (λ text e. cc))
     (λ those. each_spares _ (λ i value. car_spares floors value) 0 those))
 
 pub plan_spares : (document : Data) → Spares (plan_in document)
 unfolding plan_in
 plan_spares document =
-    bind_spares (number_at Floors 2 64 document) _ (number_at_spares Floors 2 64 document)
+    bind_spares (number_at Floors 2 MOST_FLOORS document) _ (number_at_spares Floors 2 MOST_FLOORS document)
     (λ floors. bind_spares (number_at DoorMs 0 60000 document) _ (number_at_spares DoorMs 0 60000 document)
     (λ door_ms. bind_spares (key Kiosks document) _ (present_spares Kiosks (get (name_of Kiosks) document))
-    (λ kiosk_value. bind_spares (floors_in Kiosks (is_between 1 47) floors kiosk_value) _ (floors_spares Kiosks (is_between 1 47) floors kiosk_value)
+    (λ kiosk_value. bind_spares (floors_in Kiosks (is_between 1 MOST_KIOSKS) floors kiosk_value) _ (floors_spares Kiosks (is_between 1 MOST_KIOSKS) floors kiosk_value)
     (λ kiosks. bind_spares (key Flight document) _ (present_spares Flight (get (name_of Flight) document))
     (λ flight_value. bind_spares (table_in floors flight_value) _ (table_spares floors flight_value)
     (λ flights. bind_spares (key Cars document) _ (present_spares Cars (get (name_of Cars) document))

@@ -6,6 +6,7 @@ use Rattle.std.proofs.lemmas.List.{append-nil, length-append}
 use Rattle.std.proofs.lemmas.List.Elements.{filter-append}
 use Rattle.std.proofs.lemmas.List.Concat.{flat_map-append}
 use mathlib.Core.List.{map-append}
+use Rattle.lift_base.specs.declared.limits.TheConstants.{MOST_BATCHES}
 use Rattle.lift_base.specs.declared.command.Reply.{Reply}
 use Rattle.lift_base.specs.declared.history.Entry.{Entry}
 use Rattle.lift_building.specs.Plan.{Plan}
@@ -91,7 +92,7 @@ pub record DecidesSo (w : World) (cs : List Command) (batch : SentBatch) (next :
 
 module _ {D : Type 0} {w : World} {ahead : ℕ → List ℕ} {behind : ℕ → ClerkView} {state : State} {writer : WriterView D} {sent : List SentBatch}
     (laws : Laws) (m : IsTied w ahead behind state writer sent) (cs : List Command) (some : cs ≢ [])
-    (room : length w.queue ≤ 4) (wait : AllWait m.words cs) (apart : AreApart cs)
+    (room : length w.queue ≤ MOST_BATCHES) (wait : AllWait m.words cs) (apart : AreApart cs)
     (after : ℕ → List ℕ) (grows : (t : ℕ) → after t ≡ ahead t ++ ask_words (suc (length (ahead t))) (map ask_of (filter (asks t) cs)))
     (batch : SentBatch) (same : map command_of batch.commands ≡ cs) (next : State) where
   module _ (rs : List Reply) (decided : State) (run : Run w.building any_eligible (state_of w) cs rs decided) where

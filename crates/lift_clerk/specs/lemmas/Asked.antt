@@ -5,6 +5,7 @@ use Rattle.std.proofs.Common.{Some, refl, sym, ap, subst, ◌∙◌, arith}
 use Rattle.std.specs.Prelude.{IsTrue}
 use Rattle.std.specs.List.{AllByRecursion}
 use Rattle.std.proofs.lemmas.List.{append-nil}
+use Rattle.lift_base.specs.declared.limits.TheConstants.{MOST_BATCHES}
 use Rattle.lift_base.specs.declared.command.Reply.{Reply}
 use Rattle.lift_building.specs.Plan.{Plan}
 use Rattle.lift_desk.specs.declared.view.ClerkView.{ClerkView}
@@ -29,7 +30,7 @@ use Rattle.lift_clerk.specs.lemmas.Standing.{fresh, Splits, fresh_answered}
 pub record IsResting (w : World) : Type 0 where
   pub nothing : unanswered w ≡ []
   pub on : is_off w.power ≡ false
-  pub few : length w.queue ≤ 4
+  pub few : length w.queue ≤ MOST_BATCHES
 
 pub resting : {D : Type 0} {w : World} {ahead : ℕ → List ℕ} {behind : ℕ → ClerkView} {state : State}
     {writer : WriterView D} → IsTied w ahead behind state writer [] → IsResting w

@@ -4,6 +4,7 @@ use Rattle.std.proofs.Common.{None, All, sym, subst, ◌∙◌, inl, inr, arith}
 use Rattle.std.proofs.lemmas.Bool.{cases_lt}
 use Rattle.std.proofs.lemmas.List.{length-set, get_or_past}
 use Rattle.std.proofs.lemmas.List.Elements.{All-nil, All-cons, All-contains}
+use Rattle.lift_base.specs.declared.limits.TheConstants.{MOST_TERMINALS}
 use Rattle.lift_base.specs.History.{terminal_of}
 use Rattle.lift_base.specs.declared.history.Content.{Content}
 use Rattle.lift_base.specs.declared.history.Content.TheVariants.{Letter, Stopped}
@@ -32,7 +33,7 @@ use Rattle.lift_world.specs.lemmas.Entries.{kept_entry, IsKeptEntry}
 
 -- a terminal of the building is one of 63
 below_63 : (plan : Plan) (terminal : ℕ) (content : Content) → IsBuilding plan
-    → IsPossibleLast plan terminal content → terminal < 63
+    → IsPossibleLast plan terminal content → terminal < MOST_TERMINALS
 below_63 plan terminal (Letter from to car party) sound possible =
     let of_kiosk = possible.of_kiosk in
     let few = sound.limits.few_kiosks in
@@ -48,7 +49,7 @@ SaidLast plan register = (terminal : ℕ) (last : Last) → last_of register ter
 
 -- the records of a checkpoint
 said_last : (plan : Plan) (register : RegisterState) (records : List Record) → IsBuilding plan
-    → length register.lasts ≡ 63 → SaidLast plan register → BaseFitFrom plan register records
+    → length register.lasts ≡ MOST_TERMINALS → SaidLast plan register → BaseFitFrom plan register records
     → SaidLast plan (with_records register records)
 said_last plan register [] sound count said fit = said
 said_last plan register (RowRecord row ∷ later) sound count said fit =
@@ -92,7 +93,7 @@ module _ (plan : Plan) (base : RegisterState) (entries : List Entry) (said : Sai
       (held_said k.entry k.held))
 
   after_said : SaidLast plan (register_of base entries)
-  after_said terminal last is = elim (cases_lt terminal 63) [
+  after_said terminal last is = elim (cases_lt terminal MOST_TERMINALS) [
     | inl below ↦ said_by terminal last (kept_entry base entries terminal last below is)
     | inr above ↦ (let none : None ≡ Some last =
         sym (get_or_past (map (last_after base entries) Registers.terminals) terminal None

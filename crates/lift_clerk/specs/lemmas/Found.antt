@@ -6,6 +6,7 @@ use Rattle.std.proofs.lemmas.Bool.{eq-eqb, eqb-true, false≢true}
 use Rattle.std.proofs.lemmas.List.{append-nil, length-append, reverse-append}
 use Rattle.std.proofs.lemmas.List.Elements.{filter-append}
 use Rattle.std.proofs.lemmas.List.Sums.{length-filter}
+use Rattle.lift_base.specs.declared.limits.TheConstants.{MOST_BATCHES}
 use Rattle.lift_desk.specs.declared.view.ClerkView.{ClerkView}
 use Rattle.lift_policy.specs.declared.command.Command.{Command}
 use Rattle.lift_world.specs.declared.event.Taken.{Taken}
@@ -107,7 +108,7 @@ module _ {w : World} {ahead : ℕ → List ℕ} {behind : ℕ → ClerkView} (wo
   AllWait cs = AllByRecursion (λ (c : Command). (words c.terminal).waiting ≡ c ∷ []) cs
 
   -- those that wait are found
-  pub found : Laws → IsReached w → OnlyQueued w → (cs : List Command) → length w.queue ≤ 4 → AllWait cs → AreApart cs → AreFound w cs
+  pub found : Laws → IsReached w → OnlyQueued w → (cs : List Command) → length w.queue ≤ MOST_BATCHES → AllWait cs → AreApart cs → AreFound w cs
   found laws reached only [] room h apart = tt
   found laws reached only (c ∷ cs) room h apart = (
     (laws.looks w c.terminal c).finds (stands laws w reached c.terminal (words c.terminal) only c h.0) room,

@@ -7,6 +7,7 @@ use Rattle.lift_base.specs.declared.history.Record.{Record}
 use Rattle.lift_base.specs.declared.history.Record.TheVariants.{Row, Done}
 use Rattle.lift_register.specs.Register.{RegisterState, rows_of, cars, terminals}
 use Rattle.lift_register.specs.Base.{base_records, last_records}
+use Rattle.lift_base.specs.declared.limits.TheConstants.{MOST_ENTRIES}
 use Rattle.lift_record.specs.declared.version.Version.TheVariants.{Two}
 use Rattle.lift_journal.specs.Layout.{Batch, records_of, body_size, used}
 use Rattle.lift_journal.specs.Checkpoint.{in_batches, batch_count, checkpoint_of, sectors_for}
@@ -14,53 +15,53 @@ use Rattle.lift_journal.specs.lemmas.Chains.{used_more}
 
 -- the batch at one place
 abbrev pub batch_at : ℕ → List Record → Batch
-batch_at place records = record { version = Two; records = take 63 (drop (63 * place) records) }
+batch_at place records = record { version = Two; records = take MOST_ENTRIES (drop (MOST_ENTRIES * place) records) }
 
 pub batches_more : (count : ℕ) (records : List Record) → in_batches (suc count) records ≡ in_batches count records ++ batch_at count records ∷ []
 batches_more zero records = refl
 batches_more (suc count) records =
-    let first : Batch = record { version = Two; records = take 63 records } in
-    let place : drop (63 * count) (drop 63 records) ≡ drop (63 * suc count) records =
-    drop-drop (63 * count) 63 records ∙ ap (λ n. drop n records) (let sum : 63 + 63 * count ≡ 63 * suc count = omega arith in sum) in
-    ap (λ (l : List Batch). first ∷ l) (batches_more count (drop 63 records))
-    ∙ ap (λ (l : List Record). first ∷ in_batches count (drop 63 records) ++ (record { version = Two; records = take 63 l }) ∷ []) place
+    let first : Batch = record { version = Two; records = take MOST_ENTRIES records } in
+    let place : drop (MOST_ENTRIES * count) (drop MOST_ENTRIES records) ≡ drop (MOST_ENTRIES * suc count) records =
+    drop-drop (MOST_ENTRIES * count) MOST_ENTRIES records ∙ ap (λ n. drop n records) (let sum : MOST_ENTRIES + MOST_ENTRIES * count ≡ MOST_ENTRIES * suc count = omega arith in sum) in
+    ap (λ (l : List Batch). first ∷ l) (batches_more count (drop MOST_ENTRIES records))
+    ∙ ap (λ (l : List Record). first ∷ in_batches count (drop MOST_ENTRIES records) ++ (record { version = Two; records = take MOST_ENTRIES l }) ∷ []) place
 
-pub records_in : (count : ℕ) (records : List Record) → records_of (in_batches count records) ≡ take (63 * count) records
+pub records_in : (count : ℕ) (records : List Record) → records_of (in_batches count records) ≡ take (MOST_ENTRIES * count) records
 records_in zero records = refl
 records_in (suc count) records =
-    ap (λ (l : List Record). take 63 records ++ l) (records_in count (drop 63 records)) ∙ sym (take-add 63 (63 * count) records)
-    ∙ ap (λ n. take n records) (let sum : 63 + 63 * count ≡ 63 * suc count = omega arith in sum)
+    ap (λ (l : List Record). take MOST_ENTRIES records ++ l) (records_in count (drop MOST_ENTRIES records)) ∙ sym (take-add MOST_ENTRIES (MOST_ENTRIES * count) records)
+    ∙ ap (λ n. take n records) (let sum : MOST_ENTRIES + MOST_ENTRIES * count ≡ MOST_ENTRIES * suc count = omega arith in sum)
 
 pub length_batches : (count : ℕ) (records : List Record) → length (in_batches count records) ≡ count
 length_batches zero records = refl
-length_batches (suc count) records = ap suc (length_batches count (drop 63 records))
+length_batches (suc count) records = ap suc (length_batches count (drop MOST_ENTRIES records))
 
 -- full batches take three sectors each
-used_full : (count : ℕ) (records : List Record) → 63 * count ≤ length records → used (in_batches count records) ≡ 3 * count
+used_full : (count : ℕ) (records : List Record) → MOST_ENTRIES * count ≤ length records → used (in_batches count records) ≡ 3 * count
 used_full zero records full = omega arith
 used_full (suc count) records full =
-    let size : body_size (length (take 63 records)) ≡ 2 = ap body_size (length-take-le 63 records (omega arith)) in
-    omega (arith, size, used_full count (drop 63 records) (omega (arith, length-drop 63 records)))
+    let size : body_size (length (take MOST_ENTRIES records)) ≡ 2 = ap body_size (length-take-le MOST_ENTRIES records (omega arith)) in
+    omega (arith, size, used_full count (drop MOST_ENTRIES records) (omega (arith, length-drop MOST_ENTRIES records)))
 
 pub used_checkpoint : (records : List Record) → 1 ≤ length records → used (checkpoint_of records) ≡ sectors_for (length records)
 used_checkpoint records some =
     let n = length records in
     let full = batch_count n - 1 in
     let count : batch_count n ≡ suc full = omega arith in
-    let early : 63 * full ≤ n = omega arith in
-    let late : n ≤ 63 * full + 63 = omega arith in
-    let rest : length (take 63 (drop (63 * full) records)) ≡ n - 63 * full =
-    ap length (take_all 63 (drop (63 * full) records) (omega (arith, length-drop (63 * full) records))) ∙ length-drop (63 * full) records in
-    let last : body_size (length (take 63 (drop (63 * full) records))) ≡ body_size (n - 63 * full) = ap body_size rest in
+    let early : MOST_ENTRIES * full ≤ n = omega arith in
+    let late : n ≤ MOST_ENTRIES * full + MOST_ENTRIES = omega arith in
+    let rest : length (take MOST_ENTRIES (drop (MOST_ENTRIES * full) records)) ≡ n - MOST_ENTRIES * full =
+    ap length (take_all MOST_ENTRIES (drop (MOST_ENTRIES * full) records) (omega (arith, length-drop (MOST_ENTRIES * full) records))) ∙ length-drop (MOST_ENTRIES * full) records in
+    let last : body_size (length (take MOST_ENTRIES (drop (MOST_ENTRIES * full) records))) ≡ body_size (n - MOST_ENTRIES * full) = ap body_size rest in
     ap (λ k. used (in_batches k records)) count
     ∙ ap used (batches_more full records)
-    ∙ (let sum : used (in_batches full records ++ batch_at full records ∷ []) ≡ 3 * full + 1 + body_size (n - 63 * full) =
+    ∙ (let sum : used (in_batches full records ++ batch_at full records ∷ []) ≡ 3 * full + 1 + body_size (n - MOST_ENTRIES * full) =
     omega (arith, used_more (in_batches full records) (batch_at full records), used_full full records early, last) in sum)
 
 pub checkpoint_records : (records : List Record) → records_of (checkpoint_of records) ≡ records
 checkpoint_records records =
     records_in (batch_count (length records)) records
-    ∙ take_all (63 * batch_count (length records)) records (omega arith)
+    ∙ take_all (MOST_ENTRIES * batch_count (length records)) records (omega arith)
 
 -- a register's checkpoint, which has a count of done calls at least
 pub used_base : (register : RegisterState) → used (checkpoint_of (base_records register)) ≡ sectors_for (length (base_records register))

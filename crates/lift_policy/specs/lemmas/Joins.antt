@@ -7,6 +7,7 @@ use Rattle.std.proofs.lemmas.Bool.{eq-eqb, and_from, cases_lt}
 use Rattle.std.proofs.lemmas.List.{get_or_past}
 use Rattle.lift_base.specs.History.{terminal_of, number_of}
 use Rattle.lift_base.specs.Travel.{same_dir}
+use Rattle.lift_base.specs.declared.limits.TheConstants.{FIRST_KIOSK}
 use Rattle.lift_base.specs.declared.travel.Dir.{Dir}
 use Rattle.lift_base.specs.declared.travel.Dir.TheVariants.{Up, Down}
 use Rattle.lift_base.specs.declared.history.Entry.{Entry}
@@ -72,7 +73,7 @@ call_fits plan state terminal number to party car none new held =
     let room = and_parts _ _ passed.1 in
     let served = and_parts _ _ room.0 in (
       record {
-        of_kiosk = (leb-true 16 terminal kiosk.0, ltb-true _ _ kiosk.1);
+        of_kiosk = (leb-true FIRST_KIOSK terminal kiosk.0, ltb-true _ _ kiosk.1);
         from_kiosk = refl;
         apart = eqb-false _ _ none.same;
         by_car = serves_car plan car to served.1;

@@ -8,6 +8,7 @@ use Rattle.std.proofs.lemmas.List.{get_or-map as get_or-map_in, get_or_default, 
 use Rattle.std.proofs.lemmas.List.{length-map, same_lists}
 use Rattle.std.specs.Prelude.{All}
 use Rattle.std.proofs.Math.ListN.{get_or-map}
+use Rattle.lift_base.specs.declared.limits.TheConstants.{MOST_CARS}
 use Rattle.lift_base.specs.declared.travel.Position.{Position}
 use Rattle.lift_base.specs.declared.history.Row.{Row}
 use Rattle.lift_building.specs.Plan.{Plan, IsBuilding}
@@ -124,18 +125,18 @@ made_more register positions schedules i place made item at inside room earlier 
 
 -- all cars' schedules
 pub all_made_own : (register : RegisterState) (positions : List (Option Position))
-    (schedules : List (Option ScheduleState)) (i : ℕ) → length schedules ≡ 16 → 16 ≤ i
+    (schedules : List (Option ScheduleState)) (i : ℕ) → length schedules ≡ MOST_CARS → MOST_CARS ≤ i
     → ((k : ℕ) → k < i → get_or schedules k None ≡ made_at register k (get_or positions k None))
     → AreSchedulesOf register schedules
-all_made_own register positions schedules i count end made car s h = elim (cases_lt car 16) [
+all_made_own register positions schedules i count end made car s h = elim (cases_lt car MOST_CARS) [
   | inl lt ↦ made_from register car (get_or positions car None) s (sym (made car (omega arith)) ∙ h)
   | inr out ↦ let none : get_or schedules car None ≡ None =
       get_or_past schedules car None (omega arith) in cc
 ]
 
 pub all_made_positions : (register : RegisterState) (positions : List (Option Position))
-    (schedules : List (Option ScheduleState)) (i : ℕ) → length schedules ≡ 16
-    → length positions ≡ 16 → 16 ≤ i
+    (schedules : List (Option ScheduleState)) (i : ℕ) → length schedules ≡ MOST_CARS
+    → length positions ≡ MOST_CARS → MOST_CARS ≤ i
     → ((k : ℕ) → k < i → get_or schedules k None ≡ made_at register k (get_or positions k None))
     → positions_of schedules ≡ positions
 all_made_positions register positions schedules i count others end made =

@@ -12,6 +12,7 @@ use Rattle.std.proofs.lemmas.List.Elements.{All-map}
 use Rattle.std.proofs.lemmas.List.Sums.{sum_by-cons, sum_by_push}
 use Rattle.std.proofs.lemmas.Bool.{lt-ltb, le-ltb, cases_lt}
 use Rattle.std.proofs.lemmas.Option.{slice_get_within, get_or_from_slice_get}
+use Rattle.lift_base.specs.declared.limits.TheConstants.{MOST_CARS, MOST_TERMINALS}
 use Rattle.lift_building.specs.Plan.{Plan, places_of}
 use Rattle.lift_base.specs.Records.{IsRecord}
 use Rattle.lift_base.specs.declared.history.Record.{Record}
@@ -97,7 +98,7 @@ filled-more none f i k other = elim (cases_lt k i) [
   | inr above ↦ filled-above none f (i + 1) k (omega arith) ∙ sym (filled-above none f i k above)
 ]
 
-pub fill_car : {X : Type 0} (none : X) (f : ℕ → X) (i : ℕ) → i < 16
+pub fill_car : {X : Type 0} (none : X) (f : ℕ → X) (i : ℕ) → i < MOST_CARS
     → set (map (filled none f i) cars) i (f i) ≡ map (filled none f (i + 1)) cars
 fill_car none f i below =
     ap (λ x. set (map (filled none f i) cars) i x)
@@ -107,7 +108,7 @@ fill_car none f i below =
     (λ k within other. filled-more none f i k other ∙ sym
     (get_or-on_cars (filled none f i) k none within))
 
-pub fill_terminal : {X : Type 0} (none : X) (f : ℕ → X) (i : ℕ) → i < 63
+pub fill_terminal : {X : Type 0} (none : X) (f : ℕ → X) (i : ℕ) → i < MOST_TERMINALS
     → set (map (filled none f i) terminals) i (f i) ≡ map (filled none f (i + 1)) terminals
 fill_terminal none f i below =
     ap (λ x. set (map (filled none f i) terminals) i x)
@@ -190,7 +191,7 @@ abbrev pub with_cars : (ℕ → List Row) → ℕ → List (Option Last) → ℕ
 with_cars f i lasts done = state_of (map (filled [] f i) cars) lasts done
 
 -- the rows of the next car
-pub with_next_car : (f : ℕ → List Row) (lasts : List (Option Last)) (done i : ℕ) → i < 16
+pub with_next_car : (f : ℕ → List Row) (lasts : List (Option Last)) (done i : ℕ) → i < MOST_CARS
     → All (λ (row : Row). row.car ≡ i) (f i)
     → with_records (with_cars f i lasts done) (map RowRecord (f i)) ≡ with_cars f (i + 1) lasts done
 with_next_car f lasts done i below own =
@@ -208,12 +209,12 @@ pub rows-of_all : (f : ℕ → List Row) (i n : ℕ)
     ≡ map RowRecord (f i) ++ map RowRecord (flat_map f (range_with_len (i + 1) n))
 rows-of_all f i n = map-append RowRecord (f i) (flat_map f (range_with_len (i + 1) n))
 
-pub with_all_cars : (f : ℕ → List Row) (lasts : List (Option Last)) (done i n : ℕ) → i + n ≡ 16
+pub with_all_cars : (f : ℕ → List Row) (lasts : List (Option Last)) (done i n : ℕ) → i + n ≡ MOST_CARS
     → ((k : ℕ) → All (λ (row : Row). row.car ≡ k) (f k))
     → with_records (with_cars f i lasts done) (map RowRecord (flat_map f (range_with_len i n)))
-    ≡ with_cars f 16 lasts done
+    ≡ with_cars f MOST_CARS lasts done
 with_all_cars f lasts done i zero all own =
-    let end : i ≡ 16 = omega arith in
+    let end : i ≡ MOST_CARS = omega arith in
     ap (λ (k : ℕ). with_cars f k lasts done) end
 with_all_cars f lasts done i (suc n) all own =
     ap (with_records (with_cars f i lasts done)) (rows-of_all f i n)
@@ -225,7 +226,7 @@ with_all_cars f lasts done i (suc n) all own =
     ∙ with_all_cars f lasts done (i + 1) n (omega arith) own
 
 pub all_cars-fit : (plan : Plan) (f : ℕ → List Row) (lasts : List (Option Last)) (done i n : ℕ)
-    → i + n ≡ 16 → ((k : ℕ) → All (λ (row : Row). row.car ≡ k) (f k))
+    → i + n ≡ MOST_CARS → ((k : ℕ) → All (λ (row : Row). row.car ≡ k) (f k))
     → ((k : ℕ) → All (λ (row : Row). IsRecord (RowRecord row)) (f k))
     → ((k : ℕ) → All (λ (row : Row). IsPossibleCall plan row.kiosk row.from row.to k) (f k))
     → ((k : ℕ) → persons_of (f k) ≤ places_of plan k)
@@ -256,7 +257,7 @@ with_one_last register terminal None none =
     rw (← none, set-get_or register.lasts terminal None) refl
 with_one_last register terminal (Some last) none = refl
 
-pub with_next_terminal : (rows : List (List Row)) (f : ℕ → Option Last) (done i : ℕ) → i < 63
+pub with_next_terminal : (rows : List (List Row)) (f : ℕ → Option Last) (done i : ℕ) → i < MOST_TERMINALS
     → with_records (with_terminals rows f i done) (record_of_last i (f i))
     ≡ with_terminals rows f (i + 1) done
 with_next_terminal rows f done i below =
@@ -264,11 +265,11 @@ with_next_terminal rows f done i below =
     (get_or-on_terminals (filled None f i) i None below ∙ filled-above None f i i (omega arith))
     ∙ ap (λ (lasts : List (Option Last)). state_of rows lasts done) (fill_terminal None f i below)
 
-pub with_all_terminals : (rows : List (List Row)) (f : ℕ → Option Last) (done i n : ℕ) → i + n ≡ 63
+pub with_all_terminals : (rows : List (List Row)) (f : ℕ → Option Last) (done i n : ℕ) → i + n ≡ MOST_TERMINALS
     → with_records (with_terminals rows f i done)
-    (flat_map (λ k. record_of_last k (f k)) (range_with_len i n)) ≡ with_terminals rows f 63 done
+    (flat_map (λ k. record_of_last k (f k)) (range_with_len i n)) ≡ with_terminals rows f MOST_TERMINALS done
 with_all_terminals rows f done i zero all =
-    let end : i ≡ 63 = omega arith in
+    let end : i ≡ MOST_TERMINALS = omega arith in
     ap (λ (k : ℕ). with_terminals rows f k done) end
 with_all_terminals rows f done i (suc n) all =
     with_records-append (with_terminals rows f i done) (record_of_last i (f i))
@@ -287,7 +288,7 @@ last-fits plan register terminal (Some last) written possible =
     (((written last refl).1, possible last refl), tt)
 
 pub all_lasts-fit : (plan : Plan) (rows : List (List Row)) (f : ℕ → Option Last) (done i n : ℕ)
-    → i + n ≡ 63 → ((k : ℕ) (last : Last) → f k ≡ Some last → IsRecord (LastRecord k last))
+    → i + n ≡ MOST_TERMINALS → ((k : ℕ) (last : Last) → f k ≡ Some last → IsRecord (LastRecord k last))
     → ((k : ℕ) (last : Last) → f k ≡ Some last → IsPossibleLast plan k last.content)
     → BaseFitFrom plan (with_terminals rows f i done)
     (flat_map (λ k. record_of_last k (f k)) (range_with_len i n))
@@ -302,16 +303,16 @@ all_lasts-fit plan rows f done i (suc n) all written possible =
     (all_lasts-fit plan rows f done (i + 1) n (omega arith) written possible))
 
 pub rows-filled : (register : RegisterState) → IsWellFormed register
-    → map (filled [] (rows_of register) 16) cars ≡ register.rows
+    → map (filled [] (rows_of register) MOST_CARS) cars ≡ register.rows
 rows-filled register lawful =
-    sym (list_on_cars (filled [] (rows_of register) 16) register.rows [] lawful.row_count
-    (λ k below. sym (filled-below [] (rows_of register) 16 k below)))
+    sym (list_on_cars (filled [] (rows_of register) MOST_CARS) register.rows [] lawful.row_count
+    (λ k below. sym (filled-below [] (rows_of register) MOST_CARS k below)))
 
 pub lasts-filled : (register : RegisterState) → IsWellFormed register
-    → map (filled None (last_of register) 63) terminals ≡ register.lasts
+    → map (filled None (last_of register) MOST_TERMINALS) terminals ≡ register.lasts
 lasts-filled register lawful =
-    sym (list_on_terminals (filled None (last_of register) 63) register.lasts None lawful.last_count
-    (λ k below. sym (filled-below None (last_of register) 63 k below)))
+    sym (list_on_terminals (filled None (last_of register) MOST_TERMINALS) register.lasts None lawful.last_count
+    (λ k below. sym (filled-below None (last_of register) MOST_TERMINALS k below)))
 
 pub nothing-filled : {X : Type 0} (none : X) (f : ℕ → X)
     → map (filled none f 0) cars ≡ map (λ (k : ℕ). none) cars
@@ -328,9 +329,9 @@ nothing-filled_terminals none f =
 pub with_calls : (f : ℕ → List Row) (lasts : List (Option Last)) (done : ℕ)
     → ((k : ℕ) → All (λ (row : Row). row.car ≡ k) (f k))
     → with_records (with_cars f 0 lasts done) (map RowRecord (flat_map f cars))
-    ≡ with_cars f 16 lasts done
+    ≡ with_cars f MOST_CARS lasts done
 unfolding cars
-with_calls f lasts done own = with_all_cars f lasts done 0 16 refl own
+with_calls f lasts done own = with_all_cars f lasts done 0 MOST_CARS refl own
 
 pub calls-fit : (plan : Plan) (f : ℕ → List Row) (lasts : List (Option Last)) (done : ℕ)
     → ((k : ℕ) → All (λ (row : Row). row.car ≡ k) (f k))
@@ -340,13 +341,13 @@ pub calls-fit : (plan : Plan) (f : ℕ → List Row) (lasts : List (Option Last)
     → BaseFitFrom plan (with_cars f 0 lasts done) (map RowRecord (flat_map f cars))
 unfolding cars
 calls-fit plan f lasts done own written possible places =
-    all_cars-fit plan f lasts done 0 16 refl own written possible places
+    all_cars-fit plan f lasts done 0 MOST_CARS refl own written possible places
 
 pub with_lasts : (rows : List (List Row)) (f : ℕ → Option Last) (done : ℕ)
     → with_records (with_terminals rows f 0 done) (flat_map (λ k. record_of_last k (f k)) terminals)
-    ≡ with_terminals rows f 63 done
+    ≡ with_terminals rows f MOST_TERMINALS done
 unfolding terminals
-with_lasts rows f done = with_all_terminals rows f done 0 63 refl
+with_lasts rows f done = with_all_terminals rows f done 0 MOST_TERMINALS refl
 
 pub lasts-fit : (plan : Plan) (rows : List (List Row)) (f : ℕ → Option Last) (done : ℕ)
     → ((k : ℕ) (last : Last) → f k ≡ Some last → IsRecord (LastRecord k last))
@@ -355,7 +356,7 @@ pub lasts-fit : (plan : Plan) (rows : List (List Row)) (f : ℕ → Option Last)
     (flat_map (λ k. record_of_last k (f k)) terminals)
 unfolding terminals
 lasts-fit plan rows f done written possible =
-    all_lasts-fit plan rows f done 0 63 refl written possible
+    all_lasts-fit plan rows f done 0 MOST_TERMINALS refl written possible
 
 -- the empty register, seen as one whose first car, or terminal, comes next
 pub empty-as_rows : (f : ℕ → List Row) → with_cars f 0 empty.lasts 0 ≡ empty

@@ -9,6 +9,7 @@ use Rattle.std.proofs.lemmas.List.Elements.{All-tail}
 use Rattle.std.proofs.lemmas.Bool.{ne_eqb, eq-eqb}
 use Rattle.lift_base.specs.Travel.{same_dir}
 use Rattle.lift_base.specs.History.{terminal_of, dir_of, row_after}
+use Rattle.lift_base.specs.declared.limits.TheConstants.{MOST_CARS, MOST_TERMINALS}
 use Rattle.lift_base.specs.declared.travel.Dir.{Dir}
 use Rattle.lift_base.specs.declared.travel.Stop.{Stop as CarStop}
 use Rattle.lift_base.specs.declared.history.Entry.{Entry}
@@ -197,8 +198,8 @@ pub last_after-other : (register : RegisterState) (entry : Entry) (terminal : �
 last_after-other register entry terminal other =
     rw (ne_eqb (terminal_of entry) terminal (λ same. other (sym same))) refl
 
-pub lasts-one : (register : RegisterState) (entry : Entry) → length register.lasts ≡ 63
-    → terminal_of entry < 63
+pub lasts-one : (register : RegisterState) (entry : Entry) → length register.lasts ≡ MOST_TERMINALS
+    → terminal_of entry < MOST_TERMINALS
     → slice_set register.lasts (terminal_of entry) (Some (kept_of entry))
     ≡ map (last_after register (entry ∷ [])) terminals
 lasts-one register entry long below =
@@ -276,7 +277,7 @@ row_after-fewer (row ∷ rows) stop =
 
 -- the register after an allotment: one row more, and the kiosk's last command
 pub register_of-allot : (register : RegisterState) (kiosk number from to car party : ℕ)
-    → length register.rows ≡ 16 → length register.lasts ≡ 63 → kiosk < 63 → car < 16 →
+    → length register.rows ≡ MOST_CARS → length register.lasts ≡ MOST_TERMINALS → kiosk < MOST_TERMINALS → car < MOST_CARS →
     with_record (with_record register (RowRecord (waiting_row kiosk number from to car party)))
     (LastRecord kiosk (kept_of (Allot kiosk number from to car party)))
     ≡ register_of register (Allot kiosk number from to car party ∷ [])
@@ -295,7 +296,7 @@ register_of-allot register kiosk number from to car party long_rows long_lasts i
 
 -- the register after a stop: the rows of its car, and the car's last command
 pub register_of-stop : (register : RegisterState) (car number floor : ℕ) (dir : Dir)
-    → length register.rows ≡ 16 → length register.lasts ≡ 63 → car < 16
+    → length register.rows ≡ MOST_CARS → length register.lasts ≡ MOST_TERMINALS → car < MOST_CARS
     → ((k : ℕ) → All (λ (row : Row). row.car ≡ k) (rows_of register k)) →
     with_record (with_stop register car (record { floor = floor; dir = dir }))
     (LastRecord car (kept_of (Stop car number floor dir)))

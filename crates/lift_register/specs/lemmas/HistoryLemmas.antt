@@ -11,6 +11,7 @@ use Rattle.std.proofs.lemmas.Grind.{flat_map-append}
 use Rattle.std.proofs.lemmas.List.{map-append}
 use Rattle.std.proofs.lemmas.List.Elements.{filter-append}
 use Rattle.std.proofs.lemmas.List.Sums.{sum_by-append, sum_by-cons}
+use Rattle.lift_base.specs.declared.limits.TheConstants.{MOST_CARS, MOST_TERMINALS}
 use Rattle.lift_base.specs.declared.history.Entry.{Entry}
 use Rattle.lift_base.specs.declared.history.Entry.TheVariants.{Allot, Stop}
 use Rattle.lift_base.specs.declared.history.Last.{Last}
@@ -257,32 +258,32 @@ same_sum_on_range f g h a (suc n) same =
           same k (omega arith)),
     ))
 
-pub same_on_cars : {X : Type 0} (f g : ℕ → X) → ((k : ℕ) → k < 16 → f k ≡ g k)
+pub same_on_cars : {X : Type 0} (f g : ℕ → X) → ((k : ℕ) → k < MOST_CARS → f k ≡ g k)
     → map f cars ≡ map g cars
 unfolding cars
-same_on_cars f g same = same_on_range f g 0 16 same
+same_on_cars f g same = same_on_range f g 0 MOST_CARS same
 
-pub same_on_terminals : {X : Type 0} (f g : ℕ → X) → ((k : ℕ) → k < 63 → f k ≡ g k)
+pub same_on_terminals : {X : Type 0} (f g : ℕ → X) → ((k : ℕ) → k < MOST_TERMINALS → f k ≡ g k)
     → map f terminals ≡ map g terminals
 unfolding terminals
-same_on_terminals f g same = same_on_range f g 0 63 same
+same_on_terminals f g same = same_on_range f g 0 MOST_TERMINALS same
 
-pub same_sum_on_cars : (f g h : ℕ → ℕ) → ((k : ℕ) → k < 16 → f k ≡ g k + h k)
+pub same_sum_on_cars : (f g h : ℕ → ℕ) → ((k : ℕ) → k < MOST_CARS → f k ≡ g k + h k)
     → sum_by f cars ≡ sum_by g cars + sum_by h cars
 unfolding cars
-same_sum_on_cars f g h same = same_sum_on_range f g h 0 16 same
+same_sum_on_cars f g h same = same_sum_on_range f g h 0 MOST_CARS same
 
-pub rows_of-register_of : (base : RegisterState) (entries : List Entry) (car : ℕ) → car < 16
+pub rows_of-register_of : (base : RegisterState) (entries : List Entry) (car : ℕ) → car < MOST_CARS
     → rows_of (register_of base entries) car ≡ rows_after base entries car
 unfolding cars
 rows_of-register_of base entries car below =
-    get_or-map-range_with_len (rows_after base entries) 0 16 car car [] below (omega arith)
+    get_or-map-range_with_len (rows_after base entries) 0 MOST_CARS car car [] below (omega arith)
 
 pub last_of-register_of : (base : RegisterState) (entries : List Entry) (terminal : ℕ)
-    → terminal < 63 → last_of (register_of base entries) terminal ≡ last_after base entries terminal
+    → terminal < MOST_TERMINALS → last_of (register_of base entries) terminal ≡ last_after base entries terminal
 unfolding terminals
 last_of-register_of base entries terminal below =
-    get_or-map-range_with_len (last_after base entries) 0 63 terminal terminal None below
+    get_or-map-range_with_len (last_after base entries) 0 MOST_TERMINALS terminal terminal None below
     (omega arith)
 
 -- the newest entry of both lists is that of the later one, if it has one

@@ -14,6 +14,7 @@ use Rattle.lift_building.specs.Plan.{Plan, places_of}
 use Rattle.lift_base.specs.Travel.{same_dir}
 use Rattle.lift_base.specs.History.{dir_of, row_after}
 use Rattle.lift_base.specs.Records.{IsRecord}
+use Rattle.lift_base.specs.declared.limits.TheConstants.{FIRST_KIOSK, MOST_CARS, MOST_DONE, MOST_PLACES, MOST_ROWS, MOST_TERMINALS}
 use Rattle.lift_base.specs.declared.travel.Stop.{Stop as CarStop}
 use Rattle.lift_base.specs.declared.history.Record.TheVariants.{Row as RowRecord}
 use Rattle.lift_base.specs.declared.history.Record.TheVariants.{Last as LastRecord}
@@ -80,7 +81,7 @@ row_after-persons (row ∷ rows) stop =
     ) (omega (arith, one, row_after-persons rows stop))
 
 pub IsWellFormed-row : (register : RegisterState) (row : Row) → IsWellFormed register
-    → IsRecord (RowRecord row) → length (rows_of register row.car) < 32
+    → IsRecord (RowRecord row) → length (rows_of register row.car) < MOST_ROWS
     → IsWellFormed (with_record register (RowRecord row))
 IsWellFormed-row register row lawful written room =
     let within : row.car < length register.rows =
@@ -94,7 +95,7 @@ IsWellFormed-row register row lawful written room =
           (All-push (λ (r : Row). r.car ≡ row.car) (rows_of register row.car) row
           (lawful.own_cars row.car) refl) lawful.own_cars;
       few_rows = after_set (λ (car : ℕ) (list : List Row).
-          length list ≤ 32) register.rows row.car rows [] within
+          length list ≤ MOST_ROWS) register.rows row.car rows [] within
           (omega (arith, length-append (rows_of register row.car) (row ∷ []), room))
           lawful.few_rows;
       rows = after_set (λ (car : ℕ) (list : List Row).
@@ -133,7 +134,7 @@ IsWellFormed-last register terminal last lawful written =
     }
 
 pub IsWellFormed-stop : (register : RegisterState) (car : ℕ) (stop : CarStop)
-    → IsWellFormed register → car < 16 → register.done + length (rows_of register car) ≤ 788529105
+    → IsWellFormed register → car < MOST_CARS → register.done + length (rows_of register car) ≤ MOST_DONE
     → IsWellFormed (with_stop register car stop)
 IsWellFormed-stop register car stop lawful is_car countable =
     let within : car < length register.rows = omega (arith, lawful.row_count) in
@@ -146,7 +147,7 @@ IsWellFormed-stop register car stop lawful is_car countable =
           (All-row_after (λ (r : Row). r.car ≡ car) (λ r b own.
           own) (rows_of register car) stop (lawful.own_cars car)) lawful.own_cars;
       few_rows = after_set (λ (k : ℕ) (list : List Row).
-          length list ≤ 32) register.rows car rows [] within
+          length list ≤ MOST_ROWS) register.rows car rows [] within
           (omega (arith, row_after-fewer (rows_of register car) stop, lawful.few_rows car))
           lawful.few_rows;
       rows = after_set (λ (k : ℕ) (list : List Row).
@@ -206,8 +207,8 @@ BelongsTo-stop plan register car stop belongs within =
     }
 
 -- one open call more
-pub open_count-row : (register : RegisterState) (row : Row) → length register.rows ≡ 16
-    → row.car < 16 → open_count (with_record register (RowRecord row)) ≡ open_count register + 1
+pub open_count-row : (register : RegisterState) (row : Row) → length register.rows ≡ MOST_CARS
+    → row.car < MOST_CARS → open_count (with_record register (RowRecord row)) ≡ open_count register + 1
 open_count-row register row long is_car =
     let rows : List Row = rows_of register row.car ++ row ∷ [] in
     more_at_one_car (λ car. length (rows_of register car)) (λ car.
@@ -221,7 +222,7 @@ open_count-row register row long is_car =
 
 -- the calls that a stop ends are open no more
 pub open_count-stop : (register : RegisterState) (car : ℕ) (stop : CarStop)
-    → length register.rows ≡ 16 → car < 16
+    → length register.rows ≡ MOST_CARS → car < MOST_CARS
     → open_count register ≡ open_count (with_stop register car stop) + ended_by stop register car
 open_count-stop register car stop long is_car =
     let rows : List Row = flat_map (row_after stop) (rows_of register car) in
@@ -242,7 +243,7 @@ number_in o = option_map_or (λ (last : Last). last.number) o 0
 
 -- a kiosk's next number is one call more
 pub numbered_calls-kiosk : (register : RegisterState) (terminal : ℕ) (last : Last)
-    → length register.lasts ≡ 63 → 16 ≤ terminal → terminal < 63
+    → length register.lasts ≡ MOST_TERMINALS → FIRST_KIOSK ≤ terminal → terminal < MOST_TERMINALS
     → last.number ≡ last_number register terminal + 1
     → numbered_calls (with_record register (LastRecord terminal last)) ≡ numbered_calls register + 1
 numbered_calls-kiosk register terminal last long above below next =
@@ -253,7 +254,7 @@ numbered_calls-kiosk register terminal last long above below next =
     (ap number_in (get_or-set_same register.lasts terminal (Some last) None (omega (arith, long))) ∙
     next)
 
-pub numbered_calls-car : (register : RegisterState) (terminal : ℕ) (last : Last) → terminal < 16
+pub numbered_calls-car : (register : RegisterState) (terminal : ℕ) (last : Last) → terminal < MOST_CARS
     → numbered_calls (with_record register (LastRecord terminal last)) ≡ numbered_calls register
 numbered_calls-car register terminal last below =
     same_sum_over_kiosks (last_number register) (λ k.
@@ -268,7 +269,7 @@ number_in-few (Some last) terminal each = omega (arith, (each last refl).0.0.num
 
 -- no kiosk numbers more calls than its numbers reach
 pub numbered_calls-few : (register : RegisterState) → IsWellFormed register
-    → numbered_calls register ≤ 788529105
+    → numbered_calls register ≤ MOST_DONE
 numbered_calls-few register lawful =
     kiosks_below (last_number register) (λ k.
     number_in-few (last_of register k) k
@@ -276,7 +277,7 @@ numbered_calls-few register lawful =
 
 -- the calls that a car may end can be counted
 pub countable : (register : RegisterState) (car : ℕ) → IsWellFormed register → IsBalanced register
-    → car < 16 → register.done + length (rows_of register car) ≤ 788529105
+    → car < MOST_CARS → register.done + length (rows_of register car) ≤ MOST_DONE
 countable register car lawful balanced is_car =
     omega (
       arith,
@@ -298,7 +299,7 @@ length-le-persons (row ∷ rows) all =
 -- a car with a place for one more person has room for one more row
 pub has_room : (plan : Plan) (register : RegisterState) (row : Row) → IsWellFormed register
     → IsRecord (RowRecord row) → HasPlace plan register row.car row.party
-    → places_of plan row.car ≤ 32 → length (rows_of register row.car) < 32
+    → places_of plan row.car ≤ MOST_PLACES → length (rows_of register row.car) < MOST_ROWS
 has_room plan register row lawful written place few =
     omega (
       arith,

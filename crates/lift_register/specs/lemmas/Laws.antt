@@ -9,6 +9,7 @@ use Rattle.std.proofs.lemmas.Bool.{cases_lt}
 use Rattle.lift_building.specs.Plan.{Plan, places_of}
 use Rattle.lift_base.specs.declared.history.Record.TheVariants.{Entry as EntryRecord}
 use Rattle.lift_base.specs.Records.{IsRecord, IsTyped}
+use Rattle.lift_base.specs.declared.limits.TheConstants.{MOST_CARS, MOST_PLACES, MOST_ROWS, MOST_TERMINALS}
 use Rattle.lift_base.specs.declared.travel.Stop.{Stop as CarStop}
 use Rattle.lift_base.specs.declared.history.Entry.{Entry}
 use Rattle.lift_base.specs.declared.history.Entry.TheVariants.{Allot, Stop}
@@ -50,7 +51,7 @@ IsRecord-fitting plan register (Stop car number floor dir) typed fits =
 
 -- a register after one fitting entry: well formed, balanced, and of the same building
 pub IsWellFormed-entry : (plan : Plan) (register : RegisterState) (entry : Entry)
-    → ((car : ℕ) → places_of plan car ≤ 32) → IsWellFormed register → IsBalanced register
+    → ((car : ℕ) → places_of plan car ≤ MOST_PLACES) → IsWellFormed register → IsBalanced register
     → IsTyped (EntryRecord entry) → Fits plan register entry
     → IsWellFormed (register_of register (entry ∷ []))
 IsWellFormed-entry plan register (Allot kiosk number from to car party) few lawful balanced typed
@@ -69,7 +70,7 @@ IsWellFormed-entry plan register (Allot kiosk number from to car party) few lawf
 IsWellFormed-entry plan register (Stop car number floor dir) few lawful balanced typed fits =
     let stop : CarStop = record { floor = floor; dir = dir } in
     let last : Last = kept_of (Stop car number floor dir) in
-    let is_car : car < 16 = omega (arith, typed.1) in
+    let is_car : car < MOST_CARS = omega (arith, typed.1) in
     subst IsWellFormed (register_of-stop register car number floor dir lawful.row_count
     lawful.last_count is_car lawful.own_cars)
     (IsWellFormed-last (with_stop register car stop) car last
@@ -83,8 +84,8 @@ pub IsBalanced-entry : (plan : Plan) (register : RegisterState) (entry : Entry)
 IsBalanced-entry plan register (Allot kiosk number from to car party) lawful balanced typed fits =
     let row : Row = waiting_row kiosk number from to car party in
     let last : Last = kept_of (Allot kiosk number from to car party) in
-    let is_terminal : kiosk < 63 = omega (arith, typed.0.terminal_range) in
-    let is_car : car < 16 = omega (arith, typed.1.car_range) in
+    let is_terminal : kiosk < MOST_TERMINALS = omega (arith, typed.0.terminal_range) in
+    let is_car : car < MOST_CARS = omega (arith, typed.1.car_range) in
     subst IsBalanced (register_of-allot register kiosk number from to car party lawful.row_count
     lawful.last_count is_terminal is_car)
     (omega (
@@ -97,7 +98,7 @@ IsBalanced-entry plan register (Allot kiosk number from to car party) lawful bal
 IsBalanced-entry plan register (Stop car number floor dir) lawful balanced typed fits =
     let stop : CarStop = record { floor = floor; dir = dir } in
     let last : Last = kept_of (Stop car number floor dir) in
-    let is_car : car < 16 = omega (arith, typed.1) in
+    let is_car : car < MOST_CARS = omega (arith, typed.1) in
     subst IsBalanced (register_of-stop register car number floor dir lawful.row_count
     lawful.last_count is_car lawful.own_cars)
     (omega (
@@ -113,8 +114,8 @@ pub BelongsTo-entry : (plan : Plan) (register : RegisterState) (entry : Entry)
 BelongsTo-entry plan register (Allot kiosk number from to car party) lawful belongs typed fits =
     let row : Row = waiting_row kiosk number from to car party in
     let last : Last = kept_of (Allot kiosk number from to car party) in
-    let is_terminal : kiosk < 63 = omega (arith, typed.0.terminal_range) in
-    let is_car : car < 16 = omega (arith, typed.1.car_range) in
+    let is_terminal : kiosk < MOST_TERMINALS = omega (arith, typed.0.terminal_range) in
+    let is_car : car < MOST_CARS = omega (arith, typed.1.car_range) in
     subst (BelongsTo plan) (register_of-allot register kiosk number from to car party
     lawful.row_count lawful.last_count is_terminal is_car)
     (BelongsTo-last plan (with_record register (RowRecord row)) kiosk last
@@ -123,7 +124,7 @@ BelongsTo-entry plan register (Allot kiosk number from to car party) lawful belo
 BelongsTo-entry plan register (Stop car number floor dir) lawful belongs typed fits =
     let stop : CarStop = record { floor = floor; dir = dir } in
     let last : Last = kept_of (Stop car number floor dir) in
-    let is_car : car < 16 = omega (arith, typed.1) in
+    let is_car : car < MOST_CARS = omega (arith, typed.1) in
     subst (BelongsTo plan) (register_of-stop register car number floor dir lawful.row_count
     lawful.last_count is_car lawful.own_cars)
     (BelongsTo-last plan (with_stop register car stop) car last
@@ -157,14 +158,14 @@ FitFrom-parts plan register (entry ∷ first) later same fit =
     )
 
 pub rows_of-empty : (car : ℕ) → rows_of empty car ≡ []
-rows_of-empty car = elim (cases_lt car 16) [
+rows_of-empty car = elim (cases_lt car MOST_CARS) [
   | inl below ↦ get_or-on_cars (λ (k : ℕ). []) car [] below
   | inr past ↦ get_or_past (map (λ (k : ℕ). []) cars) car []
       (omega (arith, past, length-on_cars {X = List Row} (λ (k : ℕ). [])))
 ]
 
 pub last_of-empty : (terminal : ℕ) → last_of empty terminal ≡ None
-last_of-empty terminal = elim (cases_lt terminal 63) [
+last_of-empty terminal = elim (cases_lt terminal MOST_TERMINALS) [
   | inl below ↦ get_or-on_terminals (λ (k : ℕ). None) terminal None below
   | inr past ↦ get_or_past (map (λ (k : ℕ). None) terminals) terminal None
       (omega (arith, past, length-on_terminals {X = Option Last} (λ (k : ℕ). None)))
@@ -178,7 +179,7 @@ IsWellFormed-empty = record {
       All (λ (row : Row). row.car ≡ car) rows) (sym (rows_of-empty car))
       (All-nil (λ (row : Row). row.car ≡ car));
   few_rows = λ car. subst (λ (rows : List Row).
-      length rows ≤ 32) (sym (rows_of-empty car)) (omega arith);
+      length rows ≤ MOST_ROWS) (sym (rows_of-empty car)) (omega arith);
   rows = λ car. subst (λ (rows : List Row). All (λ (row : Row). IsRecord (RowRecord row)) rows)
       (sym (rows_of-empty car)) (All-nil (λ (row : Row). IsRecord (RowRecord row)));
   lasts = λ terminal last same. absurd (none-some last (sym (last_of-empty terminal) ∙ same));

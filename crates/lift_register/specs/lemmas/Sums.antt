@@ -10,6 +10,7 @@ use Rattle.std.proofs.lemmas.List.FromFn.{length-map-range_with_len}
 use Rattle.std.proofs.lemmas.List.Sums.{sum_by-cons}
 use Rattle.std.proofs.Math.Nat.{eq-or-lt_of_le}
 use Rattle.std.proofs.lemmas.Bool.{cases_eq}
+use Rattle.lift_base.specs.declared.limits.TheConstants.{FIRST_KIOSK, MOST_CARS, MOST_DONE, MOST_KIOSKS, MOST_TERMINALS}
 use Rattle.lift_register.specs.Register.{cars, terminals, kiosk_terminals}
 
 -- a list whose places all have what f gives there
@@ -34,43 +35,43 @@ set_on_range f xs n i d long below others =
       others k,
     ))
 
-pub list_on_cars : {X : Type 0} (f : ℕ → X) (xs : List X) (d : X) → length xs ≡ 16
-    → ((k : ℕ) → k < 16 → get_or xs k d ≡ f k) → xs ≡ map f cars
+pub list_on_cars : {X : Type 0} (f : ℕ → X) (xs : List X) (d : X) → length xs ≡ MOST_CARS
+    → ((k : ℕ) → k < MOST_CARS → get_or xs k d ≡ f k) → xs ≡ map f cars
 unfolding cars
-list_on_cars f xs d long same = list_on_range f xs 16 d long same
+list_on_cars f xs d long same = list_on_range f xs MOST_CARS d long same
 
-pub list_on_terminals : {X : Type 0} (f : ℕ → X) (xs : List X) (d : X) → length xs ≡ 63
-    → ((k : ℕ) → k < 63 → get_or xs k d ≡ f k) → xs ≡ map f terminals
+pub list_on_terminals : {X : Type 0} (f : ℕ → X) (xs : List X) (d : X) → length xs ≡ MOST_TERMINALS
+    → ((k : ℕ) → k < MOST_TERMINALS → get_or xs k d ≡ f k) → xs ≡ map f terminals
 unfolding terminals
-list_on_terminals f xs d long same = list_on_range f xs 63 d long same
+list_on_terminals f xs d long same = list_on_range f xs MOST_TERMINALS d long same
 
-pub set_on_cars : {X : Type 0} (f : ℕ → X) (xs : List X) (i : ℕ) (d : X) → length xs ≡ 16 → i < 16
-    → ((k : ℕ) → k < 16 → k ≢ i → f k ≡ get_or xs k d) → set xs i (f i) ≡ map f cars
+pub set_on_cars : {X : Type 0} (f : ℕ → X) (xs : List X) (i : ℕ) (d : X) → length xs ≡ MOST_CARS → i < MOST_CARS
+    → ((k : ℕ) → k < MOST_CARS → k ≢ i → f k ≡ get_or xs k d) → set xs i (f i) ≡ map f cars
 unfolding cars
-set_on_cars f xs i d long below others = set_on_range f xs 16 i d long below others
+set_on_cars f xs i d long below others = set_on_range f xs MOST_CARS i d long below others
 
-pub set_on_terminals : {X : Type 0} (f : ℕ → X) (xs : List X) (i : ℕ) (d : X) → length xs ≡ 63
-    → i < 63 → ((k : ℕ) → k < 63 → k ≢ i → f k ≡ get_or xs k d) → set xs i (f i) ≡ map f terminals
+pub set_on_terminals : {X : Type 0} (f : ℕ → X) (xs : List X) (i : ℕ) (d : X) → length xs ≡ MOST_TERMINALS
+    → i < MOST_TERMINALS → ((k : ℕ) → k < MOST_TERMINALS → k ≢ i → f k ≡ get_or xs k d) → set xs i (f i) ≡ map f terminals
 unfolding terminals
-set_on_terminals f xs i d long below others = set_on_range f xs 63 i d long below others
+set_on_terminals f xs i d long below others = set_on_range f xs MOST_TERMINALS i d long below others
 
-pub get_or-on_cars : {X : Type 0} (f : ℕ → X) (i : ℕ) (d : X) → i < 16
+pub get_or-on_cars : {X : Type 0} (f : ℕ → X) (i : ℕ) (d : X) → i < MOST_CARS
     → get_or (map f cars) i d ≡ f i
 unfolding cars
-get_or-on_cars f i d below = get_or-map-range_with_len f 0 16 i i d below (omega arith)
+get_or-on_cars f i d below = get_or-map-range_with_len f 0 MOST_CARS i i d below (omega arith)
 
-pub get_or-on_terminals : {X : Type 0} (f : ℕ → X) (i : ℕ) (d : X) → i < 63
+pub get_or-on_terminals : {X : Type 0} (f : ℕ → X) (i : ℕ) (d : X) → i < MOST_TERMINALS
     → get_or (map f terminals) i d ≡ f i
 unfolding terminals
-get_or-on_terminals f i d below = get_or-map-range_with_len f 0 63 i i d below (omega arith)
+get_or-on_terminals f i d below = get_or-map-range_with_len f 0 MOST_TERMINALS i i d below (omega arith)
 
-pub length-on_cars : {X : Type 0} (f : ℕ → X) → length (map f cars) ≡ 16
+pub length-on_cars : {X : Type 0} (f : ℕ → X) → length (map f cars) ≡ MOST_CARS
 unfolding cars
-length-on_cars f = length-map-range_with_len f 0 16
+length-on_cars f = length-map-range_with_len f 0 MOST_CARS
 
-pub length-on_terminals : {X : Type 0} (f : ℕ → X) → length (map f terminals) ≡ 63
+pub length-on_terminals : {X : Type 0} (f : ℕ → X) → length (map f terminals) ≡ MOST_TERMINALS
 unfolding terminals
-length-on_terminals f = length-map-range_with_len f 0 63
+length-on_terminals f = length-map-range_with_len f 0 MOST_TERMINALS
 
 pub same_sum : (f g : ℕ → ℕ) (a n : ℕ) → ((k : ℕ) → a ≤ k → k < a + n → g k ≡ f k)
     → sum_by g (range_with_len a n) ≡ sum_by f (range_with_len a n)
@@ -111,47 +112,42 @@ sum_of_nothing a (suc n) =
     rw (sum_by-cons (λ (k : ℕ). 0) a (range_with_len (a + 1) n))
     (omega (arith, sum_of_nothing (a + 1) n))
 
-pub same_sum_over_cars : (f g : ℕ → ℕ) → ((k : ℕ) → k < 16 → g k ≡ f k)
-    → sum_by g cars ≡ sum_by f cars
-unfolding cars
-same_sum_over_cars f g same = same_sum f g 0 16 (λ k above below. same k below)
-
-pub more_at_one_car : (f g : ℕ → ℕ) (i x : ℕ) → ((k : ℕ) → k ≢ i → g k ≡ f k) → i < 16
+pub more_at_one_car : (f g : ℕ → ℕ) (i x : ℕ) → ((k : ℕ) → k ≢ i → g k ≡ f k) → i < MOST_CARS
     → g i ≡ f i + x → sum_by g cars ≡ sum_by f cars + x
 unfolding cars
-more_at_one_car f g i x others below here = more_at_one f g 0 16 i x others (omega arith) below here
+more_at_one_car f g i x others below here = more_at_one f g 0 MOST_CARS i x others (omega arith) below here
 
-pub only_at_one_car : (f : ℕ → ℕ) (i : ℕ) → ((k : ℕ) → k ≢ i → f k ≡ 0) → i < 16
+pub only_at_one_car : (f : ℕ → ℕ) (i : ℕ) → ((k : ℕ) → k ≢ i → f k ≡ 0) → i < MOST_CARS
     → sum_by f cars ≡ f i
 unfolding cars
 only_at_one_car f i others below =
     omega (
       arith,
-      sum_of_nothing 0 16,
+      sum_of_nothing 0 MOST_CARS,
       more_at_one (λ (k : ℕ).
-          0) f 0 16 i (f i) others (omega arith) below (omega arith),
+          0) f 0 MOST_CARS i (f i) others (omega arith) below (omega arith),
     )
 
 pub nothing_over_cars : (f : ℕ → ℕ) → ((k : ℕ) → f k ≡ 0) → sum_by f cars ≡ 0
 unfolding cars
 nothing_over_cars f none =
-    same_sum (λ (k : ℕ). 0) f 0 16 (λ k above below. none k) ∙ sum_of_nothing 0 16
+    same_sum (λ (k : ℕ). 0) f 0 MOST_CARS (λ k above below. none k) ∙ sum_of_nothing 0 MOST_CARS
 
-pub more_at_one_kiosk : (f g : ℕ → ℕ) (i x : ℕ) → ((k : ℕ) → k ≢ i → g k ≡ f k) → 16 ≤ i → i < 63
+pub more_at_one_kiosk : (f g : ℕ → ℕ) (i x : ℕ) → ((k : ℕ) → k ≢ i → g k ≡ f k) → FIRST_KIOSK ≤ i → i < MOST_TERMINALS
     → g i ≡ f i + x → sum_by g kiosk_terminals ≡ sum_by f kiosk_terminals + x
 unfolding kiosk_terminals
 more_at_one_kiosk f g i x others above below here =
-    more_at_one f g 16 47 i x others above below here
+    more_at_one f g FIRST_KIOSK MOST_KIOSKS i x others above below here
 
-pub same_sum_over_kiosks : (f g : ℕ → ℕ) → ((k : ℕ) → 16 ≤ k → k < 63 → g k ≡ f k)
+pub same_sum_over_kiosks : (f g : ℕ → ℕ) → ((k : ℕ) → FIRST_KIOSK ≤ k → k < MOST_TERMINALS → g k ≡ f k)
     → sum_by g kiosk_terminals ≡ sum_by f kiosk_terminals
 unfolding kiosk_terminals
-same_sum_over_kiosks f g same = same_sum f g 16 47 same
+same_sum_over_kiosks f g same = same_sum f g FIRST_KIOSK MOST_KIOSKS same
 
 pub nothing_over_kiosks : (f : ℕ → ℕ) → ((k : ℕ) → f k ≡ 0) → sum_by f kiosk_terminals ≡ 0
 unfolding kiosk_terminals
 nothing_over_kiosks f none =
-    same_sum (λ (k : ℕ). 0) f 16 47 (λ k above below. none k) ∙ sum_of_nothing 16 47
+    same_sum (λ (k : ℕ). 0) f FIRST_KIOSK MOST_KIOSKS (λ k above below. none k) ∙ sum_of_nothing FIRST_KIOSK MOST_KIOSKS
 
 pub at_most_sum : (f : ℕ → ℕ) (a n i : ℕ) → a ≤ i → i < a + n → f i ≤ sum_by f (range_with_len a n)
 at_most_sum f a zero i low high = absurd (omega arith)
@@ -161,9 +157,9 @@ at_most_sum f a (suc n) i low high = elim (eq-or-lt_of_le low) [
       (omega (arith, at_most_sum f (a + 1) n i (omega arith) (omega arith)))
 ]
 
-pub at_most_over_cars : (f : ℕ → ℕ) (i : ℕ) → i < 16 → f i ≤ sum_by f cars
+pub at_most_over_cars : (f : ℕ → ℕ) (i : ℕ) → i < MOST_CARS → f i ≤ sum_by f cars
 unfolding cars
-at_most_over_cars f i below = at_most_sum f 0 16 i (omega arith) below
+at_most_over_cars f i below = at_most_sum f 0 MOST_CARS i (omega arith) below
 
 pub sum_below : (f : ℕ → ℕ) (m a n : ℕ) → ((k : ℕ) → f k ≤ m)
     → sum_by f (range_with_len a n) ≤ n * m
@@ -172,9 +168,9 @@ sum_below f m a (suc n) each =
     rw (sum_by-cons f a (range_with_len (a + 1) n))
     (omega (arith, each a, sum_below f m (a + 1) n each))
 
-pub kiosks_below : (f : ℕ → ℕ) → ((k : ℕ) → f k ≤ 16777215) → sum_by f kiosk_terminals ≤ 788529105
+pub kiosks_below : (f : ℕ → ℕ) → ((k : ℕ) → f k ≤ 16777215) → sum_by f kiosk_terminals ≤ MOST_DONE
 unfolding kiosk_terminals
-kiosks_below f each = omega (arith, sum_below f 16777215 16 47 each)
+kiosks_below f each = omega (arith, sum_below f 16777215 FIRST_KIOSK MOST_KIOSKS each)
 
 pub sum_of_map : (f : ℕ → ℕ) (xs : List ℕ) → sum_by (λ x. x) (map f xs) ≡ sum_by f xs
 sum_of_map f [] = refl

@@ -49,7 +49,7 @@ fn last_of(register: &Register, terminal: Terminal) -> LastLetter
 /// A pager for each terminal that there can be.
 #[tactic(auto, using(std::proofs::lemmas::Option::gets))]
 pub(super) fn new_pagers(alloc: Global) -> Result<Vec<Pager>, Memory>
-    ensures count { IfOk result (λ pagers. length pagers.items ≡ 63) }
+    ensures count { IfOk result (λ pagers. length pagers.items ≡ MOST_TERMINALS) }
     ensures in_order { IfOk result (λ pagers. AreInOrder pagers.items) }
 {
     let mut pagers = with_room(alloc, MOST_TERMINALS)?;
@@ -63,7 +63,7 @@ pub(super) fn new_pagers(alloc: Global) -> Result<Vec<Pager>, Memory>
 /// A new seat's place, with what a register knows of its terminal.
 #[tactic(auto, using(std::proofs::lemmas::Option::gets))]
 fn held_of<'d>(desk: &'d Desk, pagers: &'d [Pager], seat: Seat, register: &Register) -> HeldSeat<'d>
-    requires pagers { 63 ≤ length pagers.now }
+    requires pagers { MOST_TERMINALS ≤ length pagers.now }
     requires in_order { AreInOrder pagers.now }
     requires new { IsNewSeat seat }
     requires seated { IsSeatOf desk.now seat }
@@ -93,7 +93,7 @@ pub(super) fn lobby_at<'d>(
     seats: Vec<Seat>,
     register: &Register,
 ) -> Lobby<'d>
-    requires pagers { 63 ≤ length pagers.now }
+    requires pagers { MOST_TERMINALS ≤ length pagers.now }
     requires in_order { AreInOrder pagers.now }
     requires seats { AreSeatsOf desk.now seats.items }
     requires all { seats.items ≡ seats_from 0 desk.now }

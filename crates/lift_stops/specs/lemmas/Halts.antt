@@ -9,6 +9,7 @@ use Rattle.std.proofs.lemmas.List.Elements.{All-cons, All-nil}
 use Rattle.std.specs.List.{list_any, list_all, range_with_len}
 use Rattle.lift_base.specs.Travel.{same_dir}
 use Rattle.lift_base.specs.History.{dir_of}
+use Rattle.lift_base.specs.declared.limits.TheConstants.{MOST_FLOORS, TOP_FLOOR}
 use Rattle.lift_base.specs.declared.travel.Dir.{Dir}
 use Rattle.lift_base.specs.declared.travel.Dir.TheVariants.{Up, Down}
 use Rattle.lift_base.specs.declared.travel.Pass.{Pass}
@@ -31,22 +32,22 @@ all_halts-rise Down = Rises-from_test (rank_of Down) 0 (all_halts Down) refl
 abbrev pub halt_at : Pass → ℕ → Halt
 halt_at pass floor = record { pass = pass; floor = floor }
 
-pub floors_along-all : (dir : Dir) (floor : ℕ) → floor < 64 → IsIn floor (floors_along dir)
-floors_along-all Up floor below = IsIn-range floor 0 64 (omega arith) below
+pub floors_along-all : (dir : Dir) (floor : ℕ) → floor < MOST_FLOORS → IsIn floor (floors_along dir)
+floors_along-all Up floor below = IsIn-range floor 0 MOST_FLOORS (omega arith) below
 floors_along-all Down floor below =
-    let place : ℕ = 63 - floor in
-    let same : 63 - (63 - floor) ≡ floor = omega arith in
-    subst (λ (f : ℕ). IsIn f (map (λ n. 63 - n) (range_with_len 0 64))) same
-    (IsIn-map (λ n. 63 - n) (63 - floor) (range_with_len 0 64)
-    (IsIn-range (63 - floor) 0 64 (omega arith) (omega arith)))
+    let place : ℕ = TOP_FLOOR - floor in
+    let same : TOP_FLOOR - (TOP_FLOOR - floor) ≡ floor = omega arith in
+    subst (λ (f : ℕ). IsIn f (map (λ n. TOP_FLOOR - n) (range_with_len 0 MOST_FLOORS))) same
+    (IsIn-map (λ n. TOP_FLOOR - n) (TOP_FLOOR - floor) (range_with_len 0 MOST_FLOORS)
+    (IsIn-range (TOP_FLOOR - floor) 0 MOST_FLOORS (omega arith) (omega arith)))
 
-pub halts_in-all : (dir : Dir) (pass : Pass) (floor : ℕ) → floor < 64
+pub halts_in-all : (dir : Dir) (pass : Pass) (floor : ℕ) → floor < MOST_FLOORS
     → IsIn (halt_at pass floor) (halts_in dir pass)
 halts_in-all dir pass floor below =
     IsIn-map (halt_at pass) floor (floors_along (dir_in dir pass))
     (floors_along-all (dir_in dir pass) floor below)
 
-pub all_halts-all : (dir : Dir) (pass : Pass) (floor : ℕ) → floor < 64
+pub all_halts-all : (dir : Dir) (pass : Pass) (floor : ℕ) → floor < MOST_FLOORS
     → IsIn (halt_at pass floor) (all_halts dir)
 all_halts-all dir First floor below =
     IsIn-left (halt_at First floor) (halts_in dir First ++ halts_in dir Second) (halts_in dir Third)
@@ -61,17 +62,17 @@ all_halts-all dir Third floor below =
     (halts_in dir Third) (halts_in-all dir Third floor below)
 
 -- floors are all below 64
-pub floors_below : (xs : List Halt) → list_all (λ (halt : Halt). nat_lt halt.floor 64) xs ≡ true
-    → (x : Halt) → IsIn x xs → x.floor < 64
+pub floors_below : (xs : List Halt) → list_all (λ (halt : Halt). nat_lt halt.floor MOST_FLOORS) xs ≡ true
+    → (x : Halt) → IsIn x xs → x.floor < MOST_FLOORS
 floors_below [] test x member = absurd member
 floors_below (y ∷ ys) test x (inl same) =
-    rw same (ltb-true y.floor 64
-    (and_true (nat_lt y.floor 64) (list_all (λ (halt : Halt). nat_lt halt.floor 64) ys) test).0)
+    rw same (ltb-true y.floor MOST_FLOORS
+    (and_true (nat_lt y.floor MOST_FLOORS) (list_all (λ (halt : Halt). nat_lt halt.floor MOST_FLOORS) ys) test).0)
 floors_below (y ∷ ys) test x (inr later) =
-    floors_below ys (and_true (nat_lt y.floor 64) (list_all (λ (halt : Halt).
-    nat_lt halt.floor 64) ys) test).1 x later
+    floors_below ys (and_true (nat_lt y.floor MOST_FLOORS) (list_all (λ (halt : Halt).
+    nat_lt halt.floor MOST_FLOORS) ys) test).1 x later
 
-pub all_halts-below : (dir : Dir) (x : Halt) → IsIn x (all_halts dir) → x.floor < 64
+pub all_halts-below : (dir : Dir) (x : Halt) → IsIn x (all_halts dir) → x.floor < MOST_FLOORS
 all_halts-below Up x member = floors_below (all_halts Up) refl x member
 all_halts-below Down x member = floors_below (all_halts Down) refl x member
 
@@ -81,19 +82,19 @@ same_tests m n p q there back = elim (cases_eq p q) [
   | inr other ↦ rw (ne_eqb p q other, ne_eqb m n (λ same. other (there same))) refl
 ]
 
-pub same_floor_rank : (dir : Dir) (a b k : ℕ) → a < 64 → b < 64
+pub same_floor_rank : (dir : Dir) (a b k : ℕ) → a < MOST_FLOORS → b < MOST_FLOORS
     → (k + floor_rank dir a == k + floor_rank dir b) ≡ (b == a)
 same_floor_rank Up a b k below_a below_b =
     same_tests (k + a) (k + b) b a (λ same. omega (arith, same)) (λ same. omega (arith, same))
 same_floor_rank Down a b k below_a below_b =
-    same_tests (k + (63 - a)) (k + (63 - b)) b a (λ same. omega (arith, same)) (λ same.
+    same_tests (k + (TOP_FLOOR - a)) (k + (TOP_FLOOR - b)) b a (λ same. omega (arith, same)) (λ same.
     omega (arith, same))
 
-pub floor_rank-below : (dir : Dir) (a : ℕ) → a < 64 → floor_rank dir a < 64
+pub floor_rank-below : (dir : Dir) (a : ℕ) → a < MOST_FLOORS → floor_rank dir a < MOST_FLOORS
 floor_rank-below Up a below = below
 floor_rank-below Down a below = omega (arith, below)
 
-pub same_ranks_at : (dir : Dir) (p q : Pass) (f g : ℕ) → f < 64 → g < 64
+pub same_ranks_at : (dir : Dir) (p q : Pass) (f g : ℕ) → f < MOST_FLOORS → g < MOST_FLOORS
     → (rank_of dir (halt_at p f) == rank_of dir (halt_at q g)) ≡ (same_pass q p && g == f)
 same_ranks_at dir First First f g below_f below_g =
     same_floor_rank (dir_in dir First) f g 0 below_f below_g
@@ -157,12 +158,12 @@ same_ranks_at dir Third Third f g below_f below_g =
     same_floor_rank (dir_in dir Third) f g 128 below_f below_g
 
 -- two halts have the same rank where they are the same
-pub same_ranks : (dir : Dir) (a b : Halt) → a.floor < 64 → b.floor < 64
+pub same_ranks : (dir : Dir) (a b : Halt) → a.floor < MOST_FLOORS → b.floor < MOST_FLOORS
     → (rank_of dir a == rank_of dir b) ≡ (same_pass b.pass a.pass && b.floor == a.floor)
 same_ranks dir a b below_a below_b = same_ranks_at dir a.pass b.pass a.floor b.floor below_a below_b
 
 -- a halt put among those that pass a test: those that pass it or are that halt
-pub put-halt : (dir : Dir) (p : Halt → Bool) (x : Halt) → x.floor < 64
+pub put-halt : (dir : Dir) (p : Halt → Bool) (x : Halt) → x.floor < MOST_FLOORS
     → put (rank_of dir) x (filter p (all_halts dir))
     ≡ filter (λ halt. p halt || same_pass x.pass halt.pass && x.floor == halt.floor) (all_halts dir)
 put-halt dir p x below =
@@ -193,7 +194,7 @@ put_legs dir pass (leg ∷ legs) halts =
     put_legs dir pass legs (put (rank_of dir) (halt_at pass leg) halts)
 
 pub put_legs-filter : (dir : Dir) (pass : Pass) (legs : List ℕ) (p : Halt → Bool)
-    → ((k : ℕ) (d : ℕ) → k < length legs → get_or legs k d < 64)
+    → ((k : ℕ) (d : ℕ) → k < length legs → get_or legs k d < MOST_FLOORS)
     → put_legs dir pass legs (filter p (all_halts dir))
     ≡ filter (λ halt. p halt || (same_pass pass halt.pass && list_any (λ leg.
     leg == halt.floor) legs)) (all_halts dir)
@@ -224,7 +225,7 @@ one_more rows row position halt =
 
 -- The list with one more row is the list with that row's legs put in.
 pub stop_list-push : (rows : List Row) (row : Row) (position : Position)
-    → ((k : ℕ) (d : ℕ) → k < length (legs_of row) → get_or (legs_of row) k d < 64) →
+    → ((k : ℕ) (d : ℕ) → k < length (legs_of row) → get_or (legs_of row) k d < MOST_FLOORS) →
     put_legs position.dir (pass_of position row) (legs_of row) (stop_list rows position)
     ≡ stop_list (rows ++ row ∷ []) position
 unfolding stop_list
@@ -264,7 +265,7 @@ dir_in-pass_of position row =
     cases Down Down true = refl
     cases Down Down false = refl
 
-pub floor_rank-travel : (from to : ℕ) → from ≢ to → from < 64 → to < 64
+pub floor_rank-travel : (from to : ℕ) → from ≢ to → from < MOST_FLOORS → to < MOST_FLOORS
     → floor_rank (dir_of from to) from < floor_rank (dir_of from to) to
 floor_rank-travel from to apart below_from below_to = elim (cases_lt from to) [
   | inl up ↦ rw (lt-ltb from to up) up
@@ -273,7 +274,7 @@ floor_rank-travel from to apart below_from below_to = elim (cases_lt from to) [
 
 -- the legs of a waiting call, in the order of travel
 pub legs-put : (dir : Dir) (pass : Pass) (from to : ℕ) → dir_in dir pass ≡ dir_of from to
-    → from ≢ to → from < 64 → to < 64
+    → from ≢ to → from < MOST_FLOORS → to < MOST_FLOORS
     → put_legs dir pass (from ∷ to ∷ []) [] ≡ halt_at pass from ∷ halt_at pass to ∷ []
 legs-put dir pass from to travels apart below_from below_to =
     let ahead : floor_rank (dir_in dir pass) from < floor_rank (dir_in dir pass) to =
@@ -289,7 +290,7 @@ filter-none (x ∷ xs) = filter-none xs
 pub own_legs : (dir : Dir) (pass : Pass) (from to : ℕ) (aboard : Bool)
     → dir_in dir pass ≡ dir_of from to → from ≢ to →
     ((k : ℕ) (d : ℕ) → k < length (if aboard then to ∷ [] else from ∷ to ∷ [])
-    → get_or (if aboard then to ∷ [] else from ∷ to ∷ []) k d < 64) →
+    → get_or (if aboard then to ∷ [] else from ∷ to ∷ []) k d < MOST_FLOORS) →
     put_legs dir pass (if aboard then to ∷ [] else from ∷ to ∷ []) []
     ≡ map (halt_at pass) (if aboard then to ∷ [] else from ∷ to ∷ [])
 own_legs dir pass from to true travels apart below = refl
@@ -300,7 +301,7 @@ own_legs dir pass from to false travels apart below =
 -- car is.
 pub stop_list-own : (rows : List Row) (row : Row) (position : Position) → Contains rows row
     → row.from ≢ row.to → ((k : ℕ) (d : ℕ) → k < length (legs_of row)
-    → get_or (legs_of row) k d < 64)
+    → get_or (legs_of row) k d < MOST_FLOORS)
     → filter (is_halt_of position row) (stop_list rows position) ≡ halts_of position row
 unfolding stop_list
 stop_list-own rows row position member apart below =
@@ -312,25 +313,25 @@ stop_list-own rows row position member apart below =
     (own_legs position.dir (pass_of position row) row.from row.to row.aboard
     (dir_in-pass_of position row) apart below)
 
-pub floors_waiting : (row : Row) → row.aboard ≡ false → row.from < 64 → row.to < 64 → HasFloors row
+pub floors_waiting : (row : Row) → row.aboard ≡ false → row.from < MOST_FLOORS → row.to < MOST_FLOORS → HasFloors row
 floors_waiting row waits below_from below_to =
     rw waits (All-cons (λ leg.
-    leg < 64) row.from (row.to ∷ []) below_from
-    (All-cons (λ leg. leg < 64) row.to [] below_to (All-nil (λ leg. leg < 64))))
+    leg < MOST_FLOORS) row.from (row.to ∷ []) below_from
+    (All-cons (λ leg. leg < MOST_FLOORS) row.to [] below_to (All-nil (λ leg. leg < MOST_FLOORS))))
 
-pub floors_aboard : (row : Row) → row.aboard ≡ true → row.to < 64 → HasFloors row
+pub floors_aboard : (row : Row) → row.aboard ≡ true → row.to < MOST_FLOORS → HasFloors row
 floors_aboard row rides below_to =
-    rw rides (All-cons (λ leg. leg < 64) row.to [] below_to (All-nil (λ leg. leg < 64)))
+    rw rides (All-cons (λ leg. leg < MOST_FLOORS) row.to [] below_to (All-nil (λ leg. leg < MOST_FLOORS)))
 
-legs_below : (from to : ℕ) (aboard : Bool) → from < 64 → to < 64
-    → All (λ leg. leg < 64) (cond aboard (to ∷ []) (from ∷ to ∷ []))
+legs_below : (from to : ℕ) (aboard : Bool) → from < MOST_FLOORS → to < MOST_FLOORS
+    → All (λ leg. leg < MOST_FLOORS) (cond aboard (to ∷ []) (from ∷ to ∷ []))
 legs_below from to true below_from below_to =
-    All-cons (λ leg. leg < 64) to [] below_to (All-nil (λ leg. leg < 64))
+    All-cons (λ leg. leg < MOST_FLOORS) to [] below_to (All-nil (λ leg. leg < MOST_FLOORS))
 legs_below from to false below_from below_to =
-    All-cons (λ leg. leg < 64) from (to ∷ []) below_from
-    (All-cons (λ leg. leg < 64) to [] below_to (All-nil (λ leg. leg < 64)))
+    All-cons (λ leg. leg < MOST_FLOORS) from (to ∷ []) below_from
+    (All-cons (λ leg. leg < MOST_FLOORS) to [] below_to (All-nil (λ leg. leg < MOST_FLOORS)))
 
-pub floors_of : (row : Row) (aboard : Bool) → row.from < 64 → row.to < 64 → HasFloors row
+pub floors_of : (row : Row) (aboard : Bool) → row.from < MOST_FLOORS → row.to < MOST_FLOORS → HasFloors row
 floors_of row aboard below_from below_to = legs_below row.from row.to row.aboard below_from below_to
 
 pub stop_list-none : (position : Position) → stop_list [] position ≡ []
@@ -339,7 +340,7 @@ stop_list-none position = filter-none (all_halts position.dir)
 
 -- the halts after a row that waits
 pub stop_list-waiting : (rows : List Row) (row : Row) (position : Position) → row.aboard ≡ false
-    → row.from < 64 → row.to < 64 →
+    → row.from < MOST_FLOORS → row.to < MOST_FLOORS →
     put (rank_of position.dir) (halt_at (pass_of position row) row.to)
     (put (rank_of position.dir) (halt_at (pass_of position row) row.from)
     (stop_list rows position)) ≡ stop_list (rows ++ row ∷ []) position
@@ -351,7 +352,7 @@ stop_list-waiting rows row position waits below_from below_to =
 
 -- the halts after a row whose passenger is aboard
 pub stop_list-aboard : (rows : List Row) (row : Row) (position : Position) → row.aboard ≡ true
-    → row.to < 64 →
+    → row.to < MOST_FLOORS →
     put (rank_of position.dir) (halt_at (pass_of position row) row.to) (stop_list rows position)
     ≡ stop_list (rows ++ row ∷ []) position
 stop_list-aboard rows row position rides below_to =

@@ -3,23 +3,24 @@ use Rattle.std.proofs.Common.{◌≡◌, ◌≢◌, ℕ, ◌+◌, ◌-◌, ◌*�
 use Rattle.std.proofs.Common.{inl, inr}
 use Rattle.std.proofs.lemmas.Bool.{cases_Bool, eqb-true, eqb-false}
 use Rattle.lift_base.specs.Travel.{pass_number}
+use Rattle.lift_base.specs.declared.limits.TheConstants.{MOST_FLOORS}
 use Rattle.lift_base.specs.declared.travel.Pass.{Pass}
 use Rattle.lift_base.specs.declared.travel.Pass.TheVariants.{First, Second, Third}
 use Rattle.lift_base.specs.declared.travel.Halt.{Halt}
 use Rattle.lift_stops.specs.StopList.{same_pass, same_halt}
 use Rattle.lift_stops.specs.Leaving.{place_of}
 
-pub pass_below : (pass : Pass) → 64 * (pass_number pass - 1) ≤ 128
+pub pass_below : (pass : Pass) → MOST_FLOORS * (pass_number pass - 1) ≤ 2 * MOST_FLOORS
 pass_below First = omega arith
 pass_below Second = omega arith
 pass_below Third = omega arith
 
 -- a halt's place is within the table
-pub place_within : (halt : Halt) → halt.floor < 64 → place_of halt < 192
+pub place_within : (halt : Halt) → halt.floor < MOST_FLOORS → place_of halt < 3 * MOST_FLOORS
 place_within halt low = omega (arith, low, pass_below halt.pass)
 
-pub passes_apart : (p q : Pass) (f g : ℕ) → f < 64 → g < 64 → same_pass p q ≡ false
-    → 64 * (pass_number p - 1) + f ≢ 64 * (pass_number q - 1) + g
+pub passes_apart : (p q : Pass) (f g : ℕ) → f < MOST_FLOORS → g < MOST_FLOORS → same_pass p q ≡ false
+    → MOST_FLOORS * (pass_number p - 1) + f ≢ MOST_FLOORS * (pass_number q - 1) + g
 passes_apart First First f g low_f low_g other = absurd cc
 passes_apart First Second f g low_f low_g other = omega arith
 passes_apart First Third f g low_f low_g other = omega arith
@@ -42,7 +43,7 @@ same_passes Third Second same = absurd cc
 same_passes Third Third same = refl
 
 -- two halts have different places
-pub places_apart : (a b : Halt) → a.floor < 64 → b.floor < 64 → same_halt a b ≡ false
+pub places_apart : (a b : Halt) → a.floor < MOST_FLOORS → b.floor < MOST_FLOORS → same_halt a b ≡ false
     → place_of b ≢ place_of a
 places_apart a b low_a low_b other = elim (cases_Bool (same_pass a.pass b.pass)) [
   | inl same ↦

@@ -7,6 +7,7 @@ use Rattle.std.specs.List.{list_any, list_all, AllByRecursion, range_with_len}
 use Rattle.std.proofs.lemmas.Bool.{cases_Bool, and_parts, eqb-true, eq-eqb}
 use Rattle.std.proofs.lemmas.List.Folds.{list_any_at, list_all_at}
 use Rattle.std.proofs.lemmas.List.FromFn.{get_or-range_with_len}
+use Rattle.lift_base.specs.declared.limits.TheConstants.{MOST_FLOORS}
 use Rattle.lift_base.specs.declared.travel.Dir.{Dir}
 use Rattle.lift_base.specs.declared.travel.Dir.TheVariants.{Up, Down}
 use Rattle.lift_base.specs.declared.travel.Pass.{Pass}
@@ -176,7 +177,7 @@ stops_at_legs At rows position inside =
 
 abbrev all_in : Dir → Pass → Bool
 all_in dir pass = list_all (λ floor.
-    has_halt (halt_of (pass, floor)) (all_halts dir)) (range_with_len 0 64)
+    has_halt (halt_of (pass, floor)) (all_halts dir)) (range_with_len 0 MOST_FLOORS)
 
 every_halt : (dir : Dir) (pass : Pass) → all_in dir pass ≡ true
 every_halt Up First = refl
@@ -186,18 +187,18 @@ every_halt Down First = refl
 every_halt Down Second = refl
 every_halt Down Third = refl
 
-pub each_halt : (dir : Dir) (h : Halt) → h.floor < 64 → has_halt h (all_halts dir) ≡ true
+pub each_halt : (dir : Dir) (h : Halt) → h.floor < MOST_FLOORS → has_halt h (all_halts dir) ≡ true
 each_halt dir h inside =
     let found : ℕ → Bool = λ floor. has_halt (halt_of (h.pass, floor)) (all_halts dir) in
     elim (cases_Bool (has_halt h (all_halts dir))) [
       | inl has ↦ has
       | inr missing ↦ absurd (
-          let place : get_or (range_with_len 0 64) h.floor 0 ≡ h.floor =
-          get_or-range_with_len 0 64 h.floor 0 inside ∙ zero-add h.floor in
-          let gap : found (get_or (range_with_len 0 64) h.floor 0) ≡ false =
+          let place : get_or (range_with_len 0 MOST_FLOORS) h.floor 0 ≡ h.floor =
+          get_or-range_with_len 0 MOST_FLOORS h.floor 0 inside ∙ zero-add h.floor in
+          let gap : found (get_or (range_with_len 0 MOST_FLOORS) h.floor 0) ≡ false =
           ap found place ∙ missing in
           let some_gap : all_in dir h.pass ≡ false =
-          list_all_at found (range_with_len 0 64) h.floor 0 inside gap in
+          list_all_at found (range_with_len 0 MOST_FLOORS) h.floor 0 inside gap in
           let none : all_in dir h.pass ≡ true = every_halt dir h.pass in
           cc)
     ]
@@ -222,7 +223,7 @@ to_is_leg from to false =
 
 -- the halt at which the passengers of an open call leave is in its car's stop list
 pub stops_have : (rows : List Row) (row : Row) (position : Position) → Contains rows row
-    → row.to < 64 → has_halt (halt_at position row row.to) (stop_list rows position) ≡ true
+    → row.to < MOST_FLOORS → has_halt (halt_at position row row.to) (stop_list rows position) ≡ true
 unfolding stop_list
 stops_have rows row position among inside =
     let leg : is_halt_of position row (halt_at position row row.to) ≡ true =
@@ -238,7 +239,7 @@ stops_have rows row position among inside =
 -- Wherever the car is, the halts of an open call stand in its list in the order in which its
 -- passengers need them.
 pub stops_in_order : (rows : List Row) (row : Row) → Contains rows row → row.from ≢ row.to
-    → row.from < 64 → row.to < 64 → StopsInOrder rows row
+    → row.from < MOST_FLOORS → row.to < MOST_FLOORS → StopsInOrder rows row
 stops_in_order rows row among apart below_from below_to =
     λ position. stop_list-own rows row position among apart
     (floors_of row row.aboard below_from below_to)

@@ -13,6 +13,7 @@ use Rattle.std.proofs.lemmas.List.{append-nil, get_or_past}
 use Rattle.std.proofs.lemmas.List.Elements.{Contains-push, Contains-append_left}
 use Rattle.std.proofs.lemmas.List.Elements.{Contains-append_right, All-nil, All-cons, All-contains}
 use Rattle.lift_base.specs.History.{terminal_of}
+use Rattle.lift_base.specs.declared.limits.TheConstants.{FIRST_KIOSK, MOST_CARS, MOST_FLOORS, MOST_TERMINALS}
 use Rattle.lift_base.specs.declared.travel.Dir.{Dir}
 use Rattle.lift_base.specs.declared.travel.Dir.TheVariants.{Up, Down}
 use Rattle.lift_base.specs.declared.travel.Position.{Position}
@@ -51,10 +52,10 @@ true_of false h = h
 -- cars
 pub record IsPossible (building : Plan) (kiosk number from to car : ℕ) : Type 0 where
   pub of_kiosk : from ≡ kiosk_floor building kiosk
-  pub from_below : from < 64
-  pub to_below : to < 64
+  pub from_below : from < MOST_FLOORS
+  pub to_below : to < MOST_FLOORS
   pub apart : from ≢ to
-  pub car_below : car < 16
+  pub car_below : car < MOST_CARS
 
 abbrev pub IsAllotted : Plan → Entry → Type 0
 IsAllotted building (Allot kiosk number from to car party) =
@@ -210,15 +211,15 @@ held_allotted building base entries sound of all e (inr was) =
     last_allotted building base e sound of was
 
 kiosk_below : (building : Plan) (terminal : ℕ) → IsBuilding building
-    → has_kiosk building terminal ≡ true → terminal < 63
+    → has_kiosk building terminal ≡ true → terminal < MOST_TERMINALS
 kiosk_below building terminal sound h =
-    let parts = and_parts (leb 16 terminal) (ltb (terminal - 16) (length building.kiosks)) h in
-    let at = ltb-true (terminal - 16) (length building.kiosks) parts.1 in
+    let parts = and_parts (leb FIRST_KIOSK terminal) (ltb (terminal - FIRST_KIOSK) (length building.kiosks)) h in
+    let at = ltb-true (terminal - FIRST_KIOSK) (length building.kiosks) parts.1 in
     let few = sound.limits.few_kiosks in
     omega arith
 
 car_below : (building : Plan) (terminal : ℕ) → IsBuilding building
-    → has_car building terminal ≡ true → terminal < 63
+    → has_car building terminal ≡ true → terminal < MOST_TERMINALS
 car_below building terminal sound h =
     let at = ltb-true terminal (length building.cars) h in
     let few = sound.limits.few_cars in

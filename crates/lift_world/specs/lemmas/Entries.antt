@@ -10,6 +10,7 @@ use Rattle.std.proofs.lemmas.List.{length-reverse, get_or-reverse}
 use Rattle.std.proofs.lemmas.List.Elements.{Contains-push, Contains-append_left}
 use Rattle.std.proofs.lemmas.List.Elements.{Contains-append_right, Contains-append_cases}
 use Rattle.std.proofs.lemmas.List.Elements.{Contains-push_cases}
+use Rattle.lift_base.specs.declared.limits.TheConstants.{MOST_CARS, MOST_TERMINALS}
 use Rattle.lift_base.specs.History.{terminal_of}
 use Rattle.lift_base.specs.declared.history.Entry.{Entry}
 use Rattle.lift_base.specs.declared.history.Entry.TheVariants.{Allot, Stop as Stopping}
@@ -113,7 +114,7 @@ kept_by base entries terminal l (Some e) q h =
 
 -- a terminal's last command is that of one of the entries, or the one that the base has of it
 pub kept_entry : (base : RegisterState) (entries : List Entry) (terminal : ℕ) (l : Last)
-    → terminal < 63 → last_of (register_of base entries) terminal ≡ Some l
+    → terminal < MOST_TERMINALS → last_of (register_of base entries) terminal ≡ Some l
     → IsKeptEntry base entries terminal l
 kept_entry base entries terminal l below h =
     kept_by base entries terminal l (find (is_of_terminal terminal) (reverse entries)) refl
@@ -240,7 +241,7 @@ pub record IsDoneCall (base : RegisterState) (entries : List Entry) (car : ℕ)
   pub held : Contains (calls_of base entries car) call
   pub done : status call ≡ Done
 
-module _ (base : RegisterState) (entries : List Entry) (car : ℕ) (made : Row) (below : car < 16) where
+module _ (base : RegisterState) (entries : List Entry) (car : ℕ) (made : Row) (below : car < MOST_CARS) where
   open_or_done_by : (c : IsCallOf base entries car made) → HasRow c.call ⊎ (status c.call ≡ Done)
       → IsRow base entries car made ⊎ IsDoneCall base entries car made
   open_or_done_by c (inr done) =

@@ -3,6 +3,7 @@ use Rattle.std.proofs.Common.{ℕ, ◌≡◌, ◌+◌, Bool, true, false, not, �
 use Rattle.std.proofs.Common.{[], ◌∷◌, ◌++◌, length, map, Option, Some, refl}
 use Rattle.std.specs.Prelude.{unwrap_or, option_and_then, option_map, find, reverse, nat_le}
 use Rattle.std.proofs.lemmas.Bool.{false≢true, and_parts, not-true}
+use Rattle.lift_base.specs.declared.limits.TheConstants.{MOST_BATCHES}
 use Rattle.lift_policy.specs.declared.command.Command.{Command}
 use Rattle.lift_world.specs.declared.event.Kept.{Kept}
 use Rattle.lift_world.specs.declared.event.Taken.{Taken}
@@ -103,8 +104,8 @@ module _ (P : World → Type 0) (w : World) where
   runs_on b h = running_on w.power (and_parts (is_running w.power) b h).0
 
   takes_on : (terminal : ℕ) → may_take w terminal ≡ true → is_off w.power ≡ false
-  takes_on terminal may = powered (nat_le (length w.queue) 4)
-      (and_parts (not (is_off w.power) && nat_le (length w.queue) 4) (is_waiting w terminal) may).0
+  takes_on terminal may = powered (nat_le (length w.queue) MOST_BATCHES)
+      (and_parts (not (is_off w.power) && nat_le (length w.queue) MOST_BATCHES) (is_waiting w terminal) may).0
 
   pub leads : (event : Event) → Leads P w event → P (unwrap_or (next w event) w)
   leads (Ask terminal number body) k =

@@ -22,6 +22,7 @@ use Rattle.lift_base.specs.declared.command.Reply.{Reply}
 use Rattle.lift_base.specs.declared.command.Reply.TheVariants.{Car, Stopped, Placed, Refused}
 use Rattle.lift_building.specs.Plan.{Plan}
 use Rattle.lift_register.specs.Register.{last_of, last_number}
+use Rattle.lift_base.specs.declared.limits.TheConstants.{MOST_BATCHES}
 use Rattle.lift_policy.specs.declared.command.Command.{Command}
 use Rattle.lift_policy.specs.Terminals.{kiosk_floor}
 use Rattle.lift_policy.specs.Eligible.{any_eligible}
@@ -168,13 +169,13 @@ module _ (w : World) (terminal : ℕ) where
 
   pub can_be_looked_at : may_take w terminal ≡ true → CanBeLookedAt w terminal
   can_be_looked_at may =
-      let both = and_parts (not (is_off w.power) && nat_le (length w.queue) 4)
+      let both = and_parts (not (is_off w.power) && nat_le (length w.queue) MOST_BATCHES)
       (is_waiting w terminal) may in
-      let here = and_parts (not (is_off w.power)) (nat_le (length w.queue) 4) both.0 in
+      let here = and_parts (not (is_off w.power)) (nat_le (length w.queue) MOST_BATCHES) both.0 in
       let waits = and_parts answers_few is_left both.1 in
       record {
         powered = not-true (is_off w.power) here.0;
-        few_queued = leb-true (length w.queue) 4 here.1;
+        few_queued = leb-true (length w.queue) MOST_BATCHES here.1;
         asks_more = ltb-true (count_by (is_answer_to terminal) w.answered)
             (count_by (asks terminal) w.asked) waits.0;
         not_taken = none_taken terminal (unanswered w)
@@ -183,9 +184,9 @@ module _ (w : World) (terminal : ℕ) where
 
   pub may_be_taken : CanBeLookedAt w terminal → may_take w terminal ≡ true
   may_be_taken k =
-      and_from (not (is_off w.power) && nat_le (length w.queue) 4) (is_waiting w terminal)
-      (and_from (not (is_off w.power)) (nat_le (length w.queue) 4)
-      (not_from_false (is_off w.power) k.powered) (le-leb (length w.queue) 4 k.few_queued))
+      and_from (not (is_off w.power) && nat_le (length w.queue) MOST_BATCHES) (is_waiting w terminal)
+      (and_from (not (is_off w.power)) (nat_le (length w.queue) MOST_BATCHES)
+      (not_from_false (is_off w.power) k.powered) (le-leb (length w.queue) MOST_BATCHES k.few_queued))
       (and_from answers_few is_left
       (lt-ltb (count_by (is_answer_to terminal) w.answered)
       (count_by (asks terminal) w.asked) k.asks_more)

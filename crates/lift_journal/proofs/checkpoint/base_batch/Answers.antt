@@ -1,5 +1,6 @@
 use Rattle.std.proofs.Common.{◌≡◌, ◌+◌, ◌-◌, suc, Some, arith, sym, ◌∙◌, ◌++◌, List, ap, take, drop, slice_get, length-drop}
 use Rattle.std.specs.Option.{option_to_list}
+use Rattle.lift_base.specs.declared.limits.TheConstants.{MOST_ENTRIES}
 use Rattle.lift_base.specs.declared.history.Record.{Record}
 use Rattle.lift_register.specs.Base.{base_records}
 use Rattle.lift_journal.proofs.Checkpoints.{take_next, take_as_far}
@@ -21,5 +22,5 @@ pub returns : goal.returns
 returns c =
     let left = drop c.args.from (base_records c.args.register.now) in
     c.loop-place.invariant
-    ∙ take_as_far (c.loop-place.place - c.args.from) 63 left
+    ∙ take_as_far (c.loop-place.place - c.args.from) MOST_ENTRIES left
     (grind (arith, length-drop c.args.from (base_records c.args.register.now), c.requires.count, c.min-place-end.ensures, c.loop-place-test.false, c.loop-place.auto.place, c.loop-place.auto.place-end))

@@ -1,6 +1,7 @@
 use Rattle.std.proofs.Common.{◌≡◌, ◌+◌, ◌*◌, ◌++◌, List, length, replicate, All, sym, ◌∙◌, ap, subst, arith}
 use Rattle.std.proofs.lemmas.List.{take-replicate}
 use Rattle.std.proofs.lemmas.Result.{err_from_is_err_and}
+use Rattle.lift_base.specs.declared.limits.TheConstants.{MOST_ENTRIES}
 use Rattle.lift_base.specs.declared.history.Record.{Record}
 use Rattle.lift_base.specs.Records.{IsLawful}
 use Rattle.lift_disk.specs.lemmas.Moments.{runs_then}
@@ -19,7 +20,7 @@ use Rattle.lift_journal.proofs.checkpoint.write_batches.Goals as goal
 
 pub put_body-body-requires-clause-lawful : goal.put_body-body-requires-clause-lawful
 put_body-body-requires-clause-lawful g c =
-    subst (All IsLawful) (sym c.base_batch-batch.ensures) (lawful_part (63 * c.loop-index.index) (base_records c.args.register.now) c.base_len-count.ensures.records)
+    subst (All IsLawful) (sym c.base_batch-batch.ensures) (lawful_part (MOST_ENTRIES * c.loop-index.index) (base_records c.args.register.now) c.base_len-count.ensures.records)
 
 pub put_body-body-requires-clause-blank : goal.put_body-body-requires-clause-blank
 put_body-body-requires-clause-blank g c =

@@ -1,6 +1,7 @@
 use Rattle.std.proofs.Common.{ℕ, Ok, ◌≡◌, ◌+◌, ◌++◌, length, subst, slice_set, slice_get, ◌∙◌, ap, arith}
 use Rattle.std.proofs.lemmas.List.{length-set}
 use Rattle.lift_disk.specs.Disk.{Image, ChangesWithin}
+use Rattle.lift_base.specs.declared.limits.TheConstants.{LEAST_HALF}
 use Rattle.lift_disk.specs.declared.disk.DiskFault.{DiskFault}
 use Rattle.lift_disk.specs.lemmas.History.{set_other}
 use Rattle.lift_register.specs.Base.{base_records}
@@ -25,7 +26,7 @@ returns-in_err-switch_half-clause-any_moment g c end high inside synced =
     checkpoint_leaves old mid (g.D.Disk.state c.switch_half.new.disk) c.args.start end c.in_ok-gate.gate (checkpoint_of (base_records c.args.register.now))
     c.requires.first high inside (g.met.D.Disk.whole c.write_batches.new.disk) c.in_ok-gate.ensures.gate.1 touched
     (λ honest. c.in_ok-gate.ensures.reached honest (synced honest).steady end high inside)
-    (c.switch_half.ensures.any_moment c.args.start (c.args.start + 64) (omega (arith, c.in_ok-gate.ensures.gate.0)) c.in_ok-gate.ensures.gate.1 touched.loose
+    (c.switch_half.ensures.any_moment c.args.start (c.args.start + LEAST_HALF) (omega (arith, c.in_ok-gate.ensures.gate.0)) c.in_ok-gate.ensures.gate.1 touched.loose
     (λ honest. c.in_ok-gate.ensures.steady (was honest) (synced (was honest)).steady))
 
 pub returns-clause-any_moment : goal.returns-clause-any_moment
@@ -37,7 +38,7 @@ returns-clause-any_moment g c end high inside synced =
     checkpoint_leaves old mid (g.D.Disk.state c.switch_half.new.disk) c.args.start end c.in_ok-gate.gate (checkpoint_of (base_records c.args.register.now))
     c.requires.first high inside (g.met.D.Disk.whole c.write_batches.new.disk) c.in_ok-gate.ensures.gate.1 touched
     (λ honest. c.in_ok-gate.ensures.reached honest (synced honest).steady end high inside)
-    (c.switch_half.ensures.any_moment c.args.start (c.args.start + 64) (omega (arith, c.in_ok-gate.ensures.gate.0)) c.in_ok-gate.ensures.gate.1 touched.loose
+    (c.switch_half.ensures.any_moment c.args.start (c.args.start + LEAST_HALF) (omega (arith, c.in_ok-gate.ensures.gate.0)) c.in_ok-gate.ensures.gate.1 touched.loose
     (λ honest. c.in_ok-gate.ensures.steady (was honest) (synced (was honest)).steady))
 
 pub returns-clause-picked : goal.returns-clause-picked
@@ -71,7 +72,7 @@ returns-in_err-gate-clause-fails g c =
     err_any c.from_residual.result _ (λ end high inside honest inert synced.
     let old = g.D.Disk.state c.args.disk.now in
     let new = g.D.Disk.state c.write_batches.new.disk in
-    let changed = IsInRange c.args.start (c.args.start + 64) in
+    let changed = IsInRange c.args.start (c.args.start + LEAST_HALF) in
     let touched = c.write_batches.ensures.touched (λ _ i is. absurd (synced.none_loose i is)) in
     record {
       early = λ _ honest_new left leaves.
@@ -91,7 +92,7 @@ returns-in_err-switch_half-clause-fails g c =
     writing_fails old mid (g.D.Disk.state c.switch_half.new.disk) c.args.start end c.in_ok-gate.gate (sectors_for (length records)) (checkpoint_of records) c.args.pick.now
     c.requires.first high (omega (arith, inside, runs.size, g.met.D.Disk.whole c.write_batches.new.disk honest_mid)) c.in_ok-gate.ensures.gate.1
     (touched.within honest) (c.in_ok-gate.ensures.reached honest synced.steady end high inside) c.in_ok-gate.ensures.performs.made.calls
-    (c.in_err-switch_half.ensures.fails c.args.start (c.args.start + 64) (omega (arith, c.in_ok-gate.ensures.gate.0)) c.in_ok-gate.ensures.gate.1 touched.loose
+    (c.in_err-switch_half.ensures.fails c.args.start (c.args.start + LEAST_HALF) (omega (arith, c.in_ok-gate.ensures.gate.0)) c.in_ok-gate.ensures.gate.1 touched.loose
     honest_mid (runs.inert.1 inert) (c.in_ok-gate.ensures.steady honest synced.steady)))
 
 pub returns-in_err-gate-clause-performs : goal.returns-in_err-gate-clause-performs

@@ -1,5 +1,6 @@
 use Rattle.std.proofs.Common.{◌≡◌, ◌<◌, ◌≤◌, List, [], ◌∷◌, ◌++◌, length, sym, ap, ◌∙◌, subst, arith, append_assoc, length-append}
 use Rattle.std.proofs.lemmas.List.{length-map}
+use Rattle.lift_base.specs.declared.limits.TheConstants.{MOST_ENTRIES}
 use Rattle.lift_desk.specs.Steps.{with_taking}
 use Rattle.lift_desk.specs.Seats.{ClerkPlace, IsNoteOf, Says, view_at}
 use Rattle.lift_clerk.specs.declared.answering.DueAnswer.{DueAnswer}
@@ -19,7 +20,7 @@ many : (commands : List NotedCommand) → length (answers_in commands) ≡ lengt
 many commands = length-map commands (λ (t : NotedCommand). record { terminal = t.command.terminal; reply = t.reply })
 
 -- there is room for one more
-room : (answers : List DueAnswer) (left rest commands : List NotedCommand) (taken : NotedCommand) → left ≡ taken ∷ rest → answers ++ answers_in left ≡ answers_in commands → length commands ≤ 63 → length answers < 63
+room : (answers : List DueAnswer) (left rest commands : List NotedCommand) (taken : NotedCommand) → left ≡ taken ∷ rest → answers ++ answers_in left ≡ answers_in commands → length commands ≤ MOST_ENTRIES → length answers < MOST_ENTRIES
 room answers left rest commands taken is all few =
     omega (arith, ap length all, ap length is, length-append answers (answers_in left), many left, many commands)
 

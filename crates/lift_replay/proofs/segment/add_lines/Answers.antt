@@ -1,4 +1,5 @@
 use Rattle.std.proofs.Common.{◌≡◌, ◌<◌, ◌+◌, ◌++◌, ◌∙◌, Some, None, [], length, refl, sym, ap, subst, arith, string_bytes}
+use Rattle.lift_base.specs.declared.limits.TheConstants.{MOST_CARS}
 use Rattle.lift_building.specs.Plan.{Plan}
 use Rattle.lift_policy.specs.Choices.{total_cost_at}
 use Rattle.lift_replay.specs.Lines.{LineTells}
@@ -38,7 +39,7 @@ loop-preserved g c =
           (subst (λ p. LineTells p c.loop.station.clerk c.add_line.new.station.clerk c.loop.station.terminals.seats.items c.add_line.new.station.terminals.seats.items c.in-Some.line.now c.in-Some.number None tells.0) same
           (subst (λ end. LineTells c.loop.station.building.now c.loop.station.clerk c.add_line.new.station.clerk c.loop.station.terminals.seats.items c.add_line.new.station.terminals.seats.items c.in-Some.line.now c.in-Some.number end tells.0) c.in_default-end.is tells.1)) in
           let more = line_goes_on (c.decisions_are_computed.ensures total_cost_at) plan before.1 c.loop.station.clerk c.add_line.new.station.clerk c.loop.station.terminals.seats.items c.add_line.new.station.terminals.seats.items
-          before.2 (subst (λ (p : Plan). length c.loop.station.terminals.seats.items ≡ 16 + length p.kiosks) same c.loop.station.count) refl
+          before.2 (subst (λ (p : Plan). length c.loop.station.terminals.seats.items ≡ MOST_CARS + length p.kiosks) same c.loop.station.count) refl
           c.args.lines.now.count c.loop.lines.count group (lines_in c.args.lines.now.rest.now) (lines_in c.loop.lines.rest.now) (lines_in c.next.new.self.rest.now) c.in-Some.line.now before.0 tells.0 number
           c.in-Some.ensures.first (c.in-Some.ensures.counted ∙ c.in-Some.ensures.number) before.3 line in (
             before.0 ++ tells.0,
@@ -67,7 +68,7 @@ returns-in-Some-end-clause-tells g c = λ group shows.
     (subst (λ p. LineTells p c.loop.station.clerk c.add_line.new.station.clerk c.loop.station.terminals.seats.items c.add_line.new.station.terminals.seats.items c.in-Some.line.now c.in-Some.number (Some c.in-Some-end.end) tells.0) same
     (subst (λ end. LineTells c.loop.station.building.now c.loop.station.clerk c.add_line.new.station.clerk c.loop.station.terminals.seats.items c.add_line.new.station.terminals.seats.items c.in-Some.line.now c.in-Some.number end tells.0) c.in-Some-end.is tells.1)) in
     let more = line_ends (c.decisions_are_computed.ensures total_cost_at) plan before.1 c.loop.station.clerk c.add_line.new.station.clerk c.loop.station.terminals.seats.items c.add_line.new.station.terminals.seats.items
-    before.2 (subst (λ (p : Plan). length c.loop.station.terminals.seats.items ≡ 16 + length p.kiosks) same c.loop.station.count) refl
+    before.2 (subst (λ (p : Plan). length c.loop.station.terminals.seats.items ≡ MOST_CARS + length p.kiosks) same c.loop.station.count) refl
     c.args.lines.now.count c.loop.lines.count group (lines_in c.args.lines.now.rest.now) (lines_in c.loop.lines.rest.now) (lines_in c.next.new.self.rest.now) c.in-Some.line.now before.0 tells.0 number
     c.in-Some.ensures.first (c.in-Some.ensures.counted ∙ c.in-Some.ensures.number) before.3 c.in-Some-end.end line in (
       before.0 ++ tells.0,
@@ -117,7 +118,7 @@ returns-in_err-put_large_piece-clause-front g c =
     (subst (λ p. LineTells p c.loop.station.clerk c.add_line.new.station.clerk c.loop.station.terminals.seats.items c.add_line.new.station.terminals.seats.items c.in-Some.line.now c.in-Some.number None tells.0) same
     (subst (λ end. LineTells c.loop.station.building.now c.loop.station.clerk c.add_line.new.station.clerk c.loop.station.terminals.seats.items c.add_line.new.station.terminals.seats.items c.in-Some.line.now c.in-Some.number end tells.0) c.in_default-end.is tells.1)) in
     let more = line_goes_on (c.decisions_are_computed.ensures total_cost_at) plan before.1 c.loop.station.clerk c.add_line.new.station.clerk c.loop.station.terminals.seats.items c.add_line.new.station.terminals.seats.items
-    before.2 (subst (λ (p : Plan). length c.loop.station.terminals.seats.items ≡ 16 + length p.kiosks) same c.loop.station.count) refl
+    before.2 (subst (λ (p : Plan). length c.loop.station.terminals.seats.items ≡ MOST_CARS + length p.kiosks) same c.loop.station.count) refl
     c.args.lines.now.count c.loop.lines.count group (lines_in c.args.lines.now.rest.now) (lines_in c.loop.lines.rest.now) (lines_in c.next.new.self.rest.now) c.in-Some.line.now before.0 tells.0 number
     c.in-Some.ensures.first (c.in-Some.ensures.counted ∙ c.in-Some.ensures.number) before.3 line in
     tells_more plan c.args.lines.now.count number group more.0 (lines_in c.args.lines.now.rest.now) (lines_in c.next.new.self.rest.now) _ _ _ _ _ _ (before.0 ++ tells.0) more.2

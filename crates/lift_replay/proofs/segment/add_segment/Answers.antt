@@ -1,5 +1,6 @@
 use Rattle.std.proofs.Common.{◌≡◌, ◌+◌, ◌∙◌, ◌++◌, ℕ, List, length, ap, subst, sym, refl, rules, string_bytes}
 use Rattle.atomic_table.specs.Seated.{TableId}
+use Rattle.lift_base.specs.declared.limits.TheConstants.{MOST_CARS}
 use Rattle.lift_building.specs.Plan.{Plan}
 use Rattle.lift_desk.specs.Seats.{clerk_of, seats_from}
 use Rattle.lift_disk.specs.Faults.{FusedDisk, fuse_state_of}
@@ -26,7 +27,7 @@ pub returns-clause-tells : goal.returns-clause-tells
 returns-clause-tells g c = ok_so c.run_station.result (λ end told found is.
     let plan : Plan = c.args.building.now in
     let desk : List TableId = c.in_ok-desk.desk in
-    let count : length c.in_ok-desk.desk ≡ 16 + length c.args.building.now.kiosks = search rules in
+    let count : length c.in_ok-desk.desk ≡ MOST_CARS + length c.args.building.now.kiosks = search rules in
     let kept : IsKeeperOf plan (recovered plan found) c.keeper_over.result = kept_of plan found c.new.result c.keeper_over.result (subst (IsFound plan found) (sym c.new.ensures.same.image) is)
     c.keeper_over.ensures.opens c.keeper_over.ensures.calls c.keeper_over.ensures.image c.keeper_over.ensures.unarmed c.keeper_over.ensures.state c.keeper_over.ensures.plan c.keeper_over.ensures.whole in
     let shows : Shows plan (recovered plan found) c.new-2.result.clerk c.new-2.result.terminals.seats.items =
@@ -45,7 +46,7 @@ pub returns-clause-front : goal.returns-clause-front
 returns-clause-front g c = on_err c.run_station.result (λ front found is.
     let plan : Plan = c.args.building.now in
     let desk : List TableId = c.in_ok-desk.desk in
-    let count : length c.in_ok-desk.desk ≡ 16 + length c.args.building.now.kiosks = search rules in
+    let count : length c.in_ok-desk.desk ≡ MOST_CARS + length c.args.building.now.kiosks = search rules in
     let kept : IsKeeperOf plan (recovered plan found) c.keeper_over.result = kept_of plan found c.new.result c.keeper_over.result (subst (IsFound plan found) (sym c.new.ensures.same.image) is)
     c.keeper_over.ensures.opens c.keeper_over.ensures.calls c.keeper_over.ensures.image c.keeper_over.ensures.unarmed c.keeper_over.ensures.state c.keeper_over.ensures.plan c.keeper_over.ensures.whole in
     let shows : Shows plan (recovered plan found) c.new-2.result.clerk c.new-2.result.terminals.seats.items =

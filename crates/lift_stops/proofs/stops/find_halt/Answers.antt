@@ -2,6 +2,7 @@ use Rattle.std.proofs.Common.{◌<◌, ◌≤◌, arith, sym, ap, ◌∙◌, len
 use Rattle.std.proofs.lemmas.Bool.{ltb-false, eqb-false, eqb-true}
 use denote.Enum.Bare.{sameb}
 use Rattle.lift_base.specs.contracts.travel.Pass.{the_type}
+use Rattle.lift_base.specs.declared.limits.TheConstants.{MOST_FLOORS}
 use Rattle.lift_base.specs.declared.travel.Pass.{Pass}
 use Rattle.lift_base.specs.declared.travel.Pass.TheVariants.{First, Second, Third}
 use Rattle.lift_base.specs.declared.travel.Dir.{Dir}
@@ -25,7 +26,7 @@ pass_test Third Second = refl
 pass_test Third Third = refl
 
 -- what the test of halts says of their ranks
-ranks : (dir : Dir) (halt other : Halt) → halt.floor < 64 → other.floor < 64 → (rank_of dir halt == rank_of dir other) ≡ (sameb the_type other.pass halt.pass && other.floor == halt.floor)
+ranks : (dir : Dir) (halt other : Halt) → halt.floor < MOST_FLOORS → other.floor < MOST_FLOORS → (rank_of dir halt == rank_of dir other) ≡ (sameb the_type other.pass halt.pass && other.floor == halt.floor)
 ranks dir halt other low other-low = same_ranks dir halt other low other-low ∙ ap (λ b. b && other.floor == halt.floor) (sym (pass_test other.pass halt.pass))
 
 pub returns-then-eq-clause-found : goal.returns-then-eq-clause-found

@@ -5,6 +5,7 @@ use Rattle.lift_world.proofs.Asked.{asks_once_heard, hears_the_next}
 use Rattle.lift_world.specs.lemmas.Looks.{looks_are_takes, takes_need_looks}
 use Rattle.std.proofs.Common.{ℕ, ◌≡◌, ◌≤◌, ◌<◌, ◌+◌, ◌*◌, Bool, true, false, Option, None, [], zero, suc, replicate, leb, cond, refl, sym, ap, subst, arith}
 use Rattle.std.specs.List.{AllByRecursion}
+use Rattle.lift_base.specs.declared.limits.TheConstants.{MOST_CARS}
 use Rattle.lift_base.specs.declared.travel.Position.{Position}
 use Rattle.std.proofs.lemmas.Bool.{leb-true, leb-false}
 use Rattle.std.specs.Prelude.{Contains}
@@ -49,7 +50,7 @@ stored w terminal after h =
 unplaces : (w : World) → ReopeningsUnplace w
 unplaces w kept after h =
     subst (AllByRecursion (λ (p : Option Position). p ≡ None)) (sym (reopenings_give w kept after h).no_car_placed)
-    (none_placed 16)
+    (none_placed MOST_CARS)
 
 pub returns-clause-events : goal.returns-clause-events
 returns-clause-events k w = record {

@@ -1,4 +1,5 @@
 use Rattle.std.proofs.Common.{◌≡◌, ◌∙◌, ◌<◌, ◌≤◌, ◌∷◌, ◌++◌, [], get_or, List, length, refl, sym, ap, subst, arith}
+use Rattle.lift_base.specs.declared.limits.TheConstants.{MOST_CARS, MOST_ENTRIES, MOST_ROWS, MOST_TERMINALS}
 use Rattle.lift_base.specs.declared.history.Entry.{Entry}
 use Rattle.lift_base.specs.declared.history.Entry.TheVariants.{Allot}
 use Rattle.lift_base.specs.declared.history.Row.{Row}
@@ -18,7 +19,7 @@ allots row waiting entry e is = e ∙ ap (λ (r : Row). Allot r.kiosk r.number r
 
 pub insert-requires : goal.insert-requires
 insert-requires c = record {
-  few = if_some (λ (s : ScheduleState). length s.rows ≤ 32) (get_or c.self.inside.schedules c.from-place.result c.index-self-place.result)
+  few = if_some (λ (s : ScheduleState). length s.rows ≤ MOST_ROWS) (get_or c.self.inside.schedules c.from-place.result c.index-self-place.result)
       (λ s h. let e = taken_rows c.self.inside.register c.self.inside.schedules c.from-place.result c.args.car c.index-self-place.result _
       (c.from-place.ensures ∙ c.get-2.ensures.value) (room_at c.args.self.now c.self.inside.register c.self.inside.schedules c.self.inside.batch.items c.from-place.result c.self.view_is c.requires.inside.cars (omega (arith, c.from-place.ensures, c.get-2.ensures.in_range))) refl c.self.invariant.0 s h in
       omega (arith, ap (λ (rows : List Row). length rows) e, c.join.ensures.was.few_rows c.args.car));
@@ -31,8 +32,8 @@ invariant_of-self c =
     let call = c.args.call.now in
     let entry_is = allots _ _ _ c.allotment-entry.ensures c.row_of-row.ensures in
     let value = c.join.ensures.value ∙ ap (λ (e : Entry). register_of c.self.inside.register (e ∷ [])) entry_is in
-    let is_kiosk : terminal < 63 = omega (arith, c.get.ensures.in_range, c.get.ensures.value) in
-    let is_car : c.args.car < 16 = omega (arith, c.get-2.ensures.in_range, c.get-2.ensures.value) in
+    let is_kiosk : terminal < MOST_TERMINALS = omega (arith, c.get.ensures.in_range, c.get.ensures.value) in
+    let is_car : c.args.car < MOST_CARS = omega (arith, c.get-2.ensures.in_range, c.get-2.ensures.value) in
     let at : c.from-place.result ≡ c.args.car = c.from-place.ensures ∙ c.get-2.ensures.value in
     let bound : c.from-place.result < length c.self.inside.schedules = (room_at c.args.self.now c.self.inside.register c.self.inside.schedules c.self.inside.batch.items c.from-place.result c.self.view_is c.requires.inside.cars (omega (arith, c.from-place.ensures, c.get-2.ensures.in_range))) in (
       own_again c.self.inside.register c.join.new.register c.self.inside.schedules c.from-place.result c.args.car c.insert.new.schedule at bound
@@ -46,7 +47,7 @@ invariant_of-self c =
           ∙ ap (λ (r : RegisterState). rows_of r c.args.car) (sym value)) c.self.invariant.0,
       subst IsBatch (sym c.join.ensures.batch)
           (batch_push c.self.inside.batch.items c.allotment-entry.result c.self.invariant.1
-          (subst (λ (s : State). length s.batch < 63) (sym c.self.view_is) c.requires.room) c.join.ensures.written),
+          (subst (λ (s : State). length s.batch < MOST_ENTRIES) (sym c.self.view_is) c.requires.room) c.join.ensures.written),
     )
 
 pub returns-clause-state : goal.returns-clause-state

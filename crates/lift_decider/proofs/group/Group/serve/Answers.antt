@@ -1,5 +1,6 @@
 use Rattle.std.proofs.Common.{◌≡◌, ◌∙◌, ◌<◌, ◌∷◌, [], get_or, slice_index_or, List, length, refl, sym, ap, subst, arith}
 use Rattle.std.specs.List.{flat_map}
+use Rattle.lift_base.specs.declared.limits.TheConstants.{MOST_ENTRIES}
 use Rattle.lift_base.specs.History.{row_after}
 use Rattle.lift_base.specs.declared.history.Entry.TheVariants.{Stop}
 use Rattle.lift_base.specs.declared.history.Row.{Row}
@@ -35,7 +36,7 @@ invariant_of-self c = (
       (λ s h. made_rows c.serve.new.schedule s (position_after c.args.stop) (rows_of c.join-changes.new.register c.args.car) c.serve.ensures.schedule h) c.self.invariant.0,
   subst IsBatch (sym c.join-changes.ensures.batch)
       (batch_push c.self.inside.batch.items (Stop c.args.car c.args.number c.args.stop.floor c.args.stop.dir) c.self.invariant.1
-      (subst (λ (s : State). length s.batch < 63) (sym c.self.view_is) c.requires.room) c.join-changes.ensures.written),
+      (subst (λ (s : State). length s.batch < MOST_ENTRIES) (sym c.self.view_is) c.requires.room) c.join-changes.ensures.written),
 )
 
 pub returns-clause-state : goal.returns-clause-state
