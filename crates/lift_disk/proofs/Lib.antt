@@ -3,6 +3,7 @@ pub mod Cuts
 mod Places
 mod Passed
 mod OnFile
+mod OneSector
 mod Synced
 mod Traces
 mod Walks

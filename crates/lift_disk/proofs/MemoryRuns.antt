@@ -6,19 +6,19 @@ use Rattle.std.proofs.Math.Seq.{take-suc}
 use Rattle.lift_disk.specs.Disk.{Image, ChangesWithin, GoesOn}
 use Rattle.lift_disk.specs.Trace.{Access}
 use Rattle.lift_disk.specs.Calls.{Call, writes_of}
-use Rattle.lift_disk.specs.Calls.Call.{Write, Sync}
+use Rattle.lift_disk.specs.Calls.Call.{Sync}
 use Rattle.lift_disk.specs.Memory.{image_after, IsFlagged, WasLeft, memory_state}
 use Rattle.lift_disk.specs.Runs.{IsInRun, HoldsRun, with_run, run_length, run_loose, left_with}
-use Rattle.lift_disk.specs.lemmas.History.{set_here, set_other, same_or_not, within_calls, recorded_so}
+use Rattle.lift_disk.specs.lemmas.History.{image_after-more, recorded_so, same_or_not, set_here, set_other, was_before}
 use Rattle.lift_disk.proofs.Waiting.{run_inside, run_more}
 
--- this many sectors are copied to the front of a buffer of 16
-pub record IsReadTo (from count : ℕ) (sectors buffer : List (List ℕ)) : Type 0 where
-  pub room : length buffer ≡ 16
+-- this many sectors are copied to the front of a buffer of so many
+pub record IsReadTo (size from count : ℕ) (sectors buffer : List (List ℕ)) : Type 0 where
+  pub room : length buffer ≡ size
   pub holds : HoldsRun from count buffer sectors
 
-pub read_more : (sectors buffer : List (List ℕ)) (from k : ℕ) → k < 16 → from + k < length sectors → IsReadTo from k sectors buffer → IsReadTo from (k + 1) sectors (slice_set buffer k (get_or sectors (from + k) []))
-read_more sectors buffer from k less there so_far = record {
+pub read_more : (sectors : List (List ℕ)) (size : ℕ) (buffer : List (List ℕ)) (from k : ℕ) → k < size → from + k < length sectors → IsReadTo size from k sectors buffer → IsReadTo size from (k + 1) sectors (slice_set buffer k (get_or sectors (from + k) []))
+read_more sectors size buffer from k less there so_far = record {
   room = length-set buffer k bytes ∙ so_far.room;
   holds = λ i inside. ⊎_elim
       (λ (last : i ≡ from + k). ap (slice_get sectors) last ∙ slice_get-get_or sectors (from + k) [] there ∙ sym (set_here buffer k bytes (omega (arith, less, so_far.room)))
@@ -45,20 +45,10 @@ get_either [] more found j is = inr (j, is)
 get_either (first ∷ calls) more found zero is = inl (omega arith, is)
 get_either (first ∷ calls) more found (suc j) is = ⊎_elim (λ early. inl (omega (arith, early.0), early.1)) (λ late. inr late) (get_either calls more found j is)
 
-get_first : (calls more : List Call) (found : Call) (j : ℕ) → slice_get calls j ≡ Some found → slice_get (calls ++ more) j ≡ Some found
-get_first [] more found j is = absurd (cc is)
-get_first (first ∷ calls) more found zero is = is
-get_first (first ∷ calls) more found (suc j) is = get_first calls more found j is
-
 no_sync : (run : List (List ℕ)) (from j : ℕ) (loose : List Bool) → slice_get (writes_of from run) j ≡ Some (Sync loose) → ⊥
 no_sync [] from j loose is = cc is
 no_sync (bytes ∷ run) from zero loose is = cc is
 no_sync (bytes ∷ run) from (suc j) loose is = no_sync run (from + 1) j loose is
-
-image_after-more : (calls more : List Call) (image : Image) → image_after (calls ++ more) image ≡ image_after more (image_after calls image)
-image_after-more [] more image = refl
-image_after-more (Write sector bytes ∷ calls) more image = image_after-more calls more (slice_set image sector bytes)
-image_after-more (Sync loose ∷ calls) more image = image_after-more calls more image
 
 image_after-run : (run : List (List ℕ)) (from : ℕ) (image : Image) → image_after (writes_of from run) image ≡ with_run from run image
 image_after-run [] from image = refl
@@ -68,17 +58,6 @@ pub run_recorded : (first begun now : Image) (calls later : List Call) (from : �
 run_recorded first begun now calls later from run same is recorded =
     ap (λ (l : List Call). image_after l begun) is ∙ ap (λ (l : Image). image_after (calls ++ writes_of from run) l) same
     ∙ image_after-more calls (writes_of from run) first ∙ image_after-run run from (image_after calls first) ∙ ap (with_run from run) recorded
-
-was_before : (first : Image) (calls more : List Call) (since : ℕ) (left : Image) → WasLeft first calls since left → WasLeft first (calls ++ more) since left
-was_before first calls more since left was =
-    let early = within_calls calls (Sync was.loose) was.at was.synced in
-    record {
-      at = was.at;
-      loose = was.loose;
-      late = was.late;
-      synced = get_first calls more (Sync was.loose) was.at was.synced;
-      within = subst (λ (l : List Call). ChangesWithin (IsFlagged was.loose) (image_after l first) left) (sym (take-append-le was.at calls more (omega arith))) was.within;
-    }
 
 still_before : (first : Image) (calls : List Call) (from : ℕ) (run : List (List ℕ)) (since : ℕ) (left : Image) → WasLeft first (calls ++ writes_of from run) since left → WasLeft first calls since left
 still_before first calls from run since left was = ⊎_elim (λ early. record {

@@ -1,26 +1,23 @@
 -- One call more of a device on a file, and of the file.
-use Rattle.std.proofs.Common.{◌≡◌, ◌++◌, ◌*◌, ◌-◌, ◌≤◌, [], ◌∷◌, ℕ, Bool, true, false, List, length, Some, refl, sym, ◌∙◌, ap, arith}
+use Rattle.std.proofs.Common.{◌≡◌, ◌++◌, ◌*◌, [], ◌∷◌, ℕ, Bool, true, false, List, length, refl, sym, ◌∙◌, ap}
 use Rattle.std.proofs.lemmas.Grind.{merely}
-use Rattle.std.proofs.lemmas.Option.{get_or_from_slice_get, slice_get-get_or}
-use Rattle.std.proofs.Math.ListN.{get_or-append}
 use Rattle.lift_disk.specs.Files.{HasGiven}
-use Rattle.lift_disk.specs.Runs.{GivesRun}
+use Rattle.lift_disk.specs.Runs.{GivesRun, joined}
 use Rattle.lift_disk.specs.Trace.{Access}
 use Rattle.lift_disk.specs.Trace.Access.{Read as ReadSector, Write as WriteSector, Sync as SyncSectors}
 use Rattle.lift_disk.specs.FileCalls.{FileCall, in_bytes, sync_calls, without_given}
-use Rattle.lift_disk.specs.FileCalls.FileCall.{Read, ReadSectors, Write, SyncData, SetLength, SyncAll, GetLength, DropCached, Lock, Restrict}
+use Rattle.lift_disk.specs.FileCalls.FileCall.{ReadSectors, WriteSectors, SyncData, SetLength, SyncAll, GetLength, DropCached, Lock, Restrict}
 
 in_bytes-push : (calls : List Access) (call : Access) → in_bytes (calls ++ call ∷ []) ≡ in_bytes calls ++ in_bytes (call ∷ [])
 in_bytes-push [] call = refl
-in_bytes-push (ReadSector sector ∷ calls) call = ap (λ (l : List FileCall). Read (sector * 512) [] ∷ l) (in_bytes-push calls call)
-in_bytes-push (WriteSector sector bytes ∷ calls) call = ap (λ (l : List FileCall). Write (sector * 512) bytes ∷ l) (in_bytes-push calls call)
+in_bytes-push (ReadSector sector ∷ calls) call = ap (λ (l : List FileCall). ReadSectors (sector * 512) [] ∷ l) (in_bytes-push calls call)
+in_bytes-push (WriteSector sector bytes ∷ calls) call = ap (λ (l : List FileCall). WriteSectors (sector * 512) (bytes ∷ []) ∷ l) (in_bytes-push calls call)
 in_bytes-push (SyncSectors ∷ calls) call = ap (λ (l : List FileCall). SyncData ∷ l) (in_bytes-push calls call)
 
 without_given-append : (calls more : List FileCall) → without_given (calls ++ more) ≡ without_given calls ++ without_given more
 without_given-append [] more = refl
-without_given-append (Read offset bytes ∷ calls) more = ap (λ (l : List FileCall). Read offset [] ∷ l) (without_given-append calls more)
-without_given-append (ReadSectors offset run ∷ calls) more = ap (λ (l : List FileCall). Read offset [] ∷ l) (without_given-append calls more)
-without_given-append (Write offset bytes ∷ calls) more = ap (λ (l : List FileCall). Write offset bytes ∷ l) (without_given-append calls more)
+without_given-append (ReadSectors offset run ∷ calls) more = ap (λ (l : List FileCall). ReadSectors offset [] ∷ l) (without_given-append calls more)
+without_given-append (WriteSectors offset run ∷ calls) more = ap (λ (l : List FileCall). WriteSectors offset (joined run ∷ []) ∷ l) (without_given-append calls more)
 without_given-append (SyncData ∷ calls) more = ap (λ (l : List FileCall). SyncData ∷ l) (without_given-append calls more)
 without_given-append (SetLength bytes ∷ calls) more = ap (λ (l : List FileCall). SetLength bytes ∷ l) (without_given-append calls more)
 without_given-append (SyncAll ∷ calls) more = ap (λ (l : List FileCall). SyncAll ∷ l) (without_given-append calls more)
@@ -45,9 +42,9 @@ pub one_more : (calls after : List Access) (of_files filed : List FileCall) (cal
 one_more calls after of_files filed call of_file = more_calls calls after of_files filed call (of_file ∷ [])
 
 -- the last call gave these sectors
-pub given_run : (calls filed : List FileCall) (offset sector count : ℕ) (run rest : List (List ℕ)) → count ≤ length run → offset ≡ sector * 512 → filed ≡ calls ++ ReadSectors offset run ∷ []
-    → GivesRun (HasGiven filed) sector count (run ++ rest)
-given_run calls filed offset sector count run rest long placed listed i bytes inside is =
+pub given_run : (calls filed : List FileCall) (offset sector : ℕ) (run : List (List ℕ)) → offset ≡ sector * 512 → filed ≡ calls ++ ReadSectors offset run ∷ []
+    → GivesRun (HasGiven filed) sector (length run) run
+given_run calls filed offset sector run placed listed i bytes inside is =
     merely (record {
       before = calls;
       first = sector;
@@ -55,6 +52,5 @@ given_run calls filed offset sector count run rest long placed listed i bytes in
       after = [];
       listed = listed ∙ ap (λ n. calls ++ ReadSectors n run ∷ []) placed;
       behind = inside.0;
-      here = slice_get-get_or run (i - sector) [] (omega (arith, inside.0, inside.1, long))
-          ∙ ap Some (sym (get_or-append run rest [] (i - sector) (omega (arith, inside.0, inside.1, long))) ∙ get_or_from_slice_get (run ++ rest) (i - sector) bytes [] is);
+      here = is;
     })

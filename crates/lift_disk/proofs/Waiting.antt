@@ -1,10 +1,11 @@
 -- A device over another one that holds writes back.
 use Rattle.std.proofs.Common.{◌≡◌, ◌≢◌, ◌⊎◌, ◌↔◌, ◌<◌, ◌≤◌, ◌+◌, ◌-◌, inl, inr, ⊎_elim, ℕ, zero, suc, List, [], ◌∷◌, ◌++◌, length, get_or, slice_get, slice_set, Some, refl, sym, ◌∙◌, ap, subst, arith, length-append}
-use Rattle.std.proofs.lemmas.Option.{slice_get-get_or}
+use Rattle.std.proofs.lemmas.Option.{get_or_from_slice_get, slice_get-get_or}
+use Rattle.std.proofs.Math.ListN.{get_or-append}
 use Rattle.std.proofs.lemmas.List.{length-set}
 use Rattle.lift_disk.specs.Trace.{Access}
 use Rattle.lift_disk.specs.Disk.{DiskState, Image, ChangesWithin, Elapses, GoesOn, SectorIsWritten, ReadsAsWritten, Touches, LeavesAsBefore, IsSteadyAt, KeepsWrites}
-use Rattle.lift_disk.specs.Runs.{IsInRun, with_run, Announces, buffered, waiting, Rests, Loosens, run_outside, run_loose, left_with}
+use Rattle.lift_disk.specs.Runs.{GivesRun, HoldsRun, IsInRun, with_run, Announces, buffered, waiting, Rests, Loosens, run_outside, run_loose, left_with}
 use Rattle.lift_disk.specs.lemmas.History.{set_here}
 use Rattle.lift_disk.specs.lemmas.Moments.{changes_nothing, changes_more, changes_twice, changes_both}
 
@@ -29,6 +30,20 @@ run_more (first ∷ run) from bytes image =
 
 pub held_read : (sectors : List (List ℕ)) (i : ℕ) → i < length sectors → slice_get sectors i ≡ Some (get_or sectors i [])
 held_read sectors i less = slice_get-get_or sectors i [] less
+
+-- what was read is the front of the room
+pub held_front : (image : Image) (sector count : ℕ) (run rest : List (List ℕ)) → length run ≡ count → HoldsRun sector (length run) run image → HoldsRun sector count (run ++ rest) image
+held_front image sector count run rest long holds i inside =
+    let less : i - sector < length run = omega (arith, inside.0, inside.1, long) in
+    holds i (inside.0, omega (arith, inside.0, less)) ∙ slice_get-get_or run (i - sector) [] less
+    ∙ ap Some (sym (get_or-append run rest [] (i - sector) less))
+    ∙ sym (slice_get-get_or (run ++ rest) (i - sector) [] (let whole : length (run ++ rest) ≡ length run + length rest = length-append run rest in omega (arith, less, whole)))
+
+pub given_front : (has_given : ℕ → List ℕ → Type 0) (sector count : ℕ) (run rest : List (List ℕ)) → length run ≡ count → GivesRun has_given sector (length run) run → GivesRun has_given sector count (run ++ rest)
+given_front has_given sector count run rest long given i bytes inside is =
+    let less : i - sector < length run = omega (arith, inside.0, inside.1, long) in
+    given i bytes (inside.0, omega (arith, inside.0, less))
+    (slice_get-get_or run (i - sector) [] less ∙ ap Some (sym (get_or-append run rest [] (i - sector) less) ∙ get_or_from_slice_get (run ++ rest) (i - sector) bytes [] is))
 
 pub keeps_none : (disk : DiskState) → KeepsWrites disk disk
 keeps_none disk = record { written = λ _ i bytes was. was; steady = λ _ steady. record { steady = steady; same = refl } }

@@ -54,17 +54,18 @@ as_written state d = waiting (state d.device) d.from d.pending.items
 -- One call of the other one: a read of 16 sectors from this one on, or of as many as there are. By
 -- what that device says of it, it gave these.
 pub record AsksAhead {R : Type 0} (state : R → DiskState)
-    (read_run_gives : R → ℕ → ℕ → List (List ℕ) → Result (Unit {0}) DiskFault → R → Type 0)
+    (read_run_gives : R → ℕ → List (List ℕ) → Result (Unit {0}) DiskFault → R → Type 0)
     (old : R) (sector : ℕ) (result : Result (Unit {0}) DiskFault) (new : R) : Type 0 where
   pub run : List (List ℕ)
-  pub asked : read_run_gives old sector (min ((state old).size - sector) 16) run result new
+  pub count : length run ≡ min ((state old).size - sector) 16
+  pub asked : read_run_gives old sector run result new
   pub made : MakesCalls result (Read sector ∷ []) (state old) (state new)
 
 -- These bytes are still to be written, or a call of the other one gave them. It has no call for
 -- this read, or one. Also where that fails, the same writes are still to be made.
 pub record GivesBelow {R : Type 0} {runs : RunGhosts R} {disk : Ghosts R} (state : R → DiskState)
     (has_given : R → ℕ → List ℕ → Type 0)
-    (read_run_gives : R → ℕ → ℕ → List (List ℕ) → Result (Unit {0}) DiskFault → R → Type 0)
+    (read_run_gives : R → ℕ → List (List ℕ) → Result (Unit {0}) DiskFault → R → Type 0)
     (old : Buffered R runs disk) (sector : ℕ) (bytes : List ℕ)
     (result : Result (Unit {0}) DiskFault) (new : Buffered R runs disk) : Type 0 where
   pub given : OnOk result (IsHeldBack old sector bytes

@@ -2,19 +2,18 @@
 -- stand for.
 use Rattle.std.specs.Prelude.{◌≡◌, ◌⊎◌, ◌++◌, ◌+◌, ◌*◌, ◌==◌, [], ◌∷◌, ℕ, List, Result, OnOk}
 use Rattle.std.specs.Prelude.{OnErr, Bool, true, false}
-use Rattle.std.specs.Prelude.{refl, cond, get_or, IfOk}
+use Rattle.std.specs.Prelude.{refl, cond, IfOk}
 use Rattle.std.specs.Coded.{Coded, code_by, coded×, coded_ℕ, coded_list}
+use Rattle.lift_disk.specs.Runs.{joined}
 use Rattle.lift_disk.specs.Trace.{Access}
 use Rattle.lift_disk.specs.Trace.Access.{Read as ReadSector, Write as WriteSector}
 use Rattle.lift_disk.specs.Trace.Access.{Sync as SyncSectors}
 
 pub data FileCall : Type 0 where
-  -- the offset in bytes, and the bytes that it gave
-  Read : ℕ → List ℕ → FileCall
   -- the offset in bytes, and the sectors that it gave, one after the other
   ReadSectors : ℕ → List (List ℕ) → FileCall
-  -- the offset in bytes, and the bytes that it took
-  Write : ℕ → List ℕ → FileCall
+  -- the offset in bytes, and the sectors that it took
+  WriteSectors : ℕ → List (List ℕ) → FileCall
   -- what was written is made safe, without the file's times
   SyncData : FileCall
   -- the file's length in bytes is set
@@ -32,34 +31,31 @@ pub data FileCall : Type 0 where
 
 -- how the logic stores a call
 abbrev pub to_parts : FileCall → ℕ × (ℕ × List (List ℕ))
-to_parts (Read offset bytes) = (0, (offset, bytes ∷ []))
-to_parts (Write offset bytes) = (1, (offset, bytes ∷ []))
+to_parts (ReadSectors offset run) = (0, (offset, run))
+to_parts (WriteSectors offset run) = (1, (offset, run))
 to_parts SyncData = (2, (0, []))
 to_parts (SetLength bytes) = (3, (bytes, []))
 to_parts SyncAll = (4, (0, []))
-to_parts (ReadSectors offset run) = (5, (offset, run))
-to_parts (GetLength bytes) = (6, (bytes, []))
-to_parts DropCached = (7, (0, []))
-to_parts Lock = (8, (0, []))
-to_parts Restrict = (9, (0, []))
+to_parts (GetLength bytes) = (5, (bytes, []))
+to_parts DropCached = (6, (0, []))
+to_parts Lock = (7, (0, []))
+to_parts Restrict = (8, (0, []))
 
 abbrev pub of_parts : ℕ × (ℕ × List (List ℕ)) → FileCall
-of_parts p = cond (p.0 == 0) (Read p.1.0 (get_or p.1.1 0 []))
-    (cond (p.0 == 1) (Write p.1.0 (get_or p.1.1 0 []))
+of_parts p = cond (p.0 == 0) (ReadSectors p.1.0 p.1.1)
+    (cond (p.0 == 1) (WriteSectors p.1.0 p.1.1)
     (cond (p.0 == 2) SyncData
     (cond (p.0 == 3) (SetLength p.1.0)
     (cond (p.0 == 4) SyncAll
-    (cond (p.0 == 5) (ReadSectors p.1.0 p.1.1)
-    (cond (p.0 == 6) (GetLength p.1.0)
-    (cond (p.0 == 7) DropCached (cond (p.0 == 8) Lock Restrict))))))))
+    (cond (p.0 == 5) (GetLength p.1.0)
+    (cond (p.0 == 6) DropCached (cond (p.0 == 7) Lock Restrict)))))))
 
 pub there_and_back : (call : FileCall) → of_parts (to_parts call) ≡ call
-there_and_back (Read offset bytes) = refl
-there_and_back (Write offset bytes) = refl
+there_and_back (ReadSectors offset run) = refl
+there_and_back (WriteSectors offset run) = refl
 there_and_back SyncData = refl
 there_and_back (SetLength bytes) = refl
 there_and_back SyncAll = refl
-there_and_back (ReadSectors offset run) = refl
 there_and_back (GetLength bytes) = refl
 there_and_back DropCached = refl
 there_and_back Lock = refl
@@ -71,20 +67,22 @@ file_calls_code = coded_list
     (coded× coded_ℕ (coded× coded_ℕ (coded_list (coded_list coded_ℕ)))) to_parts of_parts
     there_and_back)
 
--- the calls of a file that stand for these of a device, but for the bytes that reads gave: a sector
--- is 512 bytes
+-- the calls of a file that stand for these of a device, but for what reads gave: a sector is 512
+-- bytes, and what a write took is one piece
 abbrev pub in_bytes : List Access → List FileCall
 in_bytes [] = []
-in_bytes (ReadSector sector ∷ calls) = Read (sector * 512) [] ∷ in_bytes calls
-in_bytes (WriteSector sector bytes ∷ calls) = Write (sector * 512) bytes ∷ in_bytes calls
+in_bytes (ReadSector sector ∷ calls) = ReadSectors (sector * 512) [] ∷ in_bytes calls
+in_bytes (WriteSector sector bytes ∷ calls) =
+    WriteSectors (sector * 512) (bytes ∷ []) ∷ in_bytes calls
 in_bytes (SyncSectors ∷ calls) = SyncData ∷ in_bytes calls
 
--- these calls, but for the bytes that reads gave, and for what was dropped after a sync
+-- these calls, but for what reads gave, and for what was dropped after a sync; what a write took is
+-- one piece
 abbrev pub without_given : List FileCall → List FileCall
 without_given [] = []
-without_given (Read offset bytes ∷ calls) = Read offset [] ∷ without_given calls
-without_given (ReadSectors offset run ∷ calls) = Read offset [] ∷ without_given calls
-without_given (Write offset bytes ∷ calls) = Write offset bytes ∷ without_given calls
+without_given (ReadSectors offset run ∷ calls) = ReadSectors offset [] ∷ without_given calls
+without_given (WriteSectors offset run ∷ calls) =
+    WriteSectors offset (joined run ∷ []) ∷ without_given calls
 without_given (SyncData ∷ calls) = SyncData ∷ without_given calls
 without_given (SetLength bytes ∷ calls) = SetLength bytes ∷ without_given calls
 without_given (SyncAll ∷ calls) = SyncAll ∷ without_given calls

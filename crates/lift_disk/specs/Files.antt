@@ -1,6 +1,6 @@
 -- What is said of a device on a real file.
 use Rattle.std.specs.Prelude.{ℕ, ◌≡◌, ◌↔◌, ◌≤◌, ◌-◌, ◌*◌, List, [], ◌∷◌}
-use Rattle.std.specs.Prelude.{◌++◌, slice_get, Option, Some, None, ◌⊎◌, take, Result, OnOk, OnErr, Bool, true}
+use Rattle.std.specs.Prelude.{◌++◌, slice_get, Option, Some, None, ◌⊎◌, Result, OnOk, OnErr, Bool, true}
 use Rattle.std.specs.Prelude.{false}
 use Rattle.lift_disk.specs.FileCalls.{FailsIn, FileCall, LeadsBy, sync_calls}
 use Rattle.lift_disk.specs.FileCalls.FileCall.{ReadSectors, GetLength}
@@ -46,12 +46,11 @@ pub record HasGiven (calls : List FileCall) (sector : ℕ) (bytes : List ℕ) : 
   pub behind : first ≤ sector
   pub here : slice_get run (sector - first) ≡ Some bytes
 
--- The device read this many sectors from this one on: a call of its file, for just these, gave
--- them.
-abbrev pub AsksForRun : {T E : Type 0} → (old : List FileCall) → (sector count : ℕ)
+-- The device read these sectors from this one on: a call of its file, for just these, gave them.
+abbrev pub AsksForRun : {T E : Type 0} → (old : List FileCall) → (sector : ℕ)
     → (run : List (List ℕ)) → Result T E → (new : List FileCall) → Type 0
-AsksForRun old sector count run result new =
-    OnOk result (new ≡ old ++ ReadSectors (sector * 512) (take count run) ∷ [])
+AsksForRun old sector run result new =
+    OnOk result (new ≡ old ++ ReadSectors (sector * 512) run ∷ [])
 
 -- Whether it is known that no call of its file has failed since the last sync that dropped what was
 -- cached. Of a file that was just opened it isn't.
@@ -63,6 +62,12 @@ pub record KeepsKnown {F T E : Type 0} {told : Told F} (result : Result T E)
     (old new : SectorFile F told) : Type 0 where
   pub ok : OnOk result (is_known_steady new ≡ is_known_steady old)
   pub err : OnErr result (is_known_steady new ≡ false)
+
+-- A read of these sectors from this one on.
+pub record ReadsByCall {F T E : Type 0} {told : Told F} (sector : ℕ) (run : List (List ℕ))
+    (result : Result T E) (old new : SectorFile F told) : Type 0 where
+  pub asked : AsksForRun (calls_below old) sector run result (calls_below new)
+  pub known : KeepsKnown result old new
 
 -- A sync: after it that is known, if it succeeded. Then the calls of the file were one where it was
 -- known before, and else the two by which what is cached is dropped.

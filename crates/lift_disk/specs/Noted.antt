@@ -9,24 +9,21 @@ use Rattle.lift_disk.specs.declared.call.Change.TheVariants as change
 use Rattle.lift_disk.specs.Trace.{Access}
 use Rattle.lift_disk.specs.Trace.Access.{Read, Write, Sync}
 use Rattle.lift_disk.specs.FileCalls.{FileCall}
-use Rattle.lift_disk.specs.FileCalls.FileCall.{Read as ReadBytes, Write as WriteBytes, SyncData}
-use Rattle.lift_disk.specs.FileCalls.FileCall.{ReadSectors, SetLength, SyncAll, GetLength, DropCached}
-use Rattle.lift_disk.specs.FileCalls.FileCall.{Lock, Restrict}
+use Rattle.lift_disk.specs.FileCalls.FileCall.{ReadSectors, WriteSectors, SyncData, SetLength, SyncAll}
+use Rattle.lift_disk.specs.FileCalls.FileCall.{GetLength, DropCached, Lock, Restrict}
 use Rattle.lift_disk.specs.Disk.{Image}
 use Rattle.lift_disk.specs.Places.{all_now}
 use Rattle.lift_disk.specs.Calls.{Call, writes_of}
-use Rattle.lift_disk.specs.Calls.Call.{Write as Written, Sync as Synced}
+use Rattle.lift_disk.specs.Calls.Call.{Sync as Synced}
 
 abbrev pub access_of : Made → Access
 access_of (made.Read place) = Read place
 access_of (made.Write place bytes) = Write place bytes.now
-access_of (made.WriteRun place bytes) = Write place bytes.now
 access_of made.Sync = Sync
 
 abbrev pub file_call_of : Called → FileCall
-file_call_of (called.Read offset bytes) = ReadBytes offset bytes.now
 file_call_of (called.ReadSectors offset run) = ReadSectors offset run.now
-file_call_of (called.Write offset bytes) = WriteBytes offset bytes.now
+file_call_of (called.WriteSectors offset run) = WriteSectors offset run.now
 file_call_of called.SyncData = SyncData
 file_call_of (called.SetLength bytes) = SetLength bytes
 file_call_of called.SyncAll = SyncAll
@@ -37,12 +34,10 @@ file_call_of called.Restrict = Restrict
 
 abbrev pub first_after : Change → Image → Image
 first_after (change.First sectors) first = all_now sectors.now
-first_after (change.Write sector bytes) first = first
-first_after (change.WriteRun sector run) first = first
+first_after (change.Write sector run) first = first
 first_after (change.Sync loose) first = first
 
 abbrev pub calls_after : Change → List Call → List Call
 calls_after (change.First sectors) calls = []
-calls_after (change.Write sector bytes) calls = calls ++ Written sector bytes.now ∷ []
-calls_after (change.WriteRun sector run) calls = calls ++ writes_of sector run.now
+calls_after (change.Write sector run) calls = calls ++ writes_of sector run.now
 calls_after (change.Sync loose) calls = calls ++ Synced loose.now ∷ []

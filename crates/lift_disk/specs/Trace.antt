@@ -1,8 +1,8 @@
--- The calls of a device, or of a file, that have succeeded, in their order.
+-- The calls of a device that have succeeded, in their order.
 use Rattle.std.specs.Prelude.{◌≡◌, ◌++◌, ◌==◌, [], ◌∷◌, ℕ, List, Result, OnOk, OnErr, refl, cond}
 use Rattle.std.specs.Coded.{Coded, code_by, coded×, coded_ℕ, coded_list}
 
--- a call, by its place: the sector of a device, the offset in bytes of a file
+-- a call, by its sector; a write of several has their bytes one after the other
 pub data Access : Type 0 where
   Read : ℕ → Access
   Write : ℕ → List ℕ → Access

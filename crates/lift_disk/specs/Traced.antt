@@ -6,8 +6,7 @@ use Rattle.std.specs.declared.fs.options.OpenOptions.{OpenOptions}
 use Rattle.lift_disk.specs.Disk.{DiskState}
 use Rattle.lift_disk.specs.Holding.{IsUntouched, sectors_in}
 use Rattle.lift_disk.specs.FileCalls.{AreCalls, FileCall, IsOneCall, LeadsBy, MakesCalls}
-use Rattle.lift_disk.specs.FileCalls.FileCall.{Lock, Restrict, SetLength, SyncAll, Write}
-use Rattle.lift_disk.specs.Runs.{joined}
+use Rattle.lift_disk.specs.FileCalls.FileCall.{Lock, Restrict, SetLength, SyncAll, WriteSectors}
 use Rattle.lift_disk.specs.declared.traced.TracedFile.{TracedFile}
 
 -- the file itself
@@ -29,8 +28,8 @@ to_be_made = with_create to_be_used true
 -- one of the writes of a file of this many sectors of zeros: 128 sectors each, the last one the
 -- rest
 abbrev pub zero_write : (sectors i : ℕ) → FileCall
-zero_write sectors i = Write (i * 128 * 512)
-    (joined (replicate (min 128 (sectors - i * 128)) (replicate 512 0)))
+zero_write sectors i = WriteSectors (i * 128 * 512)
+    (replicate (min 128 (sectors - i * 128)) (replicate 512 0))
 
 -- the first this many of them
 abbrev pub zero_writes : (sectors count : ℕ) → List FileCall

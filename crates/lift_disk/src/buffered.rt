@@ -1,21 +1,49 @@
 //! A device that reads ahead, and holds neighbouring writes back until it makes them as one.
 ghost use Rattle.std.specs.Prelude.{◌≡◌, ◌≤◌, ◌<◌, ◌+◌, [], ℕ, List, length, Some};
-ghost use Rattle.std.specs.Prelude.{slice_get, IsTrue, OnOk, OnErr, IfSome, IfNone, ◌↔◌};
-ghost use Rattle.lift_disk.specs.Disk.{CountsFault, KeepsWrites, MayLeave};
+ghost use Rattle.std.specs.Prelude.{slice_get, take, IsTrue, OnOk, OnErr, IfSome, IfNone, ◌↔◌};
+ghost use Rattle.lift_disk.specs.Disk.{CountsFault, IsAccess, KeepsWrites, LeavesAsBefore, MayLeave};
+ghost use Rattle.lift_disk.specs.Trace.Access.{Read};
 ghost use Rattle.lift_disk.specs.Holding.{HoldsTheSame};
 ghost use Rattle.lift_disk.specs.Runs.{Announces, GivesRun, HoldsRun, IsInRun};
 ghost use Rattle.lift_disk.specs.Runs.{MakesCalls, Loosens, Rests};
 ghost use Rattle.lift_disk.specs.Runs.{left_with, left_without, run_calls, run_loose, run_whole};
 ghost use Rattle.lift_disk.specs.Runs.{with_run};
 
-use crate::runs::{Ahead, MOST_AHEAD, RunDisk};
+use crate::runs::RunDisk;
 use crate::trace::{Made, ProofTrace};
 use crate::{Disk, DiskFault};
 use arrayvec::ArrayVec;
 use lift_base::ProofCount;
 
+/// At most this many sectors are read in one call.
+const MOST_AHEAD: usize = 16;
+
+/// Room for the sectors of one such read.
+type Ahead = [[u8; 512]; MOST_AHEAD];
+
 /// At most this many writes are held back.
 const MOST_HELD: usize = 16;
+
+/// Reads this many sectors from this one on, to the front of the room.
+fn read_to_front<R: RunDisk>(
+    device: &mut R,
+    sector: u32,
+    count: usize,
+    room: &mut Ahead,
+) -> Result<(), DiskFault>
+    requires count { count ≤ 16 }
+    requires inside { sector + count ≤ (R.state device.old).size }
+    ensures access { IsAccess result (Read sector) (R.state device.old) (R.state device.new) }
+    ensures leaves { LeavesAsBefore (R.state device.old) (R.state device.new) }
+    ensures keeps { OnOk result (KeepsWrites (R.state device.old) (R.state device.new)) }
+    ensures gives { OnOk result ((R.state device.old).is_honest
+        → HoldsRun sector count room.new (R.state device.new).image) }
+    ensures given { OnOk result (GivesRun (R.has_given device.new) sector count room.new) }
+    ensures own { R.read_run_gives device.old sector (take count room.new) result device.new }
+    ensures long { length (take count room.new) ≡ count }
+{
+    device.read_run(sector, &mut room[..count])
+}
 
 /// A device over another one. It reads 16 sectors at once, and makes up to 16 writes of
 /// neighbouring sectors, each after the one before, as one: at the next write elsewhere, or at the
@@ -202,7 +230,7 @@ impl<R: RunDisk + Drop> Buffered<R> {
         let left = (self.device.sectors() - sector) as usize;
         let count = left.min(MOST_AHEAD);
         self.ahead_count = 0;
-        self.device.read_run(sector, count, &mut self.ahead)?;
+        read_to_front(&mut self.device, sector, count, &mut self.ahead)?;
         self.ahead_from = sector;
         self.ahead_count = count;
         Ok(())

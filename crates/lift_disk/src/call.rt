@@ -4,7 +4,7 @@ ghost use Rattle.std.specs.Prelude.{◌≡◌, ◌++◌, [], ◌∷◌, List};
 ghost use Rattle.std.specs.Borrow.{ftrue};
 ghost use Rattle.lift_disk.specs.Disk.{Image};
 ghost use Rattle.lift_disk.specs.Calls.{Call, calls_code, image_code, writes_of};
-ghost use Rattle.lift_disk.specs.Calls.Call.{Write, Sync};
+ghost use Rattle.lift_disk.specs.Calls.Call.{Sync};
 
 use crate::two_places::TwoPlaces;
 use std::marker::Model;
@@ -14,10 +14,8 @@ use std::marker::Model;
 enum Change<'a> {
     /// The device begins with what was written last in these sectors, and no call.
     First(&'a [TwoPlaces]),
-    /// These bytes are written to the sector.
-    Write(u32, &'a [u8; 512]),
-    /// These are written, from the sector on.
-    WriteRun(u32, &'a [[u8; 512]]),
+    /// These sectors are written, from that one on.
+    Write(u32, &'a [[u8; 512]]),
     /// A sync, and whether each sector was loose until then.
     Sync(&'a [bool]),
 }
@@ -61,22 +59,13 @@ impl ProofHistory {
         ProofHistory::new().then(&Change::First(sectors))
     }
 
-    /// Records a write.
-    #[inline(always)]
-    pub(crate) fn note_write(&mut self, sector: u32, bytes: &[u8; 512])
-        ensures { (self.new.first ≡ self.old.first)
-            × (self.new.calls ≡ self.old.calls ++ Write sector bytes.now ∷ []) }
-    {
-        *self = self.then(&Change::Write(sector, bytes));
-    }
-
     /// Records the writes of these sectors, from that one on.
     #[inline(always)]
     pub(crate) fn note_run(&mut self, sector: u32, run: &[[u8; 512]])
         ensures { (self.new.first ≡ self.old.first)
             × (self.new.calls ≡ self.old.calls ++ writes_of sector run.now) }
     {
-        *self = self.then(&Change::WriteRun(sector, run));
+        *self = self.then(&Change::Write(sector, run));
     }
 
     /// Records a sync, with the sectors that were loose until then.

@@ -9,11 +9,10 @@ use std::marker::Model;
 /// A call of a file that has succeeded, by its offset in bytes.
 #[derive(Clone, Copy, Drop)]
 pub(crate) enum Called<'a> {
-    /// It gave these bytes.
-    Read(u64, &'a [u8]),
     /// It gave these sectors, one after the other.
     ReadSectors(u64, &'a [[u8; 512]]),
-    Write(u64, &'a [u8]),
+    /// It took these.
+    WriteSectors(u64, &'a [[u8; 512]]),
     SyncData,
     SetLength(u64),
     SyncAll,

@@ -8,7 +8,6 @@ ghost use Rattle.lift_disk.specs.Places.{all_now, all_safe};
 ghost use Rattle.lift_disk.specs.Runs.{HoldsRun, with_run};
 
 use crate::Outcome;
-use crate::runs::MOST_AHEAD;
 use crate::span::Span;
 use crate::two_places::TwoPlaces;
 use lift_memory::{Memory, push};
@@ -36,7 +35,7 @@ pub(crate) fn now_at(sectors: &[TwoPlaces], index: usize) -> &[u8; 512]
 
 /// Writes these bytes in this sector. What is safe in it stays.
 #[inline]
-pub(crate) fn write_at(sectors: &mut Vec<TwoPlaces>, index: usize, bytes: &[u8; 512])
+fn write_at(sectors: &mut Vec<TwoPlaces>, index: usize, bytes: &[u8; 512])
     requires { index < length (all_now sectors.old.items) }
     ensures now { all_now sectors.new.items
         ≡ slice_set (all_now sectors.old.items) index bytes.now }
@@ -99,19 +98,13 @@ fn take_back(sectors: &mut Vec<TwoPlaces>, lost: &[bool])
     }
 }
 
-/// Copies this many sectors from this place on to the front of the buffer.
-pub(crate) fn read_sectors(
-    sectors: &[TwoPlaces],
-    from: usize,
-    count: usize,
-    buffer: &mut [[u8; 512]; MOST_AHEAD],
-)
-    requires count { count ≤ 16 }
-    requires inside { from + count ≤ length (all_now sectors.now) }
-    ensures { HoldsRun from count buffer.new (all_now sectors.now) }
+/// Copies as many sectors as there is room for, from this place on.
+pub(crate) fn read_sectors(sectors: &[TwoPlaces], from: usize, room: &mut [[u8; 512]])
+    requires { from + length room.old ≤ length (all_now sectors.now) }
+    ensures { HoldsRun from (length room.new) room.new (all_now sectors.now) }
 {
-    for i in 0..count {
-        buffer[i] = *now_at(sectors, from + i);
+    for i in 0..room.len() {
+        room[i] = *now_at(sectors, from + i);
     }
 }
 

@@ -29,7 +29,7 @@ pub use memory::MemDisk;
 pub use opener::{FileOpener, SystemFolder, SystemOpener};
 pub use outcome::Outcome;
 pub use rule::{FaultRule, Flaky, Fuse};
-pub use runs::{Ahead, MOST_AHEAD, RunDisk};
+pub use runs::RunDisk;
 pub use sectors::SectorFile;
 pub use told::{HostFile, SystemFile, ToldFile};
 pub use traced::TracedFile;

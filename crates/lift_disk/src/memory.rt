@@ -5,15 +5,17 @@ ghost use Rattle.std.proofs.Common.{inl};
 ghost use Rattle.lift_disk.specs.Blank.{IsBlankDisk};
 ghost use Rattle.lift_disk.specs.Memory.{image_after, no_other};
 ghost use Rattle.lift_disk.specs.Places.{all_now};
+ghost use Rattle.lift_disk.specs.Runs.{with_run};
 
 use crate::call::ProofHistory;
 use crate::memory_sectors::MemorySectors;
-use crate::runs::{Ahead, RunDisk};
+use crate::runs::RunDisk;
 use crate::trace::{Made, ProofTrace};
 use crate::{Disk, DiskFault, Outcome};
 use lift_base::ProofCount;
 use lift_memory::Memory;
 use std::alloc::Global;
+use std::slice;
 
 /// A disk in memory, no call of which fails by itself: a read gives what was written last. It keeps
 /// what was synced apart, so that a crash can be tried; proofs read which calls were made.
@@ -109,12 +111,8 @@ impl Disk for MemDisk {
     }
 
     fn write(&mut self, sector: u32, bytes: &[u8; 512]) -> Result<(), DiskFault> {
-        self.history.note_write(sector, bytes);
-        self.calls = ProofCount::next(&self.calls);
-        self.writes = ProofCount::next(&self.writes);
-        self.trace = self.trace.then(&Made::Write(u64::from(sector), bytes));
-        self.sectors.write(sector, bytes);
-        Ok(())
+        self.announce(sector);
+        self.write_run(sector, slice::from_ref(bytes))
     }
 
     fn sync(&mut self) -> Result<(), DiskFault> {
@@ -128,16 +126,22 @@ impl Disk for MemDisk {
 }
 
 impl RunDisk for MemDisk {
+    ghost use Rattle.lift_disk.specs.Outcomes.{state_of};
+
     ghost has_given = { λ _ _ _. ⊤ };
+
+    // it is read at once, also after a failed call
+    ghost write_run_gives = { λ old sector run _ new.
+        (state_of new).image ≡ with_run sector run (state_of old).image };
 
     fn announce(&mut self, sector: u32) {
         self.sectors.loosen(sector);
     }
 
-    fn read_run(&mut self, sector: u32, count: usize, buffer: &mut Ahead) -> Result<(), DiskFault> {
+    fn read_run(&mut self, sector: u32, run: &mut [[u8; 512]]) -> Result<(), DiskFault> {
         self.calls = ProofCount::next(&self.calls);
         self.trace = self.trace.then(&Made::Read(u64::from(sector)));
-        self.sectors.read_run(sector, count, buffer);
+        self.sectors.read_run(sector, run);
         Ok(())
     }
 
@@ -147,7 +151,7 @@ impl RunDisk for MemDisk {
         self.writes = ProofCount::next(&self.writes);
         self.trace = self
             .trace
-            .then(&Made::WriteRun(u64::from(sector), run.as_flattened()));
+            .then(&Made::Write(u64::from(sector), run.as_flattened()));
         self.sectors.write_run(sector, run);
         Ok(())
     }

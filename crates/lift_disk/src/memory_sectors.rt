@@ -8,9 +8,8 @@ ghost use Rattle.lift_disk.specs.Runs.{HoldsRun, IsInRun, with_run};
 
 use crate::Outcome;
 use crate::in_memory::{
-    clear, leave, no_flags, now_at, read_sectors, save_flagged, write_at, write_sectors, zeros,
+    clear, leave, no_flags, now_at, read_sectors, save_flagged, write_sectors, zeros,
 };
-use crate::runs::Ahead;
 use crate::span::Span;
 use crate::two_places::TwoPlaces;
 use lift_memory::Memory;
@@ -81,13 +80,12 @@ impl MemorySectors {
         now_at(&self.places, sector as usize)
     }
 
-    /// What was written last in this many, from this one on, at the front of the buffer.
-    pub(crate) fn read_run(&self, sector: u32, count: usize, buffer: &mut Ahead)
-        requires count { count ≤ 16 }
-        requires inside { sector + count ≤ length (all_now self.now.places.items) }
-        ensures { HoldsRun sector count buffer.new (all_now self.now.places.items) }
+    /// What was written last in as many as there is room for, from this one on.
+    pub(crate) fn read_run(&self, sector: u32, run: &mut [[u8; 512]])
+        requires { sector + length run.old ≤ length (all_now self.now.places.items) }
+        ensures { HoldsRun sector (length run.new) run.new (all_now self.now.places.items) }
     {
-        read_sectors(&self.places, sector as usize, count, buffer);
+        read_sectors(&self.places, sector as usize, run);
     }
 
     /// One more is loose.
@@ -99,19 +97,6 @@ impl MemorySectors {
     {
         self.loose[sector as usize] = true;
         self.span = self.span.with(sector);
-    }
-
-    /// Writes these bytes in this one, which is loose then. What is safe stays.
-    #[inline]
-    pub(crate) fn write(&mut self, sector: u32, bytes: &[u8; 512])
-        requires { sector < length (all_now self.old.places.items) }
-        ensures now { all_now self.new.places.items
-            ≡ slice_set (all_now self.old.places.items) sector bytes.now }
-        ensures safe { all_safe self.new.places.items ≡ all_safe self.old.places.items }
-        ensures loose { self.new.loose.items ≡ slice_set self.old.loose.items sector true }
-    {
-        self.loosen(sector);
-        write_at(&mut self.places, sector as usize, bytes);
     }
 
     /// Writes these over as many from this one on, each of which is loose. What is safe stays.

@@ -6,12 +6,6 @@ ghost use Rattle.lift_disk.specs.Trace.Access.{Read, Write};
 
 use crate::{Disk, DiskFault};
 
-/// At most this many sectors are read in one call.
-pub const MOST_AHEAD: usize = 16;
-
-/// Room for the sectors of one such read.
-pub type Ahead = [[u8; 512]; MOST_AHEAD];
-
 /// A device that also takes several neighbouring sectors in one call.
 pub trait RunDisk: Disk {
     ghost use Rattle.lift_disk.specs.declared.disk.DiskFault.{DiskFault};
@@ -19,10 +13,18 @@ pub trait RunDisk: Disk {
     /// A call of the device has given these bytes for the sector.
     ghost has_given: { Self → ℕ → List ℕ → Type 0 };
 
-    /// What a device says of a read of several sectors beside: of the device before, the first
-    /// sector, how many, the buffer after it, the answer and the device.
-    ghost read_run_gives: { Self → ℕ → ℕ → List (List ℕ) → Result (Unit {0}) DiskFault → Self
-        → Type 0 } = { λ _ _ _ _ _ _. ⊤ };
+    /// What a device says of an announcement beside: of the device before, the sector, and the
+    /// device after it.
+    ghost announce_gives: { Self → ℕ → Self → Type 0 } = { λ _ _ _. ⊤ };
+
+    /// What it says of a read of several sectors beside: of the device before, the first of them,
+    /// what was read, the answer and the device after it.
+    ghost read_run_gives: { Self → ℕ → List (List ℕ) → Result (Unit {0}) DiskFault → Self
+        → Type 0 } = { λ _ _ _ _ _. ⊤ };
+
+    /// The same of a write of these.
+    ghost write_run_gives: { Self → ℕ → List (List ℕ) → Result (Unit {0}) DiskFault → Self
+        → Type 0 } = { λ _ _ _ _ _. ⊤ };
 
     /// Says that a sector is to be written. It is no call: from now on a crash may leave any bytes
     /// at all in the sector, as if its write had begun.
@@ -30,19 +32,20 @@ pub trait RunDisk: Disk {
         requires { sector < (Self.state self.old).size }
         ensures announced { Announces sector (Self.state self.old) (Self.state self.new) }
         ensures given { (i : ℕ) (bytes : List ℕ) → ∥ has_given self.old i bytes ∥₁
-            → ∥ has_given self.new i bytes ∥₁ };
+            → ∥ has_given self.new i bytes ∥₁ }
+        ensures own { announce_gives self.old sector self.new };
 
-    /// Reads this many sectors from this one on. A failed read leaves the buffer open.
-    fn read_run(&mut self, sector: u32, count: usize, buffer: &mut Ahead) -> Result<(), DiskFault>
-        requires count { count ≤ 16 }
-        requires inside { sector + count ≤ (Self.state self.old).size }
+    /// Reads as many sectors as there is room for, from this one on. A failed read leaves the room
+    /// open.
+    fn read_run(&mut self, sector: u32, run: &mut [[u8; 512]]) -> Result<(), DiskFault>
+        requires { sector + length run.old ≤ (Self.state self.old).size }
         ensures access { IsAccess result (Read sector) (Self.state self.old) (Self.state self.new) }
         ensures leaves { LeavesAsBefore (Self.state self.old) (Self.state self.new) }
         ensures keeps { OnOk result (KeepsWrites (Self.state self.old) (Self.state self.new)) }
         ensures gives { OnOk result ((Self.state self.old).is_honest
-            → HoldsRun sector count buffer.new (Self.state self.new).image) }
-        ensures given { OnOk result (GivesRun (has_given self.new) sector count buffer.new) }
-        ensures own { read_run_gives self.old sector count buffer.new result self.new };
+            → HoldsRun sector (length run.new) run.new (Self.state self.new).image) }
+        ensures given { OnOk result (GivesRun (has_given self.new) sector (length run.new) run.new) }
+        ensures own { read_run_gives self.old sector run.new result self.new };
 
     /// Writes these sectors from that one on, each of which was announced. Until a sync succeeds a
     /// crash may leave any bytes at all in each of them, also where the write failed.
@@ -54,5 +57,6 @@ pub trait RunDisk: Disk {
             (Self.state self.new) }
         ensures leaves { LeavesAsBefore (Self.state self.old) (Self.state self.new) }
         ensures stores { OnOk result
-            (StoresRun sector run.now (Self.state self.old) (Self.state self.new)) };
+            (StoresRun sector run.now (Self.state self.old) (Self.state self.new)) }
+        ensures own { write_run_gives self.old sector run.now result self.new };
 }

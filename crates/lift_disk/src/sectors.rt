@@ -1,18 +1,18 @@
 //! Sectors on a file, by its calls alone.
-ghost use Rattle.std.specs.Prelude.{◌≡◌, ◌↔◌, ◌*◌, ◌++◌, [], ◌∷◌, IsTrue, OnOk, false};
+ghost use Rattle.std.specs.Prelude.{◌≡◌, ◌↔◌, ◌*◌, [], ◌∷◌, IsTrue, false};
 ghost use Rattle.std.proofs.Common.{◌∙◌};
-ghost use Rattle.lift_disk.specs.FileCalls.FileCall.{Read as ReadBytes};
 ghost use Rattle.lift_disk.specs.FileCalls.{in_bytes, without_given};
 ghost use Rattle.lift_disk.specs.Blank.{IsUncalledDisk};
 ghost use Rattle.lift_disk.specs.Holding.{IsKnownSteady};
 ghost use Rattle.lift_disk.specs.Traced.{traced_calls, failures_of, making_of};
 
-use crate::runs::{Ahead, RunDisk};
+use crate::runs::RunDisk;
 use crate::told::ToldFile;
 use crate::trace::{Made, ProofTrace};
 use crate::traced::TracedFile;
 use crate::{Disk, DiskFault};
 use lift_base::ProofCount;
+use std::slice;
 
 pub(crate) const SECTOR_BYTES: u64 = 512;
 
@@ -71,15 +71,15 @@ impl<F: ToldFile + Drop> SectorFile<F> {
 }
 
 impl<F: ToldFile + Drop> Disk for SectorFile<F> {
-    ghost use Rattle.lift_disk.specs.Files.{sector_file_state_of, calls_below};
-    ghost use Rattle.lift_disk.specs.Files.{KeepsKnown, SyncsByCalls};
+    ghost use Rattle.lift_disk.specs.Files.{KeepsKnown, ReadsByCall, SyncsByCalls};
+    ghost use Rattle.lift_disk.specs.Files.{sector_file_state_of};
     ghost use Rattle.lift_disk.specs.Traced.{file_of};
 
     ghost state = { λ d. sector_file_state_of F.holds d };
 
     // these are the bytes that its file gave
-    ghost read_gives = { λ old sector bytes result new. OnOk result (calls_below new
-        ≡ calls_below old ++ ReadBytes (sector * 512) bytes ∷ []) × KeepsKnown result old new };
+    ghost read_gives = { λ old sector bytes result new.
+        ReadsByCall sector (bytes ∷ []) result old new };
 
     ghost write_gives = { λ old _ _ result new. KeepsKnown result old new };
 
@@ -99,25 +99,12 @@ impl<F: ToldFile + Drop> Disk for SectorFile<F> {
     }
 
     fn read(&mut self, sector: u32, buffer: &mut [u8; 512]) -> Result<(), DiskFault> {
-        self.calls = ProofCount::next(&self.calls);
-        if self.file.read(buffer, offset_of(sector)).is_err() {
-            self.is_steady = false;
-            return Err(DiskFault);
-        }
-        self.trace = self.trace.then(&Made::Read(u64::from(sector)));
-        Ok(())
+        self.read_run(sector, slice::from_mut(buffer))
     }
 
     fn write(&mut self, sector: u32, bytes: &[u8; 512]) -> Result<(), DiskFault> {
-        self.calls = ProofCount::next(&self.calls);
-        self.writes = ProofCount::next(&self.writes);
-        self.file.announce(sector);
-        if self.file.write(bytes, offset_of(sector)).is_err() {
-            self.is_steady = false;
-            return Err(DiskFault);
-        }
-        self.trace = self.trace.then(&Made::Write(u64::from(sector), bytes));
-        Ok(())
+        self.announce(sector);
+        self.write_run(sector, slice::from_ref(bytes))
     }
 
     fn sync(&mut self) -> Result<(), DiskFault> {
@@ -133,21 +120,24 @@ impl<F: ToldFile + Drop> Disk for SectorFile<F> {
 }
 
 impl<F: ToldFile + Drop> RunDisk for SectorFile<F> {
-    ghost use Rattle.lift_disk.specs.Files.{AsksForRun, HasGiven, calls_below};
+    ghost use Rattle.lift_disk.specs.Files.{HasGiven, KeepsKnown, ReadsByCall, calls_below};
+    ghost use Rattle.lift_disk.specs.Files.{is_known_steady};
 
     ghost has_given = { λ d. HasGiven (calls_below d) };
 
-    // its file was asked for so many sectors and no more
-    ghost read_run_gives = { λ old sector count run result new.
-        AsksForRun (calls_below old) sector count run result (calls_below new) };
+    ghost announce_gives = { λ old _ new. is_known_steady new ≡ is_known_steady old };
+
+    // its file was asked for just these
+    ghost read_run_gives = { λ old sector run result new. ReadsByCall sector run result old new };
+
+    ghost write_run_gives = { λ old _ _ result new. KeepsKnown result old new };
 
     fn announce(&mut self, sector: u32) {
         self.file.announce(sector);
     }
 
-    fn read_run(&mut self, sector: u32, count: usize, buffer: &mut Ahead) -> Result<(), DiskFault> {
+    fn read_run(&mut self, sector: u32, run: &mut [[u8; 512]]) -> Result<(), DiskFault> {
         self.calls = ProofCount::next(&self.calls);
-        let run = &mut buffer[..count];
         if self.file.read_sectors(run, offset_of(sector)).is_err() {
             self.is_steady = false;
             return Err(DiskFault);
@@ -165,7 +155,7 @@ impl<F: ToldFile + Drop> RunDisk for SectorFile<F> {
         }
         self.trace = self
             .trace
-            .then(&Made::WriteRun(u64::from(sector), run.as_flattened()));
+            .then(&Made::Write(u64::from(sector), run.as_flattened()));
         Ok(())
     }
 }

@@ -1,15 +1,14 @@
 //! A file whose calls are told.
-ghost use Rattle.std.specs.Prelude.{◌↔◌, ◌≡◌, ◌∷◌, [], IfOk, OnOk, ⊤};
+ghost use Rattle.std.specs.Prelude.{◌↔◌, ◌≡◌, IfOk, OnOk, ⊤};
 ghost use Rattle.lift_disk.specs.Disk.{CountsNow, DiskState, IsWhole, LeavesNoOther, MayLose};
 ghost use Rattle.lift_disk.specs.FileCalls.{FileCall, IsOneAnswer, IsOneCall};
-ghost use Rattle.lift_disk.specs.FileCalls.FileCall.{Read, ReadSectors, Write, SyncData};
+ghost use Rattle.lift_disk.specs.FileCalls.FileCall.{ReadSectors, WriteSectors, SyncData};
 ghost use Rattle.lift_disk.specs.FileCalls.FileCall.{DropCached, GetLength, Lock, SetLength};
 ghost use Rattle.lift_disk.specs.FileCalls.FileCall.{Restrict, SyncAll};
 ghost use Rattle.lift_disk.specs.Holding.{sectors_in};
 ghost use Rattle.lift_disk.specs.Holding.{IsKnownSteady, IsUntouched, OpensSector, Reads, Syncs};
 ghost use Rattle.lift_disk.specs.Holding.{Writes, WritesBack};
 ghost use Rattle.lift_disk.specs.Holding.{nothing_known};
-ghost use Rattle.lift_disk.specs.Runs.{joined};
 
 use std::fs::{File, OpenFile, Permissions};
 use std::io;
@@ -51,26 +50,14 @@ pub trait ToldFile {
     fn announce_told(&mut self, sector: u32)
         ensures opens { OpensSector sector (holds self.old) (holds self.new) };
 
-    /// Reads the sector from this offset on.
-    fn read_told(&mut self, buffer: &mut [u8; 512], offset: u64) -> io::Result<()>
-        ensures one { IsOneCall gives fails result (Read offset buffer.new) self.old self.new }
-        ensures held { Reads result offset (buffer.new ∷ []) (holds self.old) (holds self.new) };
-
-    /// Reads this many sectors as the buffer has from this offset on.
-    fn read_sectors_told(&mut self, buffer: &mut [[u8; 512]], offset: u64) -> io::Result<()>
-        ensures one { IsOneCall gives fails result (ReadSectors offset buffer.new) self.old
-            self.new }
-        ensures held { Reads result offset buffer.new (holds self.old) (holds self.new) };
-
-    /// Writes this sector from this offset on.
-    fn write_told(&mut self, bytes: &[u8; 512], offset: u64) -> io::Result<()>
-        ensures one { IsOneCall gives fails result (Write offset bytes.now) self.old self.new }
-        ensures held { Writes result offset (bytes.now ∷ []) (holds self.old) (holds self.new) };
+    /// Reads as many sectors as there is room for, from this offset on.
+    fn read_sectors_told(&mut self, run: &mut [[u8; 512]], offset: u64) -> io::Result<()>
+        ensures one { IsOneCall gives fails result (ReadSectors offset run.new) self.old self.new }
+        ensures held { Reads result offset run.new (holds self.old) (holds self.new) };
 
     /// Writes these sectors from this offset on.
     fn write_sectors_told(&mut self, run: &[[u8; 512]], offset: u64) -> io::Result<()>
-        ensures one { IsOneCall gives fails result (Write offset (joined run.now)) self.old
-            self.new }
+        ensures one { IsOneCall gives fails result (WriteSectors offset run.now) self.old self.new }
         ensures held { Writes result offset run.now (holds self.old) (holds self.new) };
 
     /// By `fdatasync`: the bytes and what is needed to find them, without the file's times. It is
@@ -185,16 +172,8 @@ impl<F: HostFile> ToldFile for SystemFile<F> {
 
     fn announce_told(&mut self, _sector: u32) {}
 
-    fn read_told(&mut self, buffer: &mut [u8; 512], offset: u64) -> io::Result<()> {
-        self.file.read_exact_at(buffer, offset)
-    }
-
-    fn read_sectors_told(&mut self, buffer: &mut [[u8; 512]], offset: u64) -> io::Result<()> {
-        self.file.read_exact_at(buffer.as_flattened_mut(), offset)
-    }
-
-    fn write_told(&mut self, bytes: &[u8; 512], offset: u64) -> io::Result<()> {
-        self.file.write_all_at(bytes, offset)
+    fn read_sectors_told(&mut self, run: &mut [[u8; 512]], offset: u64) -> io::Result<()> {
+        self.file.read_exact_at(run.as_flattened_mut(), offset)
     }
 
     fn write_sectors_told(&mut self, run: &[[u8; 512]], offset: u64) -> io::Result<()> {

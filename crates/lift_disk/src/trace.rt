@@ -6,13 +6,12 @@ ghost use Rattle.lift_disk.specs.Trace.{Access, trace_code};
 
 use std::marker::Model;
 
-/// A call that has succeeded: of a device by its sector, of a file by its offset in bytes.
+/// A call of a device that has succeeded, by its sector.
 #[derive(Clone, Copy, Drop)]
 pub(crate) enum Made<'a> {
     Read(u64),
-    Write(u64, &'a [u8; 512]),
-    /// Several sectors, one after the other.
-    WriteRun(u64, &'a [u8]),
+    /// The bytes of a sector, or of several, one after the other.
+    Write(u64, &'a [u8]),
     Sync,
 }
 

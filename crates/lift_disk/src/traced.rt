@@ -4,9 +4,8 @@ ghost use Rattle.std.specs.Prelude.{ℕ, IfErr, IsTrue, false, ⊤};
 ghost use Rattle.lift_disk.specs.Holding.{sectors_in};
 ghost use Rattle.lift_disk.specs.Holding.{IsKnownSteady, IsSameFile, IsUntouched, OpensSector};
 ghost use Rattle.lift_disk.specs.Holding.{Reads, Syncs, Writes};
-ghost use Rattle.lift_disk.specs.Runs.{joined};
 ghost use Rattle.lift_disk.specs.FileCalls.{FailsIn, LeadsBy, MakesCalls, sync_calls};
-ghost use Rattle.lift_disk.specs.FileCalls.FileCall.{Read, ReadSectors, Write, SyncData};
+ghost use Rattle.lift_disk.specs.FileCalls.FileCall.{ReadSectors, WriteSectors, SyncData};
 ghost use Rattle.lift_disk.specs.FileCalls.FileCall.{GetLength, Lock, Restrict, SetLength, SyncAll};
 
 use crate::DiskFault;
@@ -91,13 +90,13 @@ impl<F: ToldFile + Drop> TracedFile<F> {
     /// Writes these sectors from this offset on, while it is made.
     fn fill(&mut self, run: &[[u8; 512]], offset: u64) -> io::Result<()>
         ensures making { OnOk result
-            (IsMaking F.gives (Write offset (joined run.now) ∷ []) self.old self.new) }
+            (IsMaking F.gives (WriteSectors offset run.now ∷ []) self.old self.new) }
         ensures failed { OnErr result
-            (F.fails (file_of self.old) (Write offset (joined run.now)) (file_of self.new)) }
+            (F.fails (file_of self.old) (WriteSectors offset run.now) (file_of self.new)) }
         ensures same { IsSameFile (F.holds (file_of self.old)) (F.holds (file_of self.new)) }
     {
         self.file.write_sectors_told(run, offset)?;
-        self.making = self.making.then(&Called::Write(offset, run.as_flattened()));
+        self.making = self.making.then(&Called::WriteSectors(offset, run));
         Ok(())
     }
 
@@ -292,51 +291,30 @@ impl<F: ToldFile + Drop> TracedFile<F> {
         self.file.announce_told(sector);
     }
 
-    /// Reads the sector from this offset on.
-    pub(crate) fn read(&mut self, buffer: &mut [u8; 512], offset: u64) -> Result<(), DiskFault>
-        ensures traced { IsTraced F.gives F.fails result (Read offset buffer.new) self.old
-            self.new }
-        ensures held { Reads result offset (buffer.new ∷ []) (F.holds (file_of self.old))
-            (F.holds (file_of self.new)) }
-    {
-        let outcome = self.file.read_told(buffer, offset);
-        self.note(outcome, &Called::Read(offset, buffer))
-    }
-
-    /// Reads this many sectors as the buffer has from this offset on, in one call.
+    /// Reads as many sectors as there is room for, from this offset on, in one call.
     pub(crate) fn read_sectors(
         &mut self,
-        buffer: &mut [[u8; 512]],
+        run: &mut [[u8; 512]],
         offset: u64,
     ) -> Result<(), DiskFault>
-        ensures traced { IsTraced F.gives F.fails result (ReadSectors offset buffer.new) self.old
+        ensures traced { IsTraced F.gives F.fails result (ReadSectors offset run.new) self.old
             self.new }
-        ensures held { Reads result offset buffer.new (F.holds (file_of self.old))
+        ensures held { Reads result offset run.new (F.holds (file_of self.old))
             (F.holds (file_of self.new)) }
     {
-        let outcome = self.file.read_sectors_told(buffer, offset);
-        self.note(outcome, &Called::ReadSectors(offset, buffer))
-    }
-
-    /// Writes this sector from this offset on.
-    pub(crate) fn write(&mut self, bytes: &[u8; 512], offset: u64) -> Result<(), DiskFault>
-        ensures traced { IsTraced F.gives F.fails result (Write offset bytes.now) self.old self.new }
-        ensures held { Writes result offset (bytes.now ∷ []) (F.holds (file_of self.old))
-            (F.holds (file_of self.new)) }
-    {
-        let outcome = self.file.write_told(bytes, offset);
-        self.note(outcome, &Called::Write(offset, bytes))
+        let outcome = self.file.read_sectors_told(run, offset);
+        self.note(outcome, &Called::ReadSectors(offset, run))
     }
 
     /// Writes these sectors from this offset on, in one call.
     pub(crate) fn write_sectors(&mut self, run: &[[u8; 512]], offset: u64) -> Result<(), DiskFault>
-        ensures traced { IsTraced F.gives F.fails result (Write offset (joined run.now)) self.old
+        ensures traced { IsTraced F.gives F.fails result (WriteSectors offset run.now) self.old
             self.new }
         ensures held { Writes result offset run.now (F.holds (file_of self.old))
             (F.holds (file_of self.new)) }
     {
         let outcome = self.file.write_sectors_told(run, offset);
-        self.note(outcome, &Called::Write(offset, run.as_flattened()))
+        self.note(outcome, &Called::WriteSectors(offset, run))
     }
 
     /// By `fdatasync`: the bytes and what is needed to find them, without the file's times.

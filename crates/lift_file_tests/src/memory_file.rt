@@ -3,9 +3,7 @@ ghost use Rattle.std.specs.Prelude.{◌≡◌, ◌≤◌, ◌+◌, ◌*◌, ⊤,
 ghost use Rattle.lift_disk.specs.Holding.{sectors_in};
 ghost use Rattle.lift_disk.specs.Traced.{to_be_made};
 
-use lift_disk::{
-    Buffered, Disk, FileFault, FileOpener, MOST_AHEAD, MemDisk, RunDisk, SectorFile, ToldFile,
-};
+use lift_disk::{Buffered, Disk, FileFault, FileOpener, MemDisk, RunDisk, SectorFile, ToldFile};
 use lift_memory::Memory;
 use std::alloc::Global;
 use std::io;
@@ -110,39 +108,11 @@ impl ToldFile for MemoryFile {
         }
     }
 
-    fn read_told(&mut self, buffer: &mut [u8; 512], offset: u64) -> io::Result<()> {
-        let Some(sector) = self.sector_at(offset, 1) else {
+    fn read_sectors_told(&mut self, run: &mut [[u8; 512]], offset: u64) -> io::Result<()> {
+        let Some(sector) = self.sector_at(offset, run.len()) else {
             return Err(refused());
         };
-        match self.disk.read(sector, buffer) {
-            Ok(()) => Ok(()),
-            Err(_) => Err(refused()),
-        }
-    }
-
-    fn read_sectors_told(&mut self, buffer: &mut [[u8; 512]], offset: u64) -> io::Result<()> {
-        let count = buffer.len();
-        if MOST_AHEAD < count {
-            return Err(refused());
-        }
-        let Some(sector) = self.sector_at(offset, count) else {
-            return Err(refused());
-        };
-        let mut ahead = [[0; 512]; MOST_AHEAD];
-        match self.disk.read_run(sector, count, &mut ahead) {
-            Ok(()) => {
-                buffer.copy_from_slice(&ahead[..count]);
-                Ok(())
-            }
-            Err(_) => Err(refused()),
-        }
-    }
-
-    fn write_told(&mut self, bytes: &[u8; 512], offset: u64) -> io::Result<()> {
-        let Some(sector) = self.sector_at(offset, 1) else {
-            return Err(refused());
-        };
-        match self.disk.write(sector, bytes) {
+        match self.disk.read_run(sector, run) {
             Ok(()) => Ok(()),
             Err(_) => Err(refused()),
         }

@@ -4,7 +4,7 @@ ghost use Rattle.std.proofs.Common.{◌∙◌};
 ghost use Rattle.lift_disk.specs.Files.{file_below, sector_file_state_of, writes_of};
 
 use lift_base::ProofCount;
-use lift_disk::{Ahead, Buffered, Disk, DiskFault, RunDisk, SectorFile, ToldFile};
+use lift_disk::{Buffered, Disk, DiskFault, RunDisk, SectorFile, ToldFile};
 
 /// A file that is never written: a write of it fails, and is no call of the file.
 #[derive(Drop)]
@@ -72,17 +72,17 @@ impl<F: ToldFile + Drop> RunDisk for UnwrittenFile<F> {
 
     ghost has_given = { λ d. HasGiven (calls_below (unwritten_file_of d)) };
 
-    // the file was asked for so many sectors and no more
-    ghost read_run_gives = { λ old sector count run result new.
-        AsksForRun (calls_below (unwritten_file_of old)) sector count run result
+    // the file was asked for just these
+    ghost read_run_gives = { λ old sector run result new.
+        AsksForRun (calls_below (unwritten_file_of old)) sector run result
         (calls_below (unwritten_file_of new)) };
 
     fn announce(&mut self, sector: u32) {
         self.file.announce(sector);
     }
 
-    fn read_run(&mut self, sector: u32, count: usize, buffer: &mut Ahead) -> Result<(), DiskFault> {
-        self.file.read_run(sector, count, buffer)
+    fn read_run(&mut self, sector: u32, run: &mut [[u8; 512]]) -> Result<(), DiskFault> {
+        self.file.read_run(sector, run)
     }
 
     fn write_run(&mut self, _sector: u32, _run: &[[u8; 512]]) -> Result<(), DiskFault> {

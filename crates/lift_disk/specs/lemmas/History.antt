@@ -5,7 +5,7 @@ use Rattle.std.proofs.Common.{◌≡◌, ◌≢◌, ◌⊎◌, ◌↔◌, ◌<�
 use Rattle.std.proofs.Common.{Bool, true, false, List, [], ◌∷◌, ◌++◌, length, take, replicate}
 use Rattle.std.proofs.Common.{slice_get, slice_set, Option, Some, refl, sym, ◌∙◌, ap, subst, arith}
 use Rattle.std.proofs.Common.{length-append}
-use Rattle.std.proofs.lemmas.List.{take-append-le, take_all, length-set}
+use Rattle.std.proofs.lemmas.List.{take-append-le, take_all}
 use Rattle.lift_disk.specs.Disk.{DiskState, Image, ChangesWithin, GoesOn}
 use Rattle.lift_disk.specs.Memory.{image_after, IsFlagged, WasLeft, memory_state}
 use Rattle.lift_disk.specs.Outcomes.{SpoilsSector}
@@ -14,12 +14,12 @@ use Rattle.lift_disk.specs.Trace.{Access}
 use Rattle.lift_disk.specs.Calls.{Call}
 use Rattle.lift_disk.specs.Calls.Call.{Write, Sync}
 
-pub image_after-push : (calls : List Call) (call : Call) (image : Image)
-    → image_after (calls ++ call ∷ []) image ≡ image_after (call ∷ []) (image_after calls image)
-image_after-push [] call image = refl
-image_after-push (Write sector bytes ∷ calls) call image =
-    image_after-push calls call (slice_set image sector bytes)
-image_after-push (Sync loose ∷ calls) call image = image_after-push calls call image
+pub image_after-more : (calls more : List Call) (image : Image)
+    → image_after (calls ++ more) image ≡ image_after more (image_after calls image)
+image_after-more [] more image = refl
+image_after-more (Write sector bytes ∷ calls) more image =
+    image_after-more calls more (slice_set image sector bytes)
+image_after-more (Sync loose ∷ calls) more image = image_after-more calls more image
 
 pub set_other : {X : Type 0} (xs : List X) (i k : ℕ) (x : X) → k ≢ i
     → slice_get (slice_set xs i x) k ≡ slice_get xs k
@@ -75,11 +75,11 @@ get_pushed (first ∷ calls) call found (suc j) is =
     ⊎_elim (λ early. inl (omega (arith, early.0), early.1)) (λ last.
     inr (ap suc last.0, last.1)) (get_pushed calls call found j is)
 
-get_early : (calls : List Call) (call found : Call) (j : ℕ) → slice_get calls j ≡ Some found
-    → slice_get (calls ++ call ∷ []) j ≡ Some found
-get_early [] call found j is = absurd (cc is)
-get_early (first ∷ calls) call found zero is = is
-get_early (first ∷ calls) call found (suc j) is = get_early calls call found j is
+get_first : (calls more : List Call) (found : Call) (j : ℕ) → slice_get calls j ≡ Some found
+    → slice_get (calls ++ more) j ≡ Some found
+get_first [] more found j is = absurd (cc is)
+get_first (first ∷ calls) more found zero is = is
+get_first (first ∷ calls) more found (suc j) is = get_first calls more found j is
 
 get_last : (calls : List Call) (call : Call)
     → slice_get (calls ++ call ∷ []) (length calls) ≡ Some call
@@ -92,54 +92,19 @@ within_calls [] found j is = absurd (cc is)
 within_calls (first ∷ calls) found zero is = omega arith
 within_calls (first ∷ calls) found (suc j) is = omega (arith, within_calls calls found j is)
 
-was_early : (first : Image) (calls : List Call) (call : Call) (since : ℕ) (left : Image)
-    → WasLeft first calls since left → WasLeft first (calls ++ call ∷ []) since left
-was_early first calls call since left was =
+pub was_before : (first : Image) (calls more : List Call) (since : ℕ) (left : Image)
+    → WasLeft first calls since left → WasLeft first (calls ++ more) since left
+was_before first calls more since left was =
     let early = within_calls calls (Sync was.loose) was.at was.synced in
     record {
       at = was.at;
       loose = was.loose;
       late = was.late;
-      synced = get_early calls call (Sync was.loose) was.at was.synced;
+      synced = get_first calls more (Sync was.loose) was.at was.synced;
       within = subst (λ (l : List Call).
           ChangesWithin (IsFlagged was.loose) (image_after l first) left)
-          (sym (take-append-le was.at calls (call ∷ []) (omega arith))) was.within;
+          (sym (take-append-le was.at calls more (omega arith))) was.within;
     }
-
--- no sync more
-still_early : (first : Image) (calls : List Call) (sector : ℕ) (bytes : List ℕ) (since : ℕ)
-    (left : Image) → WasLeft first (calls ++ Write sector bytes ∷ []) since left
-    → WasLeft first calls since left
-still_early first calls sector bytes since left was = ⊎_elim (λ early. record {
-  at = was.at;
-  loose = was.loose;
-  late = was.late;
-  synced = early.1;
-  within = subst (λ (l : List Call). ChangesWithin (IsFlagged was.loose) (image_after l first) left)
-      (take-append-le was.at calls (Write sector bytes ∷ []) (omega (arith, early.0))) was.within;
-}) (λ last. absurd (cc (last.1)))
-    (get_pushed calls (Write sector bytes) (Sync was.loose) was.at was.synced)
-
--- a write
-pub write_within : (now : Image) (loose : List Bool) (sector : ℕ) (bytes : List ℕ)
-    → sector < length loose → ChangesWithin (IsFlagged (slice_set loose sector true)) now
-    (slice_set now sector bytes)
-write_within now loose sector bytes there = record {
-  size = length-set now sector bytes;
-  others = λ i other. set_other now sector i bytes (λ same.
-      other ((flagged_set loose sector i there).1 (inr same)));
-}
-
--- one flag more, and a write there
-pub kept_write : (now synced : Image) (loose : List Bool) (sector : ℕ) (bytes : List ℕ)
-    → sector < length loose → ChangesWithin (IsFlagged loose) now synced
-    → ChangesWithin (IsFlagged (slice_set loose sector true)) (slice_set now sector bytes) synced
-kept_write now synced loose sector bytes there kept = record {
-  size = kept.size ∙ sym (length-set now sector bytes);
-  others = λ i other. kept.others i (λ was.
-      other ((flagged_set loose sector i there).1 (inl was))) ∙ sym
-      ((write_within now loose sector bytes there).others i other);
-}
 
 module _ (first : Image) (calls : List Call) (now synced : Image) (loose : List Bool)
     (steady : Bool) (failures made writes : ℕ) (trace : List Access) where
@@ -159,32 +124,6 @@ module _ (first : Image) (calls : List Call) (now synced : Image) (loose : List 
       (subst (λ (l : List Call).
       GoesOn old (memory_state first l read saved flags calm failures2 made2 writes2 trace2))
       (sym is) goes_on)
-
-  pub write_goes_on : (sector : ℕ) (bytes : List ℕ) (begun : Image) (later : List Call)
-      (made2 writes2 : ℕ) (trace2 : List Access) → sector < length loose → begun ≡ first
-      → later ≡ calls ++ Write sector bytes ∷ [] → made2 ≡ made + 1
-      → GoesOn old (memory_state begun later (slice_set now sector bytes) synced
-      (slice_set loose sector true) steady failures made2 writes2 trace2)
-  write_goes_on sector bytes begun later made2 writes2 trace2 there same is one =
-      recorded_so begun later (calls ++ Write sector bytes ∷ []) same is
-      (slice_set now sector bytes) synced (slice_set loose sector true) steady failures made2
-      writes2 trace2 (record {
-        size = length-set now sector bytes;
-        calls = one;
-        failures = omega arith;
-        honest = (λ h. h, λ h. h);
-        inert = (λ h. h, λ h. h);
-        told = λ call later. (λ no. no, λ no. no);
-        time = λ _. record {
-          later = omega (arith, length-append calls (Write sector bytes ∷ []));
-          nothing_else = λ t left le since.
-              ⊎_elim (λ is. inr is) (λ was.
-              inl (inr (still_early first calls sector bytes t left was))) since;
-          keeps = λ t left le since. ⊎_elim
-              (λ is. inl (kept_write now left loose sector bytes there is))
-              (λ was. inr (was_early first calls (Write sector bytes) t left was)) since;
-        };
-      })
 
   -- a failed call that makes a sector loose
   pub spoil_goes_on : (sector : ℕ) (calm : Bool) (failures2 made2 writes2 : ℕ)
@@ -246,7 +185,7 @@ module _ (first : Image) (calls : List Call) (now synced : Image) (loose : List 
               ⊎_elim (λ is. inr is) (λ was. inl (earlier t left was)) since;
           keeps = λ t left le since.
               inr (⊎_elim (now_kept t left le) (λ was.
-              was_early first calls (Sync loose) t left was) since);
+              was_before first calls (Sync loose ∷ []) t left was) since);
         };
       })
     where

@@ -174,9 +174,9 @@ fn succeeds<F: ToldFile>(file: &mut F, call: Told) -> bool {
     match call {
         Told::Lock => file.lock_told().is_ok(),
         Told::Restrict => file.restrict_told().is_ok(),
-        Told::Read => file.read_told(&mut [1; 512], 1536).is_ok(),
+        Told::Read => file.read_sectors_told(&mut [[1; 512]], 1536).is_ok(),
         Told::ReadTwo => file.read_sectors_told(&mut [[1; 512]; 2], 1536).is_ok(),
-        Told::Write => file.write_told(&[1; 512], 1536).is_ok(),
+        Told::Write => file.write_sectors_told(&[[1; 512]], 1536).is_ok(),
         Told::WriteTwo => file.write_sectors_told(&[[1; 512]; 2], 1536).is_ok(),
         Told::SyncData => file.sync_data_told().is_ok(),
         Told::WriteBack => file.write_back_told().is_ok(),

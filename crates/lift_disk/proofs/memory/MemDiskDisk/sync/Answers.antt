@@ -5,7 +5,7 @@ use Rattle.lift_disk.specs.Calls.{Call}
 use Rattle.lift_disk.specs.Calls.Call.{Sync}
 use Rattle.lift_disk.specs.Places.{all_now, all_safe}
 use Rattle.lift_disk.specs.lemmas.Moments.{changes_nothing}
-use Rattle.lift_disk.specs.lemmas.History.{image_after-push, none_flagged, sync_goes_on}
+use Rattle.lift_disk.specs.lemmas.History.{image_after-more, none_flagged, sync_goes_on}
 use Rattle.lift_disk.proofs.memory.MemDiskDisk.sync.Goals as goal
 
 pub invariant_of-self : goal.invariant_of-self
@@ -14,7 +14,7 @@ invariant_of-self c =
     record {
       recorded = ap (λ (l : List Call). image_after l c.note_sync.new.self.first) c.note_sync.ensures.1
           ∙ ap (λ (l : Image). image_after (m.history.calls ++ Sync c.loose.result.now ∷ []) l) c.note_sync.ensures.0
-          ∙ image_after-push m.history.calls (Sync c.loose.result.now) m.history.first
+          ∙ image_after-more m.history.calls (Sync c.loose.result.now ∷ []) m.history.first
           ∙ m.recorded
           ∙ sym c.sync.ensures.now;
     }

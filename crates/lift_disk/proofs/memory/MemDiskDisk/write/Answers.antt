@@ -1,43 +1,28 @@
-use Rattle.std.proofs.Common.{◌++◌, [], ◌∷◌, List, slice_set, ◌∙◌, ap, sym, arith, rules}
+use Rattle.std.proofs.Common.{ℕ, List, rules, ◌∙◌, ap, slice_set}
 use Rattle.lift_disk.specs.Disk.{Image}
-use Rattle.lift_disk.specs.Memory.{image_after}
-use Rattle.lift_disk.specs.Calls.{Call}
-use Rattle.lift_disk.specs.Calls.Call.{Write}
-use Rattle.lift_disk.specs.Places.{all_now, all_safe}
-use Rattle.lift_disk.specs.lemmas.History.{image_after-push, flagged_set, write_within, write_goes_on}
+use Rattle.lift_disk.specs.Outcomes.{state_of}
+use Rattle.lift_disk.specs.Runs.{with_run}
+use Rattle.lift_disk.proofs.OneSector.{announced_one, opened_goes_on, opened_stores, opened_touches}
+use Rattle.lift_disk.proofs.Synced.{on_ok}
 use Rattle.lift_disk.proofs.memory.MemDiskDisk.write.Goals as goal
 
-pub invariant_of-self : goal.invariant_of-self
-invariant_of-self c =
-    let m = c.args.self.now in
-    let call = Write c.args.sector c.args.bytes.now in
-    record {
-      recorded = ap (λ (l : List Call). image_after l c.note_write.new.self.first) c.note_write.ensures.1
-          ∙ ap (λ (l : Image). image_after (m.history.calls ++ call ∷ []) l) c.note_write.ensures.0
-          ∙ image_after-push m.history.calls call m.history.first
-          ∙ ap (λ (l : Image). slice_set l c.args.sector c.args.bytes.now) m.recorded
-          ∙ sym c.write.ensures.now;
-    }
+pub write_run-requires-clause-announced : goal.write_run-requires-clause-announced
+write_run-requires-clause-announced c = announced_one (state_of c.args.self.now) (state_of c.announce.new.self) (state_of c.announce.new.self) c.args.sector c.announce.ensures.announced _ c.from_ref.ensures.len
 
 pub returns-clause-access : goal.returns-clause-access
-returns-clause-access c =
-    let m = c.args.self.now in
-    let now = all_now m.sectors.places.items in
-    let safe = all_safe m.sectors.places.items in
-    record {
-      goes_on = rw (c.write.ensures.now, c.write.ensures.safe, c.write.ensures.loose) (write_goes_on m.history.first m.history.calls now safe m.sectors.loose.items m.is_steady m.failures.count m.calls.count m.writes.count m.trace.calls
-          c.args.sector c.args.bytes.now c.note_write.new.self.first c.note_write.new.self.calls c.next-self.result.count c.next-self-2.result.count c.then-self.result.calls
-          (omega (arith, m.sectors.sized, c.requires)) c.note_write.ensures.0 c.note_write.ensures.1 c.next-self.ensures);
-      fault = search rules;
-      told = search rules;
-      writes = search rules;
-      recorded = search rules;
-    }
+returns-clause-access c = record {
+  goes_on = opened_goes_on (state_of c.args.self.now) (state_of c.announce.new.self) (state_of c.write_run.new.self) c.args.sector c.announce.ensures.announced c.write_run.ensures.leaves c.write_run.ensures.access.goes_on;
+  fault = search rules;
+  told = search rules;
+  writes = search rules;
+  recorded = search rules;
+}
 
 pub returns-clause-touched : goal.returns-clause-touched
-returns-clause-touched c honest =
-    let m = c.args.self.now in
-    rw (c.write.ensures.now, c.write.ensures.loose) (record {
-      loose = λ i. flagged_set m.sectors.loose.items c.args.sector i (omega (arith, m.sectors.sized, c.requires));
-      within = write_within (all_now m.sectors.places.items) m.sectors.loose.items c.args.sector c.args.bytes.now (omega (arith, m.sectors.sized, c.requires));
-    })
+returns-clause-touched c = opened_touches (state_of c.args.self.now) (state_of c.announce.new.self) (state_of c.write_run.new.self) c.args.sector c.announce.ensures.announced c.write_run.ensures.leaves
+
+pub returns-clause-stores : goal.returns-clause-stores
+returns-clause-stores c =
+    on_ok c.write_run.result (opened_stores (state_of c.args.self.now) (state_of c.announce.new.self) (state_of c.write_run.new.self) c.args.sector c.announce.ensures.announced c.args.bytes.now
+    (λ _ _. c.write_run.ensures.own ∙ ap (λ (run : List (List ℕ)). with_run c.args.sector run (state_of c.announce.new.self).image) c.from_ref.ensures.value ∙ ap (λ (image : Image). slice_set image c.args.sector c.args.bytes.now) c.announce.ensures.announced.image))
+    (rw (← c.from_ref.ensures.value) c.write_run.ensures.stores)
