@@ -1,9 +1,7 @@
 //! What a car says in its sessions.
 
 ghost use Rattle.std.specs.Prelude.{◌≡◌, ℕ, ◌<◌, ◌^◌, List, map, IfSome, IfNone, ◌∷◌, codes};
-ghost use Rattle.lift_base.specs.Output.{sink_of};
-ghost use Rattle.lift_kiosk.specs.Lines.{source_of};
-ghost use Rattle.lift_kiosk.specs.Session.{Converses, standing};
+ghost use Rattle.lift_kiosk.specs.Session.{Converses, standing_of};
 ghost use Rattle.lift_kiosk.specs.declared.dialect.Wanted.{Wanted as WantedValue};
 ghost use Rattle.lift_car.specs.declared.lines.Move.{Move as MoveValue};
 ghost use Rattle.lift_car.specs.Lines.{WantsMove, SpellsMove, IsMove, ReadsMove, keeps_stop};
@@ -160,10 +158,8 @@ pub fn session<R: Read + Drop, W: Write + Drop, P: Port>(
     limits: Limits,
 ) -> CarEnd
     ensures converses { Converses WantsMove keeps_stop limits result.end
-        (standing (stop_numbered last) (P.view port.old) (source_of R.remaining reader.old)
-        (sink_of W.contents writer.old))
-        (standing (stop_numbered result.last) (P.view port.new) (source_of R.remaining reader.new)
-        (sink_of W.contents writer.new)) }
+        (standing_of R.remaining W.contents P.view reader.old writer.old port.old (stop_numbered last))
+        (standing_of R.remaining W.contents P.view reader.new writer.new port.new (stop_numbered result.last)) }
     ensures stays { P.place port.new ≡ P.place port.old }
 {
     let mut last = LastLetter {

@@ -1,10 +1,12 @@
 -- What an append and a checkpoint make of a journal, for whoever rests on what it holds.
-use Rattle.std.specs.Prelude.{◌≡◌, ◌⊎◌, ◌↔◌, ◌<◌, ◌+◌, ℕ, Bool, false, List}
+use Rattle.std.specs.Prelude.{◌≡◌, ◌⊎◌, ◌↔◌, ◌<◌, ◌+◌, ◌++◌, ℕ, Bool, false, not, List, [], ◌∷◌}
 use Rattle.std.specs.Prelude.{Result, OnOk, OnErr, IfErr, IsErrOf}
+use Rattle.lift_base.specs.declared.history.Record.{Record}
 use Rattle.lift_disk.specs.Disk.{DiskState, LeavesOnly}
 use Rattle.lift_journal.specs.declared.fault.JournalFault.{JournalFault}
 use Rattle.lift_journal.specs.declared.fault.JournalFault.TheVariants.{Disk, Full, Broken}
-use Rattle.lift_journal.specs.Layout.{Batch, HoldsIn, body_size}
+use Rattle.lift_journal.specs.Layout.{Batch, HoldsIn, body_size, new_batch}
+use Rattle.lift_journal.specs.Checkpoint.{batch_count, checkpoint_of, sectors_for}
 use Rattle.lift_journal.specs.Journal.{JournalView, JournalHolds}
 
 -- The batches that a journal holds become others, in this half.
@@ -23,6 +25,18 @@ pub record Becomes {D T : Type 0} (state : D
   -- at Ok the journal holds the others
   pub done : OnOk result (JournalHolds state new (change batches))
 
+-- over an honest device: the batches from before and one of these records, in the same half
+abbrev pub AddsBatch : {D T : Type 0} → (D → DiskState) → JournalView D → List Record → JournalView D
+    → Result T JournalFault → Type 0
+AddsBatch state old records new result = (state old.device).is_honest
+    → Becomes state old old.is_in_second_half (λ batches. batches ++ new_batch records ∷ []) new result
+
+-- over an honest device: the checkpoint of these records alone, in the other half
+abbrev pub PutsCheckpoint : {D T : Type 0} → (D → DiskState) → JournalView D → List Record
+    → JournalView D → Result T JournalFault → Type 0
+PutsCheckpoint state old records new result = (state old.device).is_honest
+    → Becomes state old (not old.is_in_second_half) (λ _. checkpoint_of records) new result
+
 -- The next batch goes into this half, after this many sectors, with this number; where the call
 -- fails, it goes where it would have gone.
 pub record MovesOnOk {D T : Type 0} (old : JournalView D) (is_in_second_half : Bool)
@@ -33,6 +47,18 @@ pub record MovesOnOk {D T : Type 0} (old : JournalView D) (is_in_second_half : B
   pub number : OnOk result (new.number ≡ next)
   pub kept : OnErr result ((new.is_in_second_half ≡ old.is_in_second_half) × (new.used ≡ old.used)
       × (new.number ≡ old.number))
+
+-- after a batch of this many records
+abbrev pub GoesAfterBatch : {D T : Type 0} → JournalView D → (count : ℕ) → JournalView D
+    → Result T JournalFault → Type 0
+GoesAfterBatch old count new result =
+    MovesOnOk old old.is_in_second_half (old.used + body_size count + 1) (old.number + 1) new result
+
+-- after a checkpoint of this many records, in the other half
+abbrev pub GoesAfterCheckpoint : {D T : Type 0} → JournalView D → (count : ℕ) → JournalView D
+    → Result T JournalFault → Type 0
+GoesAfterCheckpoint old count new result =
+    MovesOnOk old (not old.is_in_second_half) (sectors_for count) (batch_count count + 1) new result
 
 -- A batch of this many records is Full just where it has no room and the journal isn't broken, and
 -- then nothing is changed. Else it is refused for a call that failed, or while broken.

@@ -19,5 +19,6 @@ pub mod Fault
 pub mod RefusedOpening
 pub mod Answers
 pub mod Becomes
+pub mod Storing
 pub mod Next
 pub mod lemmas

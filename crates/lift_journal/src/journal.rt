@@ -1,20 +1,19 @@
 //! Batches of records, each in the journal whole or not at all.
-ghost use Rattle.std.specs.Prelude.{◌≡◌, ◌≤◌, ◌<◌, ◌+◌, ◌-◌, ◌++◌, ◌⊎◌, ◌↔◌, ℕ, List, [], ◌∷◌};
-ghost use Rattle.std.specs.Prelude.{None, IsTrue, length, OnOk, true, false, not};
-ghost use Rattle.std.specs.Prelude.{All, Ok, Err, IsErrOf, IfOk, IfErr};
+ghost use Rattle.std.specs.Prelude.{◌≡◌, ◌≤◌, ◌<◌, ◌+◌, ◌-◌, ◌⊎◌, ◌↔◌, ℕ, List};
+ghost use Rattle.std.specs.Prelude.{None, IsTrue, length, OnOk, true, false};
+ghost use Rattle.std.specs.Prelude.{All, Ok, Err, IfOk, IfErr};
 ghost use Rattle.lift_base.specs.History.{IsWithinLimits};
 ghost use Rattle.lift_base.specs.Records.{IsLawful};
-ghost use Rattle.lift_disk.specs.Disk.{LeavesNow, IsSynced};
+ghost use Rattle.lift_disk.specs.Disk.{IsSynced};
 ghost use Rattle.lift_register.specs.Base.{base_records};
-ghost use Rattle.lift_journal.specs.Checkpoint.{batch_count, checkpoint_of, sectors_for};
-ghost use Rattle.lift_journal.specs.Layout.{body_size, Batch, new_batch, Holds};
+ghost use Rattle.lift_journal.specs.Layout.{body_size, Batch, Holds};
 ghost use Rattle.lift_journal.specs.Order.{IsEntry};
 ghost use Rattle.lift_journal.specs.Steps.{ReadsOnly, IsSyncedAt};
-ghost use Rattle.lift_journal.specs.Failed.{IsFailedAppend, IsFailedCheckpoint};
-ghost use Rattle.lift_journal.specs.Calls.{half_start, append_calls, batch_body, pick_of};
-ghost use Rattle.lift_journal.specs.Calls.{checkpoint_calls, CallsDevice};
 ghost use Rattle.lift_journal.specs.ChainStep.{IsOfCursor};
-ghost use Rattle.lift_journal.specs.Becomes.{Becomes, MovesOnOk, RefusesForRoom};
+ghost use Rattle.lift_journal.specs.Becomes.{AddsBatch, PutsCheckpoint, RefusesForRoom};
+ghost use Rattle.lift_journal.specs.Becomes.{GoesAfterBatch, GoesAfterCheckpoint};
+ghost use Rattle.lift_journal.specs.Storing.{AppendCalls, AppendStops};
+ghost use Rattle.lift_journal.specs.Storing.{CheckpointCalls, CheckpointStops};
 ghost use Rattle.lift_journal.specs.Next.{GivesNext, MovesCursor, NextCalls};
 ghost use Rattle.lift_journal.specs.Visits.{TakesAll, HasTaken, ShownBefore};
 
@@ -178,32 +177,18 @@ impl<D: Disk> Journal<D> {
         requires lawful { All IsLawful batch.now.items }
         requires entries { All IsEntry batch.now.items }
         // It becomes the batches from before and this one, in the same half.
-        ensures becomes { self.old.is_broken ≡ false → (D.state self.old.device).is_honest
-            → Becomes D.state self.old self.old.is_in_second_half
-            (λ batches. batches ++ new_batch batch.now.items ∷ []) self.new result }
+        ensures becomes { self.old.is_broken ≡ false → AddsBatch D.state self.old batch.now.items self.new result }
         // At Ok the next batch goes after this one, else where this one would have gone.
-        ensures goes { MovesOnOk self.old self.old.is_in_second_half
-            (self.old.used + body_size (length batch.now.items) + 1) (self.old.number + 1) self.new
-            result }
+        ensures goes { GoesAfterBatch self.old (length batch.now.items) self.new result }
         // A call of the device that fails breaks it; a broken journal makes none and stays as it
         // is.
         ensures breaks { BreaksByFault D.state self.old self.new result }
         // Full just where there is no room, and then nothing is changed.
         ensures refuses { RefusesForRoom self.old (length batch.now.items) self.new result }
         // The body and the next gate, a sync, the gate, a sync.
-        ensures calls { CallsDevice result
-            (append_calls
-            (half_start self.old.is_in_second_half self.old.shape.half + self.old.used)
-            (batch_body self.old.number (new_batch batch.now.items)))
-            (body_size (length batch.now.items) + 4) (body_size (length batch.now.items) + 2)
-            (D.state self.old.device) (D.state self.new.device) }
+        ensures calls { AppendCalls D.state self.old batch.now.items self.new result }
         // Where it failed says what a cut leaves.
-        ensures fails { IsErrOf result JournalFault.Disk → (D.state self.old.device).is_honest
-            → (D.state self.old.device).is_inert → (batches : List Batch)
-            → LeavesNow (D.state self.old.device) (Holds self.old.shape batches)
-            → IsFailedAppend self.old.shape batches (new_batch batch.now.items)
-            (body_size (length batch.now.items)) (D.state self.old.device)
-            (D.state self.new.device) }
+        ensures fails { AppendStops D.state self.old batch.now.items self.new result }
     {
         if self.is_broken {
             return Err(JournalFault::Broken);
@@ -226,12 +211,9 @@ impl<D: Disk> Journal<D> {
     /// picked. At `Ok` it is safe.
     pub fn replace(&mut self, register: &Register) -> Result<(), JournalFault>
         // It becomes the checkpoint alone, in the other half.
-        ensures becomes { self.old.is_broken ≡ false → (D.state self.old.device).is_honest
-            → Becomes D.state self.old (not self.old.is_in_second_half)
-            (λ _. checkpoint_of (base_records register.now)) self.new result }
-        ensures goes { MovesOnOk self.old (not self.old.is_in_second_half)
-            (sectors_for (length (base_records register.now)))
-            (batch_count (length (base_records register.now)) + 1) self.new result }
+        ensures becomes { self.old.is_broken ≡ false
+            → PutsCheckpoint D.state self.old (base_records register.now) self.new result }
+        ensures goes { GoesAfterCheckpoint self.old (length (base_records register.now)) self.new result }
         // After a checkpoint any batch has room.
         ensures roomy { OnOk result ((count : ℕ)
             → self.new.used + body_size count + 2 ≤ self.new.shape.half) }
@@ -239,20 +221,9 @@ impl<D: Disk> Journal<D> {
         ensures causes { IfErr result (λ fault. (fault ≡ JournalFault.Disk)
             ⊎ (fault ≡ JournalFault.Broken)) }
         // In that half each batch and its gate, a closed gate, a sync, the pick, a sync.
-        ensures calls { CallsDevice result
-            (checkpoint_calls (half_start (not self.old.is_in_second_half) self.old.shape.half)
-            (pick_of (not self.old.is_in_second_half)) (checkpoint_of (base_records register.now)))
-            (sectors_for (length (base_records register.now)) + 4)
-            (sectors_for (length (base_records register.now)) + 2) (D.state self.old.device)
-            (D.state self.new.device) }
+        ensures calls { CheckpointCalls D.state self.old (base_records register.now) self.new result }
         // Where it failed says which half a cut leaves picked.
-        ensures fails { IsErrOf result JournalFault.Disk → (D.state self.old.device).is_honest
-            → (D.state self.old.device).is_inert → (batches : List Batch)
-            → LeavesNow (D.state self.old.device) (Holds self.old.shape batches)
-            → IsFailedCheckpoint self.old.shape self.old.is_in_second_half batches
-            (checkpoint_of (base_records register.now))
-            (sectors_for (length (base_records register.now)))
-            (D.state self.old.device) (D.state self.new.device) }
+        ensures fails { CheckpointStops D.state self.old (base_records register.now) self.new result }
     {
         if self.is_broken {
             return Err(JournalFault::Broken);

@@ -1,12 +1,11 @@
 -- What a checkpoint leaves of a register.
-use Rattle.std.specs.Prelude.{not, Result}
+use Rattle.std.specs.Prelude.{Result}
 use Rattle.lift_building.specs.Plan.{Plan}
 use Rattle.lift_disk.specs.Disk.{DiskState, LeavesOnly, RunsOn}
 use Rattle.lift_register.specs.Prelude.{RegisterState}
 use Rattle.lift_register.specs.Base.{base_records}
 use Rattle.lift_journal.specs.declared.fault.JournalFault.{JournalFault}
-use Rattle.lift_journal.specs.Becomes.{Becomes}
-use Rattle.lift_journal.specs.Checkpoint.{checkpoint_of}
+use Rattle.lift_journal.specs.Becomes.{PutsCheckpoint}
 use Rattle.lift_journal.specs.Journal.{JournalView}
 use Rattle.lift_keeper.specs.Images.{IsImageOf}
 use Rattle.lift_keeper.specs.Writer.{Guards}
@@ -18,6 +17,5 @@ CheckpointsKeep {D} state = (plan : Plan) (register : RegisterState) (old new : 
     (result : Result (Unit {0}) JournalFault)
     → Guards plan old.shape old.is_in_second_half old.used register (state old.device)
     → RunsOn (state old.device) (state new.device)
-    → ((state old.device).is_honest → Becomes state old (not old.is_in_second_half)
-    (λ _. checkpoint_of (base_records register)) new result)
+    → PutsCheckpoint state old (base_records register) new result
     → LeavesOnly (state old.device) (state new.device) (IsImageOf plan register)

@@ -6,7 +6,8 @@ use Rattle.std.specs.Prelude.{Option, Some, None, nat_lt, if◌then◌else◌}
 use Rattle.std.specs.Fmt.{decimal}
 use Rattle.std.specs.Str.Lines.{strip_carriage_return}
 use Rattle.lift_base.specs.Text.{letter_text, reply_text}
-use Rattle.lift_base.specs.Output.{Sink, Takes, TakesPrefix}
+use Rattle.lift_base.specs.Input.{InputState}
+use Rattle.lift_base.specs.Output.{OutputState, Sink, Takes, TakesPrefix, sink_of}
 use Rattle.lift_base.specs.declared.command.Reply.{Reply}
 use Rattle.lift_desk.specs.declared.words.Ask.{Ask}
 use Rattle.lift_kiosk.specs.declared.terms.LastLetter.{LastLetter}
@@ -23,7 +24,7 @@ use Rattle.lift_kiosk.specs.declared.outcome.Outcome.TheVariants.{Malformed, Off
 use Rattle.lift_kiosk.specs.declared.outcome.Outcome.TheVariants.{NotAnswered, Refused}
 use Rattle.lift_kiosk.specs.Port.{PortView, AsksOne}
 use Rattle.lift_kiosk.specs.Hearing.{WaitsForReply}
-use Rattle.lift_kiosk.specs.Lines.{Source, GivesLine, GivesPart, FindsEnd, FailsOnce}
+use Rattle.lift_kiosk.specs.Lines.{Source, GivesLine, GivesPart, FindsEnd, FailsOnce, source_of}
 
 -- where a session stands: the last command that it knows, its port, its reader and its writer
 pub record Standing : Type 0 where
@@ -34,6 +35,13 @@ pub record Standing : Type 0 where
 
 abbrev pub standing : LastLetter → PortView → Source → Sink → Standing
 standing last port source sink = record { last = last; port = port; source = source; sink = sink }
+
+-- the same over a reader, a writer and a port, by what these tell of themselves
+abbrev pub standing_of : {R W P : Type 0} → (remaining : R → Option (List ℕ))
+    → (contents : W → Option (List ℕ)) → (view : P → PortView) → InputState R → OutputState W → P
+    → LastLetter → Standing
+standing_of remaining contents view reader writer port last =
+    standing last (view port) (source_of remaining reader) (sink_of contents writer)
 
 -- this command where its number is above the last one's, or else the last one
 abbrev pub later : LastLetter → ℕ → Option ℕ → LastLetter

@@ -3,10 +3,9 @@
 ghost use Rattle.std.specs.Prelude.{◌≡◌, ℕ, List, ◌+◌, ◌≤◌, ◌<◌, ◌^◌, OnOk, IfErr, IfSome};
 ghost use Rattle.std.specs.Prelude.{IfNone, Err, None};
 ghost use Rattle.std.specs.Str.Lines.{strip_carriage_return};
-ghost use Rattle.lift_base.specs.Output.{sink_of};
-ghost use Rattle.lift_kiosk.specs.Lines.{Keeps65, source_of, IsEndWithoutLine};
+ghost use Rattle.lift_kiosk.specs.Lines.{Keeps65, IsEndWithoutLine};
 ghost use Rattle.lift_kiosk.specs.Session.{Means, PortDid, GoesOn, EndsWith, AnswersLine, LastStep};
-ghost use Rattle.lift_kiosk.specs.Session.{Converses, standing, last_after, last_opened};
+ghost use Rattle.lift_kiosk.specs.Session.{Converses, standing_of, last_after, last_opened};
 ghost use Rattle.lift_kiosk.specs.declared.outcome.Outcome.{Outcome as OutcomeValue};
 
 use crate::dialect::{Dialect, Wanted};
@@ -91,16 +90,12 @@ fn exchange<T: Dialect, R: Read + Drop, W: Write + Drop, P: Port>(
     requires free { (P.view port.old).pending ≡ None }
     ensures ok { OnOk result ((line : List ℕ) × (outcome : OutcomeValue) × GoesOn outcome
         × AnswersLine T.wants T.keeps limits.now line outcome
-        (standing last.old (P.view port.old) (source_of R.remaining reader.old)
-        (sink_of W.contents writer.old))
-        (standing last.new (P.view port.new) (source_of R.remaining reader.new)
-        (sink_of W.contents writer.new))) }
+        (standing_of R.remaining W.contents P.view reader.old writer.old port.old last.old)
+        (standing_of R.remaining W.contents P.view reader.new writer.new port.new last.new)) }
     ensures end { IfErr result (λ end.
         LastStep T.wants T.keeps limits.now (reader.old.calls + left.old) end
-        (standing last.old (P.view port.old) (source_of R.remaining reader.old)
-        (sink_of W.contents writer.old))
-        (standing last.new (P.view port.new) (source_of R.remaining reader.new)
-        (sink_of W.contents writer.new))) }
+        (standing_of R.remaining W.contents P.view reader.old writer.old port.old last.old)
+        (standing_of R.remaining W.contents P.view reader.new writer.new port.new last.new)) }
     ensures free { OnOk result ((P.view port.new).pending ≡ None) }
     ensures calls { reader.new.calls + left.new ≡ reader.old.calls + left.old }
     ensures stays { P.place port.new ≡ P.place port.old }
@@ -132,10 +127,8 @@ pub fn converse<T: Dialect, R: Read + Drop, W: Write + Drop, P: Port>(
     limits: &Limits,
 ) -> End
     ensures converses { Converses T.wants T.keeps limits.now result
-        (standing last.old (P.view port.old) (source_of R.remaining reader.old)
-        (sink_of W.contents writer.old))
-        (standing last.new (P.view port.new) (source_of R.remaining reader.new)
-        (sink_of W.contents writer.new)) }
+        (standing_of R.remaining W.contents P.view reader.old writer.old port.old last.old)
+        (standing_of R.remaining W.contents P.view reader.new writer.new port.new last.new) }
     ensures stays { P.place port.new ≡ P.place port.old }
 {
     let opening = bring_in(port, limits.looks);

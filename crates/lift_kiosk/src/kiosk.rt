@@ -1,9 +1,7 @@
 //! What a kiosk says in its sessions.
 
 ghost use Rattle.std.specs.Prelude.{◌≡◌, ℕ, ◌<◌, List, map, ◌^◌, IfSome, IfNone, ◌∷◌, codes};
-ghost use Rattle.lift_base.specs.Output.{sink_of};
-ghost use Rattle.lift_kiosk.specs.Lines.{source_of};
-ghost use Rattle.lift_kiosk.specs.Session.{Converses, standing};
+ghost use Rattle.lift_kiosk.specs.Session.{Converses, standing_of};
 ghost use Rattle.lift_kiosk.specs.Kiosk.{AreCallWords, SpellsCall, WantsCall, keeps_letter};
 ghost use Rattle.lift_kiosk.specs.declared.dialect.Wanted.{Wanted as WantedValue};
 
@@ -141,10 +139,8 @@ pub fn session<R: Read + Drop, W: Write + Drop, P: Port>(
     limits: Limits,
 ) -> SessionEnd
     ensures converses { Converses WantsCall keeps_letter limits result.end
-        (standing last (P.view port.old) (source_of R.remaining reader.old)
-        (sink_of W.contents writer.old))
-        (standing result.last (P.view port.new) (source_of R.remaining reader.new)
-        (sink_of W.contents writer.new)) }
+        (standing_of R.remaining W.contents P.view reader.old writer.old port.old last)
+        (standing_of R.remaining W.contents P.view reader.new writer.new port.new result.last) }
     ensures stays { P.place port.new ≡ P.place port.old }
 {
     let mut last = last;

@@ -11,7 +11,7 @@ use Rattle.lift_journal.specs.declared.fault.JournalFault.{JournalFault}
 use Rattle.lift_journal.specs.Layout.{Batch, new_batch, Holds, HoldsIn, Picks}
 use Rattle.lift_journal.specs.Order.{IsEntry}
 use Rattle.lift_journal.specs.Journal.{JournalView, JournalHolds, ReadsAs, StandsFor}
-use Rattle.lift_journal.specs.Becomes.{Becomes}
+use Rattle.lift_journal.specs.Becomes.{Becomes, AddsBatch}
 use Rattle.lift_journal.specs.lemmas.Chains.{all_same}
 use Rattle.lift_journal.specs.lemmas.Orders.{records_push}
 use Rattle.lift_journal.specs.lemmas.Unique.{holds_unique}
@@ -52,8 +52,7 @@ module _ {D T : Type 0} (state : D → DiskState) (old new : JournalView D) (rec
       held_same state old adds.batches adds.held batches (lists honest disk.image (changes_nothing disk.is_loose disk.image))
 
   -- at any moment these batches are left, or these and the new one
-  pub adds_lists : (r : Result T JournalFault) → ((state old.device).is_honest
-      → Becomes state old old.is_in_second_half (λ bs. bs ++ new_batch records ∷ []) new r)
+  pub adds_lists : (r : Result T JournalFault) → AddsBatch state old records new r
       → (batches : List Batch) → LeavesNow (state old.device) (Holds old.shape batches)
       → LeavesOnly (state old.device) (state new.device) (λ left. Holds old.shape batches left ⊎ Holds old.shape (batches ++ new_batch records ∷ []) left)
   adds_lists r adds batches lists =
@@ -68,9 +67,7 @@ module _ {D T : Type 0} (state : D → DiskState) (old new : JournalView D) (rec
       (λ more. inr (subst (λ (bs : List Batch). Holds old.shape (bs ++ new_batch records ∷ []) left) one more.holds)) either) a.any_moment)
 
   -- as records: these entries are left, or these and the new ones
-  pub adds_reads : (r : Result T JournalFault) → ((state old.device).is_honest
-      → Becomes state old old.is_in_second_half (λ bs. bs ++ new_batch records ∷ []) new r)
-      → All IsEntry records
+  pub adds_reads : (r : Result T JournalFault) → AddsBatch state old records new r → All IsEntry records
       → (base entries : List Record) → StandsFor old.shape base entries (state old.device)
       → LeavesOnly (state old.device) (state new.device) (λ left. ReadsAs old.shape base entries left ⊎ ReadsAs old.shape base (entries ++ records) left)
   adds_reads r adds kinds base entries stands =
@@ -88,8 +85,7 @@ module _ {D T : Type 0} (state : D → DiskState) (old new : JournalView D) (rec
       (λ more. inr (reads_more old.shape base entries records disk.image left found kinds (subst (λ (bs : List Batch). Holds old.shape (bs ++ new_batch records ∷ []) left) one more.holds))) either) a.any_moment)
 
   -- the half that is picked stays so
-  pub adds_half : (r : Result T JournalFault) → ((state old.device).is_honest
-      → Becomes state old old.is_in_second_half (λ bs. bs ++ new_batch records ∷ []) new r)
+  pub adds_half : (r : Result T JournalFault) → AddsBatch state old records new r
       → LeavesOnly (state old.device) (state new.device) (Picks old.is_in_second_half)
   adds_half r adds =
       leaves_if_honest (state old.device) (state new.device) (Picks old.is_in_second_half) same
@@ -101,8 +97,7 @@ module _ {D T : Type 0} (state : D → DiskState) (old new : JournalView D) (rec
       (λ _ left either. ⊎_elim (λ was. was.picks) (λ more. more.picks) either) a.any_moment)
 
   -- at Ok each crash leaves these batches and the new one
-  pub added_lists : (r : Result T JournalFault) → ((state old.device).is_honest
-      → Becomes state old old.is_in_second_half (λ bs. bs ++ new_batch records ∷ []) new r)
+  pub added_lists : (r : Result T JournalFault) → AddsBatch state old records new r
       → OnOk r ((batches : List Batch) → LeavesNow (state old.device) (Holds old.shape batches) → LeavesNow (state new.device) (Holds new.shape (batches ++ new_batch records ∷ [])))
   added_lists (Ok x) adds = λ batches lists honest_new left leaves.
       (let honest = same.0 honest_new in
@@ -112,9 +107,7 @@ module _ {D T : Type 0} (state : D → DiskState) (old new : JournalView D) (rec
   added_lists (Err e) adds = tt
 
   -- as records: these entries and the new ones
-  pub added_reads : (r : Result T JournalFault) → ((state old.device).is_honest
-      → Becomes state old old.is_in_second_half (λ bs. bs ++ new_batch records ∷ []) new r)
-      → All IsEntry records
+  pub added_reads : (r : Result T JournalFault) → AddsBatch state old records new r → All IsEntry records
       → OnOk r ((base entries : List Record) → StandsFor old.shape base entries (state old.device) → StandsFor new.shape base (entries ++ records) (state new.device))
   added_reads (Ok x) adds kinds = λ base entries stands honest_new left leaves.
       (let disk = state old.device in

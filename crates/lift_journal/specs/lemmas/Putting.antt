@@ -12,7 +12,7 @@ use Rattle.lift_journal.specs.Checkpoint.{checkpoint_of}
 use Rattle.lift_journal.specs.Layout.{Batch, Holds, HoldsIn, Picks}
 use Rattle.lift_journal.specs.Order.{IsEntry, IsOfBase}
 use Rattle.lift_journal.specs.Journal.{JournalView, ReadsAs, StandsFor}
-use Rattle.lift_journal.specs.Becomes.{Becomes}
+use Rattle.lift_journal.specs.Becomes.{PutsCheckpoint}
 use Rattle.lift_journal.specs.lemmas.Adding.{held_left, held_same}
 use Rattle.lift_journal.specs.lemmas.Folding.{checkpoint_records}
 
@@ -28,8 +28,7 @@ reads_base shape base image kinds holds = record {
 
 module _ {D T : Type 0} (state : D → DiskState) (old new : JournalView D) (records : List Record) (same : (state new.device).is_honest ↔ (state old.device).is_honest) where
   -- at any moment these batches are left, or the checkpoint
-  pub puts_lists : (r : Result T JournalFault) → ((state old.device).is_honest
-      → Becomes state old (not old.is_in_second_half) (λ _. checkpoint_of records) new r)
+  pub puts_lists : (r : Result T JournalFault) → PutsCheckpoint state old records new r
       → (batches : List Batch) → LeavesNow (state old.device) (Holds old.shape batches)
       → LeavesOnly (state old.device) (state new.device) (λ left. Holds old.shape batches left ⊎ Holds old.shape (checkpoint_of records) left)
   puts_lists r puts batches lists =
@@ -44,9 +43,7 @@ module _ {D T : Type 0} (state : D → DiskState) (old new : JournalView D) (rec
       (λ _ left either. ⊎_elim (λ was. inl (subst (λ (bs : List Batch). Holds old.shape bs left) one was.holds)) (λ now. inr now.holds) either) p.any_moment)
 
   -- as records: these entries are left, or the checkpoint alone
-  pub puts_reads : (r : Result T JournalFault) → ((state old.device).is_honest
-      → Becomes state old (not old.is_in_second_half) (λ _. checkpoint_of records) new r)
-      → All IsOfBase records
+  pub puts_reads : (r : Result T JournalFault) → PutsCheckpoint state old records new r → All IsOfBase records
       → (base entries : List Record) → StandsFor old.shape base entries (state old.device)
       → LeavesOnly (state old.device) (state new.device) (λ left. ReadsAs old.shape base entries left ⊎ ReadsAs old.shape records [] left)
   puts_reads r puts kinds base entries stands =
@@ -63,29 +60,24 @@ module _ {D T : Type 0} (state : D → DiskState) (old new : JournalView D) (rec
       (λ was. inl (record { batches = found.batches; holds = subst (λ (bs : List Batch). Holds old.shape bs left) one was.holds; joined = found.joined; is_base = found.is_base; are_entries = found.are_entries }))
       (λ now. inr (reads_base old.shape records left kinds now.holds)) either) p.any_moment)
 
-  pub put_lists : (r : Result T JournalFault) → ((state old.device).is_honest
-      → Becomes state old (not old.is_in_second_half) (λ _. checkpoint_of records) new r)
+  pub put_lists : (r : Result T JournalFault) → PutsCheckpoint state old records new r
       → OnOk r (LeavesNow (state new.device) (Holds new.shape (checkpoint_of records)))
   put_lists (Ok x) puts = λ honest_new left leaves. (held_left state new (checkpoint_of records) (puts (same.0 honest_new)).done left leaves).holds
   put_lists (Err e) puts = tt
 
-  pub put_half : (r : Result T JournalFault) → ((state old.device).is_honest
-      → Becomes state old (not old.is_in_second_half) (λ _. checkpoint_of records) new r)
+  pub put_half : (r : Result T JournalFault) → PutsCheckpoint state old records new r
       → OnOk r (LeavesNow (state new.device) (Picks new.is_in_second_half))
   put_half (Ok x) puts = λ honest_new left leaves. (held_left state new (checkpoint_of records) (puts (same.0 honest_new)).done left leaves).picks
   put_half (Err e) puts = tt
 
-  pub put_reads : (r : Result T JournalFault) → ((state old.device).is_honest
-      → Becomes state old (not old.is_in_second_half) (λ _. checkpoint_of records) new r)
-      → All IsOfBase records
+  pub put_reads : (r : Result T JournalFault) → PutsCheckpoint state old records new r → All IsOfBase records
       → OnOk r (StandsFor new.shape records [] (state new.device))
   put_reads (Ok x) puts kinds = λ honest_new left leaves.
       reads_base new.shape records left kinds (held_left state new (checkpoint_of records) (puts (same.0 honest_new)).done left leaves).holds
   put_reads (Err e) puts kinds = tt
 
   -- and it is safe
-  pub put_synced : (r : Result T JournalFault) → ((state old.device).is_honest
-      → Becomes state old (not old.is_in_second_half) (λ _. checkpoint_of records) new r)
+  pub put_synced : (r : Result T JournalFault) → PutsCheckpoint state old records new r
       → OnOk r ((state new.device).is_honest → IsSynced (state new.device))
   put_synced (Ok x) puts = λ honest_new. (puts (same.0 honest_new)).done.safe
   put_synced (Err e) puts = tt

@@ -1,7 +1,6 @@
 use Rattle.std.proofs.Common.{ℕ, List, [], refl, subst, arith, rules, ◌∙◌}
 use Rattle.lift_base.specs.Output.{Sink, Takes, sink_of}
-use Rattle.lift_kiosk.specs.Lines.{source_of}
-use Rattle.lift_kiosk.specs.Session.{LastStep, Standing, standing}
+use Rattle.lift_kiosk.specs.Session.{LastStep, Standing, standing_of}
 use Rattle.lift_kiosk.proofs.Sessions.{answers_more, ends_full, ends_early}
 use Rattle.lift_kiosk.proofs.conversation.converse.Goals as goal
 
@@ -15,7 +14,7 @@ loop-init g c =
       stays = c.bring_in-opening.ensures.stays;
       answered = record {
         opening = c.bring_in-opening.result;
-        greeted = standing c.last_after_opening.result (g.P.Port.view c.bring_in-opening.new.port) (source_of g.R.Read.remaining c.args.reader.now) sink';
+        greeted = standing_of g.R.Read.remaining g.W.Write.contents g.P.Port.view c.args.reader.now c.put.new.self c.bring_in-opening.new.port c.last_after_opening.result;
         opens = record { port = c.bring_in-opening.ensures.opened; last = c.last_after_opening.ensures; source = refl };
         greets = subst (λ (bytes : List ℕ). Takes bytes sink sink') (c.deref.ensures.0 ∙ c.opening_of.ensures) c.in-Ok.ensures.ok;
         ready = c.in_default.not-StillWaits;
@@ -41,9 +40,9 @@ returns-in-Err-exchange g c =
     let i = c.loop.invariant in
     let e = c.in-Err-exchange.ensures in
     let limits = c.args.limits.now in
-    let mid : Standing = standing c.loop.last (g.P.Port.view c.loop.port) (source_of g.R.Read.remaining c.loop.reader) (sink_of g.W.Write.contents c.loop.writer) in
+    let mid : Standing = standing_of g.R.Read.remaining g.W.Write.contents g.P.Port.view c.loop.reader c.loop.writer c.loop.port c.loop.last in
     let after : Standing =
-    standing c.exchange.new.last (g.P.Port.view c.exchange.new.port) (source_of g.R.Read.remaining c.exchange.new.reader) (sink_of g.W.Write.contents c.exchange.new.writer) in
+    standing_of g.R.Read.remaining g.W.Write.contents g.P.Port.view c.exchange.new.reader c.exchange.new.writer c.exchange.new.port c.exchange.new.last in
     record {
       converses = ends_early _ _ _ _ _ mid i.answered c.in-Err-exchange.end after (omega (arith, c.loop-test.true))
           (subst (λ (calls : ℕ). LastStep g.T.Dialect.wants g.T.Dialect.keeps limits calls c.in-Err-exchange.end mid after) i.calls e.end)

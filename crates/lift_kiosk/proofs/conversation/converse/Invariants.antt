@@ -1,7 +1,5 @@
 use Rattle.std.proofs.Common.{◌≡◌, ◌+◌, None}
-use Rattle.lift_base.specs.Output.{sink_of}
-use Rattle.lift_kiosk.specs.Lines.{source_of}
-use Rattle.lift_kiosk.specs.Session.{standing}
+use Rattle.lift_kiosk.specs.Session.{standing_of}
 use Rattle.lift_kiosk.proofs.Sessions.{HasAnswered}
 use Rattle.lift_kiosk.proofs.conversation.converse.Given as goal
 
@@ -12,6 +10,6 @@ invariant-loop g l = record {
   calls : l.reader.calls + l.left ≡ l.fn.reader.calls + l.limits.reads;
   stays : g.P.Port.place l.port ≡ g.P.Port.place l.fn.port;
   answered : HasAnswered g.T.Dialect.wants g.T.Dialect.keeps l.limits l.counter
-      (standing l.fn.last (g.P.Port.view l.fn.port) (source_of g.R.Read.remaining l.fn.reader) (sink_of g.W.Write.contents l.fn.writer))
-      (standing l.last (g.P.Port.view l.port) (source_of g.R.Read.remaining l.reader) (sink_of g.W.Write.contents l.writer));
+      (standing_of g.R.Read.remaining g.W.Write.contents g.P.Port.view l.fn.reader l.fn.writer l.fn.port l.fn.last)
+      (standing_of g.R.Read.remaining g.W.Write.contents g.P.Port.view l.reader l.writer l.port l.last);
 }

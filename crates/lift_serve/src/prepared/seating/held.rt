@@ -4,7 +4,7 @@ ghost use Rattle.std.specs.Prelude.{◌≡◌};
 ghost use Rattle.lift_base.specs.Output.{sink_of};
 ghost use Rattle.lift_desk.specs.Seats.{IsSeatOf};
 ghost use Rattle.lift_kiosk.specs.Lines.{source_of};
-ghost use Rattle.lift_kiosk.specs.Session.{standing};
+ghost use Rattle.lift_kiosk.specs.Session.{standing_of};
 ghost use Rattle.lift_serve.specs.Visits.{IsNewSeat, IsVisit, Visits};
 
 use crate::pace::{Pace, Pager};
@@ -36,10 +36,8 @@ fn session_of<I: Read + Drop, O: Write + Drop, P: Port>(
     last: &mut LastLetter,
 ) -> End
     ensures visit { IsVisit terminal result
-        (standing last.old (P.view port.old) (source_of I.remaining reader.old)
-        (sink_of O.contents writer.old))
-        (standing last.new (P.view port.new) (source_of I.remaining reader.new)
-        (sink_of O.contents writer.new)) }
+        (standing_of I.remaining O.contents P.view reader.old writer.old port.old last.old)
+        (standing_of I.remaining O.contents P.view reader.new writer.new port.new last.new) }
     ensures stays { P.place port.new ≡ P.place port.old }
 {
     if terminal.is_kiosk() {

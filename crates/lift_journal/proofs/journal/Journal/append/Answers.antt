@@ -9,7 +9,7 @@ use Rattle.lift_journal.proofs.Standing.{append_picks, gate_high, ready, same_ba
 use Rattle.lift_journal.proofs.Seeing.{bodies_few}
 use Rattle.lift_journal.proofs.Performing.{calls_seen, device_ok, device_err, device_none, performs_body}
 use Rattle.lift_journal.specs.Calls.{half_start, append_calls, batch_body}
-use Rattle.lift_journal.specs.lemmas.Telling.{none_made}
+use Rattle.lift_journal.specs.Storing.{next_gate}
 use Rattle.lift_journal.proofs.Following.{begins_at}
 use Rattle.lift_journal.proofs.journal.Journal.append.Goals as goal
 
@@ -122,7 +122,7 @@ returns-clause-calls g c =
     let place = c.self.invariant.place in
     let gate : half_start (nat_lt 2 j.place.start) j.place.shape.half + (j.place.gate - j.place.start) ≡ j.place.gate = omega (arith, begins_at j.place.shape.half j.place.start (omega (arith, place.within.half.0)) place.halves, place.low) in
     let performed = performs_body c.write_records.result old new j.place.gate _ j.place.number batch (sym gate) c.write_records.ensures.writes.performs in
-    calls_seen g.D.Disk.state (λ (v : JournalView g.row.D.Denot). append_calls (half_start v.is_in_second_half v.shape.half + v.used) (batch_body v.number batch)) c.self.view_is
+    calls_seen g.D.Disk.state (λ (v : JournalView g.row.D.Denot). append_calls (next_gate v) (batch_body v.number batch)) c.self.view_is
     (device_ok _ _ _ old new c.write_records.result (sym c.is_err.ensures.value ∙ c.if-is_err.false) performed)
 
 pub returns-then-is_err-clause-calls : goal.returns-then-is_err-clause-calls
@@ -134,7 +134,7 @@ returns-then-is_err-clause-calls g c =
     let place = c.self.invariant.place in
     let gate : half_start (nat_lt 2 j.place.start) j.place.shape.half + (j.place.gate - j.place.start) ≡ j.place.gate = omega (arith, begins_at j.place.shape.half j.place.start (omega (arith, place.within.half.0)) place.halves, place.low) in
     let performed = performs_body c.write_records.result old new j.place.gate _ j.place.number batch (sym gate) c.write_records.ensures.writes.performs in
-    calls_seen g.D.Disk.state (λ (v : JournalView g.row.D.Denot). append_calls (half_start v.is_in_second_half v.shape.half + v.used) (batch_body v.number batch)) c.self.view_is
+    calls_seen g.D.Disk.state (λ (v : JournalView g.row.D.Denot). append_calls (next_gate v) (batch_body v.number batch)) c.self.view_is
     (device_err _ _ _ old new c.write_records.result (sym c.is_err.ensures.value ∙ c.if-is_err.true) performed)
 
 pub returns-then-is_err-clause-fails : goal.returns-then-is_err-clause-fails
