@@ -15,7 +15,6 @@ use Rattle.lift_stops.specs.Insertion.{put, rank_of}
 use Rattle.lift_stops.specs.lemmas.Halts.{all_halts-rise, stop_list-waiting}
 use Rattle.lift_stops.specs.lemmas.Insertion.{Rises, Rises-filter}
 use Rattle.lift_stops.specs.lemmas.Listed.{halts_equal}
-use Rattle.lift_cost.specs.declared.call.NewCall.{NewCall}
 use Rattle.lift_cost.specs.Cost.{moment_at, arrival_at, etd, new_call_row, with_new_call}
 use Rattle.lift_cost.specs.Laws.{OthersAreNoSooner, CostsAddUp, DegradationsAddUp}
 use Rattle.lift_cost.proofs.Costs.{stops_within}

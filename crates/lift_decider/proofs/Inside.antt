@@ -18,10 +18,10 @@ use Rattle.lift_register.specs.WellFormed.{IsWellFormed}
 use Rattle.lift_register.specs.Belongs.{BelongsTo}
 use Rattle.lift_register.specs.Balanced.{IsBalanced}
 use Rattle.lift_stops.specs.Schedule.{ScheduleState}
-use Rattle.lift_policy.specs.View.{positions_of, position_of}
+use Rattle.lift_policy.specs.View.{positions_of}
 use Rattle.lift_policy.specs.Step.{State, accepting, with_car_at}
 use Rattle.lift_policy.specs.Laws.{IsStateIn}
-use Rattle.lift_decider.specs.Decider.{IsBatch, starting, state_of}
+use Rattle.lift_decider.specs.Decider.{IsBatch, state_of}
 use Rattle.lift_decider.specs.Schedules.{with_row}
 use Rattle.lift_decider.proofs.Changes.{set_here, positions_at, positions_kept}
 
@@ -42,18 +42,6 @@ accepting_inside plan state entry register e lawful belongs balanced is = record
   possible = record { register = subst IsWellFormed e lawful; belongs = subst (BelongsTo plan) e belongs; here = is.possible.here };
   balanced = subst IsBalanced e balanced;
   cars = is.cars;
-}
-
-nobody_here : (n k : ℕ) (q : Position) → position_of (replicate n None) k ≡ Some q → ⊥
-nobody_here zero k q h = cc
-nobody_here (suc n) zero q h = cc
-nobody_here (suc n) (suc k) q h = nobody_here n k q h
-
-pub starting_inside : (plan : Plan) (register : RegisterState) → IsWellFormed register → BelongsTo plan register → IsBalanced register → IsStateIn plan (starting register)
-starting_inside plan register lawful belongs balanced = record {
-  possible = record { register = lawful; belongs = belongs; here = λ k q h. absurd (nobody_here 16 k q h) };
-  balanced = balanced;
-  cars = refl;
 }
 
 pub same_state : (r s : RegisterState) (p q : List (Option Position)) (b d : List Entry) → r ≡ s → p ≡ q → b ≡ d

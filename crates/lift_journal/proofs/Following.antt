@@ -1,5 +1,5 @@
 -- Which calls were made, run after run.
-use Rattle.std.proofs.Common.{◌≡◌, ◌⊎◌, not, false, ◌≤◌, ◌+◌, inl, inr, true, nat_lt, cond, ◌++◌, [], ◌∷◌, ℕ, zero, suc, List, length, take, refl, sym, ◌∙◌, ap, arith, Result, Ok, Err, length-append}
+use Rattle.std.proofs.Common.{◌≡◌, ◌⊎◌, ◌≤◌, ◌+◌, inl, inr, true, nat_lt, cond, ◌++◌, [], ◌∷◌, ℕ, zero, suc, List, length, take, refl, sym, ◌∙◌, ap, arith, Result, Ok, Err, length-append}
 use Rattle.std.specs.Prelude.{IsErrAnd, IfOk}
 use Rattle.std.proofs.lemmas.Result.{err_from_is_err_and}
 use Rattle.std.proofs.lemmas.List.{take-append-le, append_assoc, append-nil, append_cancel_left}
@@ -7,9 +7,7 @@ use Rattle.std.proofs.Math.Seq.{take-append-add}
 use Rattle.lift_disk.specs.Disk.{DiskState, Image}
 use Rattle.lift_disk.specs.Trace.{Access, Records}
 use Rattle.lift_disk.specs.Trace.Access.{Read, Write}
-use Rattle.lift_journal.specs.Calls.{writes_from, reads_from, HasRead, half_start, pick_of, checkpoint_calls, opening_calls, MakesPrefix, Follows}
-use Rattle.lift_journal.specs.Layout.{Batch}
-use Rattle.lift_journal.specs.Switch.{IsOtherHalf}
+use Rattle.lift_journal.specs.Calls.{writes_from, reads_from, HasRead, half_start, opening_calls, MakesPrefix, Follows}
 
 -- one call
 pub front_one : (call : Access) (old new : DiskState) → new.trace ≡ old.trace → MakesPrefix (call ∷ []) old new
@@ -90,20 +88,6 @@ row_then old mid new first a next most end at was row = (a + row.0, omega (arith
 pub begins_at : (half start : ℕ) → 1 ≤ half → (start ≡ 2) ⊎ (start ≡ half + 2) → half_start (nat_lt 2 start) half ≡ start
 begins_at half start some (inl is) = ap (λ b. cond b (half + 2) 2) (ap (nat_lt 2) is) ∙ sym is
 begins_at half start some (inr is) = ap (λ b. cond b (half + 2) 2) (let second : nat_lt 2 start ≡ true = grind (arith, some, is) in second) ∙ sym is
-
--- where the other half begins, and what picks it
-pub picked_at : (half start other : ℕ) (pick : List ℕ) → 1 ≤ half → (start ≡ 2) ⊎ (start ≡ half + 2) → IsOtherHalf half start other pick
-    → (other ≡ half_start (not (nat_lt 2 start)) half) × (pick ≡ pick_of (not (nat_lt 2 start)))
-picked_at half start other pick some halves (inl is) =
-    let first : nat_lt 2 start ≡ false = ap (nat_lt 2) is.0 in
-    (is.1 ∙ ap (λ b. half_start (not b) half) (sym first), is.2 ∙ ap (λ b. pick_of (not b)) (sym first))
-picked_at half start other pick some (inl at) (inr is) = absurd (is.0 at)
-picked_at half start other pick some (inr at) (inr is) =
-    let second : nat_lt 2 start ≡ true = grind (arith, some, at) in
-    (is.1 ∙ ap (λ b. half_start (not b) half) (sym second), is.2 ∙ ap (λ b. pick_of (not b)) (sym second))
-
-pub calls_at : {start other : ℕ} {pick mark : List ℕ} (batches : List Batch) → (start ≡ other) × (pick ≡ mark) → checkpoint_calls start pick batches ≡ checkpoint_calls other mark batches
-calls_at {start} {other} {pick} {mark} batches is = ap (λ n. checkpoint_calls n pick batches) is.0 ∙ ap (λ (p : List ℕ). checkpoint_calls other p batches) is.1
 
 -- an opening, by the half that is picked
 pub opening_at : (old new : DiskState) (half start count : ℕ) → 1 ≤ half → (start ≡ 2) ⊎ (start ≡ half + 2) → new.trace ≡ old.trace ++ opening_calls start count

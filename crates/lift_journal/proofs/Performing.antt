@@ -5,14 +5,13 @@ use Rattle.std.specs.Result.{is_err}
 use Rattle.std.proofs.lemmas.Result.{err_from_is_err_and}
 use Rattle.lift_disk.specs.Disk.{DiskState, IsAccess, writes_in}
 use Rattle.lift_disk.specs.Trace.{Access}
-use Rattle.lift_disk.specs.lemmas.Moments.{cause_of, runs_call, runs_none, runs_then}
+use Rattle.lift_disk.specs.lemmas.Moments.{cause_of, runs_call, runs_then}
 use Rattle.lift_journal.specs.declared.fault.JournalFault.{JournalFault}
 use Rattle.lift_journal.specs.declared.fault.JournalFault.TheVariants.{Disk}
 use Rattle.lift_journal.specs.Calls.{Performs, append_calls, batch_body}
 use Rattle.lift_journal.specs.Layout.{Batch, size_of}
 use Rattle.lift_journal.specs.Calls.{CallsDevice}
 use Rattle.lift_journal.specs.Journal.{JournalView}
-use Rattle.lift_journal.specs.Told.{FailsBy}
 use Rattle.lift_journal.specs.lemmas.Telling.{access_ends, ends_then, err_ends}
 use Rattle.lift_journal.proofs.Texts.{length-batch_body}
 use Rattle.lift_journal.proofs.Following.{one_follows, follows_then, front_more, err_follows}
@@ -82,10 +81,6 @@ err_performs Q r old new first second n m w v is was calls writes =
       follows = err_follows Q r old new (first ++ second) is (front_more old new first second was.follows.front);
     }
 
--- the same calls, in other words
-pub performs_from : {T E : Type 0} {r : Result T E} {calls others : List Access} {n w : ℕ} {old new : DiskState} → Performs r calls n w old new → calls ≡ others → Performs r others n w old new
-performs_from {T} {E} {r} {calls} {others} {n} {w} {old} {new} was same = subst (λ (l : List Access). Performs r l n w old new) same was
-
 -- a step that has answered, whose caller answers with a value of its own
 pub ok_performs : {T E U F : Type 0} {x : T} {y : U} (old new : DiskState) (calls : List Access) (n w : ℕ) → Performs {T = T} {E = E} (Ok x) calls n w old new → Performs {T = U} {E = F} (Ok y) calls n w old new
 ok_performs old new calls n w was = record {
@@ -136,16 +131,6 @@ module _ {T U E : Type 0} (calls : List Access) (n w : ℕ) (old new : DiskState
   pub device_err : (r : Result U E) → is_err r ≡ true → Performs r calls n w old new → CallsDevice {T = T} (Err Disk) calls n w old new
   device_err (Ok y) is was = absurd (cc is)
   device_err (Err e) is was = device_failed was
-
--- no call, for another fault
-pub device_none : {T : Type 0} (fault : JournalFault) (calls : List Access) (n w : ℕ) (disk : DiskState) → ¬ (fault ≡ Disk) → FailsBy fault disk disk → CallsDevice {T = T} (Err fault) calls n w disk disk
-device_none fault calls n w disk other told = record {
-  runs = runs_none disk;
-  made = record { calls = tt; writes = tt; most_calls = omega arith; most_writes = omega arith };
-  all = tt;
-  front = λ is. absurd (other (cc is));
-  told = record { ok = tt; err = told };
-}
 
 -- the calls of an append, by the batch that it writes
 pub performs_body : {U E : Type 0} (r : Result U E) (old new : DiskState) (gate first number : ℕ) (batch : Batch) → gate ≡ first

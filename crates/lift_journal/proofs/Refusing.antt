@@ -1,14 +1,13 @@
 -- What an opening says of its device, from its steps.
-use Rattle.std.proofs.Common.{◌≡◌, ◌+◌, ℕ, refl, sym, subst, ◌∙◌, arith}
+use Rattle.std.proofs.Common.{◌≡◌, refl, sym, subst, ◌∙◌, arith}
 use Rattle.lift_base.specs.declared.history.Shape.{Shape}
 use Rattle.lift_disk.specs.Disk.{DiskState, Image, IsSynced, MayLeave}
 use Rattle.lift_journal.specs.declared.fault.JournalFault.{JournalFault}
 use Rattle.lift_journal.specs.declared.fault.JournalFault.TheVariants.{Disk, NotFormatted, Damaged, Full, Broken}
-use Rattle.lift_journal.specs.ChainStep.{IsOfChain, IsOfStamp}
-use Rattle.lift_journal.specs.Layout.{IsStamped, start_of}
+use Rattle.lift_journal.specs.ChainStep.{IsOfStamp}
+use Rattle.lift_journal.specs.Layout.{IsStamped}
 use Rattle.lift_journal.specs.Steps.{HasItsCause, ReadsOnly, ReadsWell, IsSyncedAt}
-use Rattle.lift_journal.specs.Walk.{IsDamagedAt}
-use Rattle.lift_journal.specs.Opening.{RefusedFor, FixesImage}
+use Rattle.lift_journal.specs.Opening.{RefusedFor}
 
 module _ (fault : JournalFault) (old mid new : DiskState) (only : ReadsOnly old mid) (failures : mid.failures ≡ old.failures) (synced : old.is_honest → IsSynced mid) (cause : HasItsCause fault mid new) where
   -- what is read at the end
@@ -28,35 +27,3 @@ module _ (fault : JournalFault) (old mid new : DiskState) (only : ReadsOnly old 
       by_fault (Damaged sector) same cause is = absurd is
       by_fault Full same cause is = absurd is
       by_fault Broken same cause is = absurd is
-
-  -- its chain is damaged
-  pub refused_chain : (shape : Shape) → IsOfChain fault → (mid.is_honest → IsSynced mid → IsStamped shape mid.image)
-      → ((s : ℕ) → fault ≡ Damaged s → mid.is_honest → IsSynced mid → IsDamagedAt mid.image (start_of shape.half mid.image) (start_of shape.half mid.image + shape.half) s)
-      → RefusedFor fault old new
-  refused_chain shape is stamped damaged = by_fault fault refl cause is
-    where
-      by_fault : (f : JournalFault) → fault ≡ f → HasItsCause f mid new → IsOfChain f → RefusedFor f old new
-      by_fault Disk same cause is = omega (arith, cause.failures, failures)
-      by_fault NotFormatted same cause is = absurd is
-      by_fault (Damaged sector) same cause is = (
-        cause.failures ∙ failures,
-        λ honest. (
-          (settled cause honest).synced,
-          seen cause honest,
-          shape,
-          subst (λ (l : Image). IsStamped shape l) (sym (settled cause honest).same) (stamped (only.runs.honest.1 honest) (synced honest)),
-          subst (λ (l : Image). IsDamagedAt l (start_of shape.half l) (start_of shape.half l + shape.half) sector) (sym (settled cause honest).same)
-              (damaged sector same (only.runs.honest.1 honest) (synced honest)),
-        ),
-      )
-      by_fault Full same cause is = absurd is
-      by_fault Broken same cause is = absurd is
-
--- after a sync that succeeded, reads leave nothing in doubt, also where one fails
-pub settled_after : (old mid new : DiskState) → ReadsOnly old mid → ReadsOnly mid new → (old.is_honest → IsSynced mid) → ReadsOnly old new → old.is_honest → FixesImage old new
-settled_after old mid new first second synced only honest =
-    let honest_mid = first.runs.honest.1 honest in
-    record {
-      none_loose = λ i loose. (synced honest).none_loose i (second.touched.loose (second.runs.honest.1 honest_mid) i loose);
-      seen = only.touched.within honest;
-    }

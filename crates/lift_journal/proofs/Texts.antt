@@ -2,7 +2,7 @@
 use Rattle.std.proofs.Common.{◌≡◌, ◌≤◌, ◌<◌, ◌+◌, ◌-◌, ◌*◌, ◌/◌, ℕ, suc, List, [], ◌∷◌, ◌++◌, slice_set, length, take, drop, get_or, replicate, All, refl, sym, ◌∙◌, ap, arith, length-append, length-drop, append_assoc, take-append-drop, zero, Bool, true, false, cond, nat_lt}
 use Rattle.std.proofs.lemmas.List.{take_all, take_at, drop_at, drop-drop, drop-replicate, length-replicate, flat_map_more, append-nil, take-replicate, replicate-append-replicate, take-append-le, take-take, drop-take, drop_more}
 use Rattle.std.proofs.lemmas.Option.{unwrap_or-slice_get}
-use Rattle.std.proofs.lemmas.List.Elements.{All-nil, All-append, All-from_recursion}
+use Rattle.std.proofs.lemmas.List.Elements.{All-append, All-from_recursion}
 use Rattle.std.specs.List.{flat_map, concat}
 use Rattle.std.specs.Simd.{first_chunks}
 use Rattle.std.proofs.Math.Seq.{take-append-add, take-add}
@@ -225,9 +225,6 @@ record_at version text count k records blank there below =
         ∙ ap (λ (l : List ℕ). take 16 (drop (16 * k) l)) (drop_at (spelling_of version first) (flat_map (spelling_of version) records) 16 (length-spelling_of version first))
         ∙ chunk records k (omega arith)
 
-pub records_none : (version : Version) (text : List ℕ) → IsRecordsIn version text 0 []
-records_none version text = record { counted = refl; lawful = All-nil (IsRecordIn version); spelled = refl }
-
 -- one record more
 pub records_more : (version : Version) (text : List ℕ) (k : ℕ) (records : List Record) (next : Record) → IsRecordsIn version text k records → IsRecordIn version next
     → 16 * k + 16 ≤ length text → take 16 (drop (16 * k) text) ≡ spelling_of version next → IsRecordsIn version text (k + 1) (records ++ next ∷ [])
@@ -255,15 +252,6 @@ tail_split version count records text size few there blank = record {
   spelled = sym (take-append-drop (16 * count) (drop 16 text)) ∙ ap (λ (l : List ℕ). l ++ drop (16 * count) (drop 16 text)) (sym there.spelled)
       ∙ ap (λ (l : List ℕ). flat_map (spelling_of version) records ++ l)
       (drop-drop (16 * count) 16 text ∙ blank ∙ ap (λ k. replicate k 0) (omega (arith, there.counted)));
-}
-
-pub tail_records : (version : Version) (count : ℕ) (records : List Record) (text : List ℕ) → length records ≡ count → IsTailOf version records (drop 16 text)
-    → IsRecordsIn version (drop 16 text) count records
-tail_records version count records text counted tail = record {
-  counted = counted;
-  lawful = tail.lawful;
-  spelled = sym (ap (take (16 * count)) tail.spelled
-      ∙ take_at (flat_map (spelling_of version) records) (replicate (1008 - 16 * length records) 0) (16 * count) (omega (arith, length-spellings version records, counted)));
 }
 
 pub tail_blank : (version : Version) (count : ℕ) (records : List Record) (text : List ℕ) → length records ≡ count → IsTailOf version records (drop 16 text)

@@ -1,5 +1,5 @@
 -- What was shown to a visitor on the way along a chain.
-use Rattle.std.proofs.Common.{◌≡◌, ◌<◌, ◌≤◌, ◌+◌, ◌-◌, ℕ, List, [], ◌∷◌, ◌++◌, None, length, All, refl, sym, ◌∙◌, ap, subst, arith, add-zero}
+use Rattle.std.proofs.Common.{◌≡◌, ◌≤◌, ◌+◌, ◌-◌, ℕ, List, [], ◌∷◌, ◌++◌, None, length, All, refl, sym, ◌∙◌, ap, subst, arith, add-zero}
 use Rattle.std.proofs.lemmas.List.Elements.{All-append, All-from_recursion}
 use Rattle.std.proofs.lemmas.List.{append_assoc}
 use Rattle.lift_base.specs.declared.history.Record.{Record}
@@ -60,25 +60,6 @@ module _ {V : Type 0} (takes : V → List Record → V → Type 0) where
         last_is = ap (λ (f : Front). f.last) is ∙ ap (λ l. last_record_after l stored.records.items) shown.last_is ∙ sym (last_push batches batch);
         taken = takes_push batches batch was mid new shown.taken step;
       }
-
-  -- below the end of a half
-  pub has_taken : (was is : V) (start end : ℕ) (front : Front) (batches : List Batch) → IsShown takes was is start front batches → front.gate < end → HasTaken takes (end - start) was is
-  has_taken was is start end front batches shown below = record {
-    batches = batches;
-    sound = shown.sound;
-    sized = shown.sized;
-    few = omega (arith, shown.stands, below);
-    taken = shown.taken;
-  }
-
-  pub taken_weaker : (few many : ℕ) (was is : V) → few ≤ many → HasTaken takes few was is → HasTaken takes many was is
-  taken_weaker few many was is more taken = record {
-    batches = taken.batches;
-    sound = taken.sound;
-    sized = taken.sized;
-    few = omega (arith, taken.few, more);
-    taken = taken.taken;
-  }
 
   -- nothing was shown
   pub taken_none : (sectors : ℕ) (was is : V) → 1 ≤ sectors → is ≡ was → HasTaken takes sectors was is

@@ -1,17 +1,17 @@
 -- A run of writes, sector by sector.
-use Rattle.std.proofs.Common.{◌≡◌, ◌≤◌, ◌<◌, ◌+◌, ℕ, suc, List, [], ◌∷◌, length, take, drop, get_or, slice_set, ◌++◌, refl, sym, ◌∙◌, ap, arith}
-use Rattle.std.proofs.lemmas.List.{take_all, append-nil, length-take-le}
-use Rattle.std.proofs.lemmas.List.Edits.{paste_none, paste_more}
+use Rattle.std.proofs.Common.{◌≡◌, ◌≤◌, ◌<◌, ◌+◌, ℕ, suc, List, [], ◌∷◌, length, take, get_or, slice_set, ◌++◌, sym, ◌∙◌, ap, arith}
+use Rattle.std.proofs.lemmas.List.{length-take-le}
+use Rattle.std.proofs.lemmas.List.Edits.{paste_more}
 use Rattle.std.proofs.Math.Seq.{paste, take-suc}
 use Rattle.lift_disk.specs.Trace.{Access}
 use Rattle.lift_disk.specs.Trace.Access.{Write}
 use Rattle.lift_journal.specs.Calls.{writes_from, MakesPrefix}
 use Rattle.lift_journal.proofs.Following.{all_then, writes-push, writes-take, length-writes}
 use Rattle.lift_disk.specs.Disk.{DiskState, Image, GoesOn, RunsOn, Touches, LooseWithin, TouchesOnly, IsSteadyAt, LeavesNoOther, IsWhole}
-use Rattle.lift_disk.specs.lemmas.Moments.{runs_none, runs_call, runs_then, touches_write, touches_then, touches_none}
-use Rattle.lift_journal.specs.Steps.{overwritten, IsInRange}
+use Rattle.lift_disk.specs.lemmas.Moments.{runs_call, runs_then, touches_write, touches_then}
+use Rattle.lift_journal.specs.Steps.{IsInRange}
 use Rattle.lift_journal.specs.Told.{NoneFails}
-use Rattle.lift_journal.specs.lemmas.Telling.{none_made, passes_then}
+use Rattle.lift_journal.specs.lemmas.Telling.{passes_then}
 
 -- this many of the sectors are written
 pub record Written (old now : DiskState) (first : ℕ) (sectors : Image) (count : ℕ) : Type 0 where
@@ -38,18 +38,6 @@ written_front old now new first sectors count so_far within same = record {
   count = count;
   some_left = omega (arith, within, length-writes first sectors);
   made = same ∙ so_far.trace ∙ ap (λ (l : List Access). old.trace ++ l) (sym (writes-take first count sectors));
-}
-
-pub written_none : (old : DiskState) (first : ℕ) (sectors : Image) → LeavesNoOther old → Written old old first sectors 0
-written_none old first sectors only_now = record {
-  runs = runs_none old;
-  failures = refl;
-  calls = omega arith;
-  writes = omega arith;
-  told = none_made old;
-  trace = sym (append-nil old.trace);
-  touched = λ low high le ge loose. touches_none (IsInRange low high) old loose only_now;
-  steady = λ honest steady. record { steady = steady; same = paste_none old.image first sectors };
 }
 
 -- the next write touches no other sector, even if it fails
@@ -84,13 +72,3 @@ written_more old now new first sectors count so_far within only_now goes_on touc
             ∙ paste_more old.image first sectors count [] (omega (arith, whole honest)) within;
       };
 }
-
-pub written_all : (old now : DiskState) (first : ℕ) (sectors : Image) (count : ℕ) → Written old now first sectors count → count ≡ length sectors → old.is_honest → old.is_steady → IsSteadyAt (overwritten old.image first sectors) now
-written_all old now first sectors count so_far all honest steady =
-    let done = so_far.steady honest steady in
-    record {
-      steady = done.steady;
-      same = done.same
-          ∙ ap (λ (l : Image). take first old.image ++ l ++ drop (first + count) old.image) (take_all count sectors (omega arith))
-          ∙ ap (λ n. take first old.image ++ sectors ++ drop (first + n) old.image) all;
-    }

@@ -1,4 +1,3 @@
-pub mod Hearing
 pub mod Texts
 pub mod Sessions
 pub mod Calls

@@ -3,9 +3,7 @@ use Rattle.std.proofs.Common.{◌≡◌, ◌≢◌, ◌+◌, ◌<◌, ◌≤◌,
 use Rattle.std.proofs.lemmas.List.{length_push}
 use Rattle.lift_base.specs.Output.{Takes}
 use Rattle.lift_base.specs.declared.command.Reply.{Reply}
-use Rattle.lift_desk.specs.declared.words.Ask.{Ask}
 use Rattle.lift_kiosk.specs.declared.dialect.Wanted.{Wanted}
-use Rattle.lift_kiosk.specs.declared.dialect.Wanted.TheVariants.{Ask as Asks}
 use Rattle.lift_kiosk.specs.declared.outcome.Opening.{Opening}
 use Rattle.lift_kiosk.specs.declared.outcome.Opening.TheVariants.{StillWaits}
 use Rattle.lift_kiosk.specs.declared.outcome.Outcome.{Outcome}
@@ -14,15 +12,8 @@ use Rattle.lift_kiosk.specs.declared.terms.LastLetter.{LastLetter}
 use Rattle.lift_kiosk.specs.declared.terms.Limits.{Limits}
 use Rattle.lift_kiosk.specs.declared.terms.End.{End}
 use Rattle.lift_kiosk.specs.declared.terms.End.TheVariants.{Limit}
-use Rattle.lift_kiosk.specs.Session.{Standing, IsOf, Means, GoesOn, EndsWith, AnswersLines, AnswersLine, LastStep, SessionOpens, Converses, opening_line}
+use Rattle.lift_kiosk.specs.Session.{Standing, GoesOn, EndsWith, AnswersLines, AnswersLine, LastStep, SessionOpens, Converses, opening_line}
 use Rattle.lift_kiosk.specs.lemmas.Ends.{after_greeting}
-
-pub means_its_ask : (wants : List ℕ → Wanted → Type 0) (line : List ℕ) (ask : Ask) (outcome : Outcome) → IsOf ask outcome → wants line (Asks ask) → Means wants line outcome
-means_its_ask wants line ask Malformed own asks = absurd own
-means_its_ask wants line ask OffFloors own asks = absurd own
-means_its_ask wants line ask (Answered other reply) own asks = subst (λ a. wants line (Asks a)) (sym own) asks
-means_its_ask wants line ask (NotAnswered other) own asks = subst (λ a. wants line (Asks a)) (sym own) asks
-means_its_ask wants line ask (Refused other) own asks = subst (λ a. wants line (Asks a)) (sym own) asks
 
 pub ends_so : (wants : List ℕ → Wanted → Type 0) (keeps : LastLetter → ℕ → Reply → LastLetter) (limits : Limits) (calls : ℕ) (end : End) (line : List ℕ) (outcome : Outcome) (before after : Standing)
     → EndsWith outcome end → AnswersLine wants keeps limits line outcome before after → LastStep wants keeps limits calls end before after

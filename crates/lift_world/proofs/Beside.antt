@@ -18,7 +18,7 @@ use Rattle.lift_world.specs.declared.event.Event.TheVariants.{Ask, Take, Seal, P
 use Rattle.lift_policy.specs.Decision.{Decision}
 use Rattle.lift_world.specs.Decided.{when, decided}
 use Rattle.lift_world.specs.World.{World, SealedBatch, is_running, is_broken, is_off, is_synced, is_gate_written, written, asks, is_taken_of, is_answer_to, state_of}
-use Rattle.lift_world.specs.Next.{next, goes, asking, taking, deciding, sealing, pulled, pulling, in_phase, settling, failing, answering, hearing, next_answer, reopened, unanswered, unknown_to, may_ask, may_take, may_seal, may_pull, may_write, may_sync, may_fail, may_reopen}
+use Rattle.lift_world.specs.Next.{next, goes, asking, taking, deciding, sealing, pulled, in_phase, settling, failing, answering, hearing, next_answer, reopened, unanswered, may_ask, may_take, may_seal, may_pull, may_write, may_sync, may_fail, may_reopen}
 use Rattle.lift_world.specs.Relay.{is_flushers}
 use Rattle.lift_world.specs.Beside.{is_of_terminals, terminals_part, own_part, with_words, StandBeside, PassesThrough, TerminalsPass}
 use Rattle.lift_world.specs.lemmas.Steps.{then_from, if_from, mapped}

@@ -1,14 +1,9 @@
--- Where turns begin and end, and turns while broken.
-use Rattle.std.proofs.Common.{ℕ, ◌≡◌, ◌-◌, ◌≤◌, List, [], ◌++◌, length, map, take, drop, refl, ap, subst, ◌∙◌, arith}
-use Rattle.std.specs.Prelude.{Some, None}
-use Rattle.std.proofs.Math.Seq.{take-length}
+-- What turns while broken change.
+use Rattle.std.proofs.Common.{ℕ, ◌≡◌, ◌-◌, ◌≤◌, List, ◌++◌, length, map, take, drop, refl, ap, ◌∙◌, arith}
 use Rattle.std.proofs.lemmas.List.{length-append, length-drop, take-append-le, drop-append-le}
 use Rattle.lift_base.specs.declared.history.Entry.{Entry}
-use Rattle.lift_building.specs.Plan.{Plan}
-use Rattle.lift_register.specs.Register.{RegisterState}
 use Rattle.lift_policy.specs.Step.{State}
 use Rattle.lift_policy.specs.declared.command.Command.{Command}
-use Rattle.lift_world.specs.declared.event.Event.TheVariants.{Fault, Reopen}
 use Rattle.lift_world.specs.declared.event.Kept.{Kept}
 use Rattle.lift_world.specs.declared.event.Kept.TheVariants.{Safe, WithBatch}
 use Rattle.lift_world.specs.World.{World, may_keep, outcome}
@@ -63,6 +58,3 @@ module _ (w : World) (commands : List Command) (state : State) (k : IsBrokenAtRe
 
 pub broken_turns_change_nothing : (w : World) → BrokenTurnsChangeNothing w
 broken_turns_change_nothing w commands state k = answers_alone w commands state k
-
-pub broken_turns_rest : (w : World) → BrokenTurnsEndAtRest w
-broken_turns_rest w commands state k = rests_broken w commands state k

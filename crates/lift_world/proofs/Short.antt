@@ -1,7 +1,7 @@
 -- No batch has more entries than commands, and so none more than there are terminals.
 use Rattle.std.proofs.Common.{ℕ, ◌≡◌, ◌+◌, ◌-◌, ◌≤◌, Bool, true, false, cond, List, [], ◌∷◌, ◌++◌, length, take, drop, All, refl, sym, ap, subst, ◌∙◌, inl, inr, arith}
 use Rattle.std.specs.Prelude.{unwrap_or}
-use Rattle.std.specs.List.{AllByRecursion, flat_map}
+use Rattle.std.specs.List.{AllByRecursion}
 use Rattle.std.proofs.lemmas.Bool.{false≢true}
 use Rattle.std.proofs.lemmas.List.{length-append, length-take, length-drop, take-append-drop}
 use Rattle.std.proofs.lemmas.List.Elements.{All-head, All-tail}
@@ -16,7 +16,7 @@ use Rattle.lift_world.specs.declared.event.Phase.{Phase}
 use Rattle.lift_world.specs.declared.event.Power.{Power}
 use Rattle.lift_policy.specs.Decision.{Decision}
 use Rattle.lift_world.specs.Decided.{decided}
-use Rattle.lift_world.specs.World.{World, SealedBatch, start, is_idle, is_off, is_running, state_of, batch_in_flight}
+use Rattle.lift_world.specs.World.{World, SealedBatch, start, is_idle, is_off, is_running, state_of}
 use Rattle.lift_world.specs.Next.{run, next}
 use Rattle.lift_world.specs.Headline.{IsOfTerminal, HoldsFew}
 use Rattle.lift_world.specs.Relay.{last_end, flown}

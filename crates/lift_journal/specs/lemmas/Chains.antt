@@ -11,10 +11,6 @@ use Rattle.lift_journal.specs.Layout.{used, sector_at, start_of, IsStamped, IsSo
 use Rattle.lift_journal.specs.Layout.{IsAfter, IsPrepared}
 use Rattle.lift_base.specs.declared.history.Shape.{Shape}
 
--- a chain that ends here
-closes : Image → Type 0
-closes sectors = IsChain [] 0 sectors
-
 pub ends_any : (n m : ℕ) (sectors : Image) → IsChain [] n sectors → IsChain [] m sectors
 ends_any n m [] end = end
 ends_any n m (gate ∷ rest) end = end

@@ -2,14 +2,10 @@ use Rattle.std.proofs.Common.{◌≡◌, refl, subst, sym, Option}
 use Rattle.std.specs.Prelude.{IfSome}
 use Rattle.lift_desk.specs.Seats.{NoteState}
 use Rattle.lift_desk.proofs.Keeps.{notes_join}
-use Rattle.lift_desk.proofs.Looks.{noted_joined}
 use Rattle.lift_desk.proofs.place.read_note.Goals as goal
 
 pub join-requires-clause-keeps : goal.join-requires-clause-keeps
 join-requires-clause-keeps c id another = notes_join _ _ _ _
-
-pub join-requires-clause-counts : goal.join-requires-clause-counts
-join-requires-clause-counts c = noted_joined _ _ c.into_looker.ensures.uncounted.0 c.into_looker.ensures.uncounted.1
 
 pub returns-in-None : goal.returns-in-None
 returns-in-None c =

@@ -1,53 +1,7 @@
-use Rattle.std.proofs.Common.{[], ◌∷◌, inl, inr, refl, ◌∙◌, arith}
-use Rattle.std.proofs.lemmas.Result.{on_ok_weaker}
-use Rattle.lift_disk.specs.lemmas.Moments.{sync_touches, touches_write, touches_then_rest}
-use Rattle.lift_journal.specs.Steps.{IsInRange}
-use Rattle.lift_journal.specs.lemmas.Looking.{err_any, err_weaker}
+use Rattle.std.proofs.Common.{[], ◌∷◌, arith}
 use Rattle.lift_disk.specs.Trace.Access.{Write, Sync}
 use Rattle.lift_journal.proofs.Performing.{performs_call, performs_then, err_performs}
 use Rattle.lift_journal.proofs.checkpoint.put_sector.Goals as goal
-
-pub returns-in_err-write-clause-touched : goal.returns-in_err-write-clause-touched
-returns-in_err-write-clause-touched g c low high le lt loose =
-    touches_write (IsInRange low high) (g.D.Disk.state c.args.disk.now) (g.D.Disk.state c.write.new.self) c.args.sector c.write.ensures.access.goes_on c.write.ensures.touched (le, lt) loose (g.met.D.Disk.only_now c.args.disk.now)
-
-pub returns-clause-touched : goal.returns-clause-touched
-returns-clause-touched g c low high le lt loose =
-    let old = g.D.Disk.state c.args.disk.now in
-    let mid = g.D.Disk.state c.write.new.self in
-    touches_then_rest (IsInRange low high) old mid (g.D.Disk.state c.sync.new.self)
-    (touches_write (IsInRange low high) old mid c.args.sector c.write.ensures.access.goes_on c.write.ensures.touched (le, lt) loose (g.met.D.Disk.only_now c.args.disk.now))
-    (g.met.D.Disk.only_now c.write.new.self) c.sync.ensures.access.goes_on (sync_touches c.sync.result mid (g.D.Disk.state c.sync.new.self) c.sync.ensures.saves c.sync.ensures.leaves)
-
-pub returns-clause-stored : goal.returns-clause-stored
-returns-clause-stored g c =
-    on_ok_weaker c.sync.result (λ saves honest steady.
-    let written = c.in_ok-write.ensures.stores.steady honest steady in
-    let then_honest = c.write.ensures.access.goes_on.honest.1 honest in
-    let safe = saves then_honest in
-    record { synced = safe.synced; same = (safe.steady written.steady).same ∙ written.same }) c.sync.ensures.saves
-
-pub returns-in_err-write-clause-misses : goal.returns-in_err-write-clause-misses
-returns-in_err-write-clause-misses g c =
-    err_any c.from_residual.result _ (λ honest inert. record {
-      made = inl (c.write.ensures.access.goes_on.calls, c.in_err-write.ensures.image_err honest inert);
-      synced = c.write.ensures.kept honest;
-      loose = ((c.write.ensures.touched honest).loose c.args.sector).1 (inr refl);
-    })
-
-pub returns-clause-misses : goal.returns-clause-misses
-returns-clause-misses g c =
-    err_weaker c.sync.result _ _ (λ leaves honest inert.
-    let honest_then = c.write.ensures.access.goes_on.honest.1 honest in
-    let inert_then = c.write.ensures.access.goes_on.inert.1 inert in
-    record {
-      made = inr (
-        omega (arith, c.write.ensures.access.goes_on.calls, c.sync.ensures.access.goes_on.calls),
-        c.sync.ensures.image honest_then inert_then ∙ c.in_ok-write.ensures.stores.image honest inert,
-      );
-      synced = leaves.kept honest_then ∙ c.write.ensures.kept honest;
-      loose = leaves.loose honest_then c.args.sector (((c.write.ensures.touched honest).loose c.args.sector).1 (inr refl));
-    }) c.sync.ensures.leaves
 
 pub returns-in_err-write-clause-performs : goal.returns-in_err-write-clause-performs
 returns-in_err-write-clause-performs g c =

@@ -1,8 +1,8 @@
-use Rattle.std.proofs.Common.{ℕ, List, ◌+◌, [], ◌∷◌, inl, inr, refl, ap, ◌∙◌, arith, slice_set, subst}
+use Rattle.std.proofs.Common.{ℕ, List, ◌+◌, [], ◌∷◌, inr, refl, ap, ◌∙◌, arith, slice_set, subst}
 use Rattle.std.proofs.lemmas.Result.{on_ok_weaker}
 use Rattle.lift_disk.specs.lemmas.Moments.{sync_touches, touches_none, touches_then_write, touches_then_rest}
 use Rattle.lift_journal.specs.Steps.{IsInRange}
-use Rattle.lift_journal.specs.lemmas.Looking.{err_any, err_weaker}
+use Rattle.lift_journal.specs.lemmas.Looking.{err_weaker}
 use Rattle.lift_disk.specs.Trace.Access.{Write, Sync}
 use Rattle.lift_journal.specs.Calls.{Performs, puts}
 use Rattle.lift_journal.proofs.Performing.{performs_call, performs_then, err_performs}
@@ -25,14 +25,6 @@ returns-clause-opened g c =
     let honest_then = c.write.ensures.access.goes_on.honest.1 honest in
     let safe = saves honest_then in
     record { synced = safe.synced; same = (safe.steady written.steady).same ∙ written.same ∙ ap (λ s. slice_set old.image c.args.gate s) c.mark.ensures }) c.sync.ensures.saves
-
-pub returns-in_err-write-clause-misses : goal.returns-in_err-write-clause-misses
-returns-in_err-write-clause-misses g c =
-    err_any c.from_residual.result _ (λ honest inert. record {
-      made = inl (c.write.ensures.access.goes_on.calls, c.in_err-write.ensures.image_err honest inert);
-      synced = c.write.ensures.kept honest;
-      loose = ((c.write.ensures.touched honest).loose c.args.gate).1 (inr refl);
-    })
 
 pub returns-clause-misses : goal.returns-clause-misses
 returns-clause-misses g c =

@@ -1,23 +1,13 @@
-use Rattle.std.proofs.Common.{◌≡◌, [], ◌∷◌, ◌++◌, slice_set, get_or, subst, ap, ◌∙◌, arith, length, ◌≤◌, ◌<◌}
-use Rattle.std.proofs.lemmas.List.{take_all}
+use Rattle.std.proofs.Common.{◌≡◌, [], ◌∷◌, ◌++◌, slice_set, get_or, subst, arith, ◌<◌}
 use Rattle.std.proofs.lemmas.Result.{err_from_is_err_and}
 use Rattle.lift_disk.specs.lemmas.Moments.{runs_call, runs_then}
-use Rattle.lift_disk.specs.Disk.{Image, Touches, IsSteadyAt}
-use Rattle.lift_journal.proofs.Writes.{written_none, written_more, written_all, written_front, touched_more}
+use Rattle.lift_disk.specs.Disk.{Touches, IsSteadyAt}
+use Rattle.lift_journal.proofs.Writes.{written_more, written_front, touched_more}
 use Rattle.lift_journal.specs.lemmas.Telling.{one_passes, one_fails, fails_then, err_ends}
 use Rattle.lift_disk.specs.Trace.Access.{Write}
 use Rattle.lift_journal.specs.Calls.{writes_from}
 use Rattle.lift_journal.proofs.Following.{err_follows}
 use Rattle.lift_journal.proofs.device.write_sectors.Goals as goal
-
-pub loop-sector-init : goal.loop-sector-init
-loop-sector-init g c = record {
-  at = omega arith;
-  written = written_none (g.D.Disk.state c.args.disk.now) c.args.first c.args.sectors.now (g.met.D.Disk.only_now c.args.disk.now);
-}
-
-pub write-requires : goal.write-requires
-write-requires g c = omega (arith, c.loop-sector.invariant.written.runs.size)
 
 pub returns-in_err-write-clause-touched : goal.returns-in_err-write-clause-touched
 returns-in_err-write-clause-touched g c =
@@ -41,14 +31,6 @@ loop-sector-preserved g c =
           (subst (λ n. now.is_honest → now.is_steady → IsSteadyAt (slice_set now.image n (get_or c.args.sectors.now c.loop-sector.sector-index [])) new) c.loop-sector.invariant.at c.in_ok-write.ensures.stores.steady);
     }
 
-pub returns-clause-touched : goal.returns-clause-touched
-returns-clause-touched g c = c.loop-sector.invariant.written.touched
-
-pub returns-clause-written : goal.returns-clause-written
-returns-clause-written g c =
-    written_all (g.D.Disk.state c.args.disk.now) (g.D.Disk.state c.loop-sector.disk) c.args.first c.args.sectors.now c.loop-sector.sector-index
-    c.loop-sector.invariant.written (omega (arith, c.loop-sector-test.false, c.loop-sector.auto.sector-index-end))
-
 pub returns-in_err-write-clause-performs : goal.returns-in_err-write-clause-performs
 returns-in_err-write-clause-performs g c =
     let old = g.D.Disk.state c.args.disk.now in
@@ -70,25 +52,4 @@ returns-in_err-write-clause-performs g c =
       };
       follows = err_follows _ c.from_residual.result old new (writes_from c.args.first c.args.sectors.now) c.from_residual.ensures.1
           (written_front old now new c.args.first c.args.sectors.now c.loop-sector.sector-index so_far c.loop-sector-test.true c.in_err-write.ensures.access.recorded.err);
-    }
-
-pub returns-clause-performs : goal.returns-clause-performs
-returns-clause-performs g c =
-    let old = g.D.Disk.state c.args.disk.now in
-    let so_far = c.loop-sector.invariant.written in
-    let all : length c.args.sectors.now ≤ c.loop-sector.sector-index = omega (arith, c.loop-sector-test.false, c.loop-sector.auto.sector-index-end) in
-    record {
-      runs = so_far.runs;
-      cause = record { ok = so_far.failures; err = tt };
-      told = record { ok = so_far.told; err = tt };
-      made = record {
-        calls = omega (arith, so_far.calls, all, c.loop-sector.auto.sector-index-end);
-        writes = omega (arith, so_far.writes, all, c.loop-sector.auto.sector-index-end);
-        most_calls = omega (arith, so_far.calls, all, c.loop-sector.auto.sector-index-end);
-        most_writes = omega (arith, so_far.writes, all, c.loop-sector.auto.sector-index-end);
-      };
-      follows = record {
-        all = so_far.trace ∙ ap (λ (s : Image). old.trace ++ writes_from c.args.first s) (take_all c.loop-sector.sector-index c.args.sectors.now all);
-        front = tt;
-      };
     }

@@ -6,9 +6,6 @@ use Rattle.lift_journal.proofs.Performing.{performs_call, performs_then, err_per
 use Rattle.lift_disk.specs.lemmas.Moments.{sync_touches, touches_write, touches_then_write, touches_then_rest}
 use Rattle.lift_journal.proofs.formatting.empty_half.Goals as goal
 
-pub returns-clause-synced : goal.returns-clause-synced
-returns-clause-synced g c = on_ok_weaker c.sync.result (λ saves honest. (saves (c.write-2.ensures.access.goes_on.honest.1 (c.write.ensures.access.goes_on.honest.1 honest))).synced) c.sync.ensures.saves
-
 pub returns-clause-picked : goal.returns-clause-picked
 returns-clause-picked g c =
     on_ok_weaker c.sync.result (λ saves honest.
@@ -16,12 +13,6 @@ returns-clause-picked g c =
     let first = c.in_ok-write.ensures.stores.written honest in
     let second = c.in_ok-write-2.ensures.stores.written honest_first in
     (saves (c.write-2.ensures.access.goes_on.honest.1 honest_first)).as_written 0 unmarked (second.others 0 unmarked (λ is. omega (arith, is)) first.here)) c.sync.ensures.saves
-
-pub returns-clause-closed : goal.returns-clause-closed
-returns-clause-closed g c =
-    on_ok_weaker c.sync.result (λ saves honest.
-    let honest_first = c.write.ensures.access.goes_on.honest.1 honest in
-    (saves (c.write-2.ensures.access.goes_on.honest.1 honest_first)).as_written 2 unmarked (c.in_ok-write-2.ensures.stores.written honest_first).here) c.sync.ensures.saves
 
 pub returns-in_err-write-clause-touched : goal.returns-in_err-write-clause-touched
 returns-in_err-write-clause-touched g c =

@@ -1,17 +1,13 @@
-use Rattle.std.proofs.Common.{inl, ⊎_elim, false, [], ◌∷◌, sym, subst, arith}
+use Rattle.std.proofs.Common.{false, [], ◌∷◌, sym, subst, arith}
 use Rattle.std.proofs.lemmas.Result.{on_ok_weaker}
 use Rattle.lift_disk.specs.Trace.Access.{Write, Sync}
 use Rattle.lift_journal.specs.Calls.{puts}
-use Rattle.lift_disk.specs.lemmas.Moments.{touches_then, touches_weaker_honest}
-use Rattle.lift_journal.specs.Steps.{IsFormatted, unmarked}
+use Rattle.lift_journal.specs.Steps.{unmarked}
 use Rattle.lift_journal.specs.Layout.{filled, stamp_bytes, Picks}
 use Rattle.lift_journal.specs.Journal.{ReadsAs}
 use Rattle.lift_journal.proofs.Formats.{formatted, formatted_half}
 use Rattle.lift_journal.proofs.Performing.{performs_then, err_performs}
 use Rattle.lift_journal.proofs.formatting.format.Goals as goal
-
-pub returns-clause-synced : goal.returns-clause-synced
-returns-clause-synced g c = on_ok_weaker c.put_stamp.result (λ synced honest. synced (c.empty_half.ensures.performs.runs.honest.1 honest)) c.put_stamp.ensures.synced
 
 pub returns-clause-empty : goal.returns-clause-empty
 returns-clause-empty g c =
@@ -42,12 +38,3 @@ pub returns-clause-performs : goal.returns-clause-performs
 returns-clause-performs g c =
     performs_then c.put_stamp.result (g.D.Disk.state c.args.disk.now) (g.D.Disk.state c.empty_half.new.disk) (g.D.Disk.state c.put_stamp.new.disk)
     (Write 0 unmarked ∷ Write 2 unmarked ∷ Sync ∷ []) (puts 1 (filled 1 (stamp_bytes c.args.shape))) 3 2 2 1 c.in_ok-empty_half.ensures.performs c.put_stamp.ensures.performs
-
-pub returns-clause-touched : goal.returns-clause-touched
-returns-clause-touched g c =
-    let old = g.D.Disk.state c.args.disk.now in
-    let mid = g.D.Disk.state c.empty_half.new.disk in
-    let new = g.D.Disk.state c.put_stamp.new.disk in
-    let first = c.empty_half.ensures.touched in
-    touches_then (IsFormatted old) old mid new first
-    (touches_weaker_honest (IsFormatted mid) (IsFormatted old) mid new (λ honest i is. ⊎_elim (λ low. inl low) (λ loose. first.loose honest i loose) is) c.put_stamp.ensures.touched)

@@ -16,14 +16,6 @@ returns-clause-stored g c =
     let safe = saves honest_then in
     record { synced = safe.synced; same = (safe.steady first.steady).same ∙ first.same ∙ ap (λ (s : List ℕ). slice_set old.image 1 s) c.stamp_of.ensures }) c.sync.ensures.saves
 
-pub returns-clause-synced : goal.returns-clause-synced
-returns-clause-synced g c = on_ok_weaker c.sync.result (λ saves honest. (saves (c.write.ensures.access.goes_on.honest.1 honest)).synced) c.sync.ensures.saves
-
-pub returns-in_err-write-clause-touched : goal.returns-in_err-write-clause-touched
-returns-in_err-write-clause-touched g c =
-    let old = g.D.Disk.state c.args.disk.now in
-    touches_write (IsFormatted old) old (g.D.Disk.state c.write.new.self) 1 c.write.ensures.access.goes_on c.write.ensures.touched (inl (omega arith)) (λ _ i is. inr is) (g.met.D.Disk.only_now c.args.disk.now)
-
 pub returns-clause-touched : goal.returns-clause-touched
 returns-clause-touched g c =
     let old = g.D.Disk.state c.args.disk.now in

@@ -1,14 +1,10 @@
-use Rattle.lift_journal.proofs.Texts.{tail_split, tail_blank, tail_records}
+use Rattle.lift_journal.proofs.Texts.{tail_split, tail_blank}
 use Rattle.lift_journal.proofs.parse.parse.Goals as goal
 
 pub returns-then-not-is_zero_from-clause-none : goal.returns-then-not-is_zero_from-clause-none
 returns-then-not-is_zero_from-clause-none c _ records counted tail =
     let blank = c.is_zero_from.ensures.1 (tail_blank c.args.version c.args.count records c.args.text.now counted tail) in
     absurd (cc (blank, c.if-not-is_zero_from.true))
-
-pub returns-clause-none : goal.returns-clause-none
-returns-clause-none c is records counted tail =
-    c.read_records.ensures.none is records (tail_records c.args.version c.args.count records c.args.text.now counted tail)
 
 pub returns-clause-some : goal.returns-clause-some
 returns-clause-some c is =

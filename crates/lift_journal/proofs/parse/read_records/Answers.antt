@@ -4,15 +4,12 @@ use Rattle.lift_base.specs.declared.history.Record.TheVariants.{Done}
 use Rattle.lift_record.specs.Record.{spelling_of}
 use Rattle.lift_journal.specs.Layout.{IsRecordIn}
 use Rattle.lift_journal.specs.Seen.{IsRecordsIn}
-use Rattle.lift_journal.proofs.Texts.{record_at, records_none, records_more}
+use Rattle.lift_journal.proofs.Texts.{record_at, records_more}
 use Rattle.lift_journal.proofs.parse.read_records.Goals as goal
 
 -- the bytes of record k
 piece_is : (text : List ℕ) (k : ℕ) → take 16 (drop (16 + 16 * k) text) ≡ take 16 (drop (16 * k) (drop 16 text))
 piece_is text k = ap (take 16) (sym (drop-drop (16 * k) 16 text))
-
-pub loop-k-init : goal.loop-k-init
-loop-k-init c = subst (IsRecordsIn c.args.version (drop 16 c.args.text.now) 0) (sym c.clear.ensures) (records_none c.args.version (drop 16 c.args.text.now))
 
 pub loop-k-preserved : goal.loop-k-preserved
 loop-k-preserved c =

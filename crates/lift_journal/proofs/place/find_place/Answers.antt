@@ -9,18 +9,16 @@ use Rattle.lift_journal.specs.declared.place.Place.{Place}
 use Rattle.lift_journal.specs.Calls.{reads_from}
 use Rattle.lift_journal.specs.Found.{FindsPlace}
 use Rattle.lift_journal.specs.Journal.{HasNextPlace, StandsAt}
-use Rattle.lift_journal.specs.Steps.{HasFailed, HasItsCause, ReadsOnly, ReadsWell}
-use Rattle.lift_journal.specs.Opening.{RefusedFor, FixesImage}
-use Rattle.lift_journal.specs.lemmas.Looking.{reads_then, well_then, examines_then, err_any, cause_then, if_err_weaker, if_err_both, open_ok, open_err}
-use Rattle.lift_journal.proofs.Refusing.{refused_stamp, refused_chain, settled_after}
-use Rattle.std.proofs.Common.{[], ◌∷◌, inl, inr, ◌⊎◌, arith}
+use Rattle.lift_journal.specs.Steps.{ReadsOnly, ReadsWell}
+use Rattle.lift_journal.specs.lemmas.Looking.{reads_then, well_then, examines_then, cause_then, if_err_weaker, if_err_both, open_ok}
+use Rattle.lift_journal.proofs.Refusing.{refused_stamp}
+use Rattle.std.proofs.Common.{[], ◌∷◌, arith}
 use Rattle.lift_disk.specs.Trace.Access.{Read, Sync}
 use Rattle.lift_journal.specs.RefusedOpening.{RefusedAfter}
 use Rattle.lift_journal.proofs.Following.{all_then, if_ok_weaker}
 use Rattle.lift_journal.proofs.Ending.{image_stays, stamp_after, half_after}
 use Rattle.lift_journal.proofs.Visiting.{taken_none}
 use Rattle.lift_journal.proofs.Showing.{stamp_shown, half_shown}
-use Rattle.std.proofs.lemmas.List.{append-nil}
 use Rattle.lift_journal.proofs.place.find_place.Goals as goal
 
 -- what the reading of a half has found is what the opening has found
@@ -34,16 +32,6 @@ found (Ok at) old mid new shape place stands read known traced = record {
   calls = all_then old mid new (Sync ∷ Read 1 ∷ []) (Read 0 ∷ reads_from at.start (at.gate - at.start + 1)) traced read;
 }
 found (Err fault) old mid new shape place stands read known traced = tt
-
-pub returns-then-is_err-clause-examines : goal.returns-then-is_err-clause-examines
-returns-then-is_err-clause-examines g c =
-    let old = g.D.Disk.state c.args.disk.now in
-    let new = g.D.Disk.state c.sync_device.new.disk in
-    record {
-      only = c.sync_device.ensures.looks.only;
-      ok = tt;
-      err = open_err c.sync_device.result (HasFailed old new) (sym c.is_err.ensures.value ∙ c.if-is_err.true) c.sync_device.ensures.looks.err;
-    }
 
 pub returns-in-Err-clause-examines : goal.returns-in-Err-clause-examines
 returns-in-Err-clause-examines g c =
@@ -92,26 +80,6 @@ returns-in-Err-clause-refused g c =
     refused_stamp c.in-Err.fault old mid (g.D.Disk.state c.read_shape.new.disk) c.sync_device.ensures.looks.only well.failures synced c.in-Err.ensures.examines.err c.in-Err.ensures.causes
     (λ same. c.in-Err.ensures.not_formatted (ap (λ (f : JournalFault). Err f) same))
 
-pub returns-clause-refused : goal.returns-clause-refused
-returns-clause-refused g c =
-    let old = g.D.Disk.state c.args.disk.now in
-    let mid = g.D.Disk.state c.sync_device.new.disk in
-    let read = g.D.Disk.state c.read_shape.new.disk in
-    let new = g.D.Disk.state c.place_of.new.disk in
-    let well : ReadsWell old mid = open_ok c.sync_device.result (ReadsWell old mid) (sym c.is_err.ensures.value ∙ c.if-is_err.false) c.sync_device.ensures.looks.ok in
-    let synced : old.is_honest → IsSynced mid = open_ok c.sync_device.result (old.is_honest → IsSynced mid) (sym c.is_err.ensures.value ∙ c.if-is_err.false) c.sync_device.ensures.synced in
-    let first = c.sync_device.ensures.looks.only in
-    let second = c.read_shape.ensures.examines.only in
-    let only : ReadsOnly old read = reads_then old mid read first second in
-    let read_well = c.in-Ok.ensures.examines.ok in
-    let kept = λ (honest : old.is_honest). read_well.kept (first.runs.honest.1 honest) (synced honest) in
-    if_err_weaker c.place_of.result (λ fault. HasItsCause fault read new × IsOfChain fault) (λ fault. RefusedFor fault old new)
-    (λ fault is both. refused_chain fault old read new only (read_well.failures ∙ well.failures) (λ honest. (kept honest).synced) both.0 c.in-Ok.shape both.1
-    (λ honest _. (let was = only.runs.honest.0 honest in
-    subst (λ (l : Image). IsStamped c.in-Ok.shape l) (sym (kept was).same) (c.in-Ok.ensures.stamped.2 (first.runs.honest.1 was) (synced was))))
-    (λ s same. c.place_of.ensures.damaged s (is ∙ ap (λ (f : JournalFault). Err f) same)))
-    (if_err_both c.place_of.result (λ fault. HasItsCause fault read new) IsOfChain c.place_of.ensures.examines.err c.place_of.ensures.causes)
-
 pub returns-in-Err-clause-behind : goal.returns-in-Err-clause-behind
 returns-in-Err-clause-behind g c =
     let old = g.D.Disk.state c.args.disk.now in
@@ -135,13 +103,6 @@ returns-clause-behind g c =
     (λ fault _ behind. half_after fault old read new traced (second.runs.size ∙ first.runs.size) c.place_of.ensures.examines.only
     (λ honest. (let honest_mid = first.runs.honest.1 honest in (second.runs.honest.1 honest_mid, (c.in-Ok.ensures.examines.ok.kept honest_mid (safe honest)).synced))) behind) c.place_of.ensures.behind
 
-pub returns-then-is_err-clause-behind : goal.returns-then-is_err-clause-behind
-returns-then-is_err-clause-behind g c =
-    let old = g.D.Disk.state c.args.disk.now in
-    let new = g.D.Disk.state c.sync_device.new.disk in
-    let same = open_err c.sync_device.result (new.trace ≡ old.trace) (sym c.is_err.ensures.value ∙ c.if-is_err.true) c.sync_device.ensures.recorded.err in
-    inl (record { count = 0; some_left = omega arith; made = same ∙ sym (append-nil old.trace) })
-
 pub returns-then-is_err-clause-shown_some : goal.returns-then-is_err-clause-shown_some
 returns-then-is_err-clause-shown_some g c = taken_none g.V.Visitor.takes 1000000 c.args.visitor.now c.args.visitor.now (omega arith) refl
 
@@ -163,13 +124,6 @@ returns-clause-shown g c =
     let synced = (c.in-Ok.ensures.examines.ok.kept honest_mid (safe honest)).synced in
     all honest_read synced batches (subst (λ (l : Image). Holds place.shape batches l) (sym (image_stays read new c.place_of.ensures.examines.only honest_read synced)) holds)))
     c.place_of.ensures.shown
-
-pub returns-then-is_err-clause-shown_before : goal.returns-then-is_err-clause-shown_before
-returns-then-is_err-clause-shown_before g c =
-    let old = g.D.Disk.state c.args.disk.now in
-    let new = g.D.Disk.state c.sync_device.new.disk in
-    let same = open_err c.sync_device.result (new.trace ≡ old.trace) (sym c.is_err.ensures.value ∙ c.if-is_err.true) c.sync_device.ensures.recorded.err in
-    inl (record { count = 0; some_left = omega arith; made = same ∙ sym (append-nil old.trace) }, refl)
 
 pub returns-in-Err-clause-shown_before : goal.returns-in-Err-clause-shown_before
 returns-in-Err-clause-shown_before g c =
@@ -196,31 +150,3 @@ returns-clause-shown_before g c =
     let kept = c.in-Ok.ensures.examines.ok.kept honest_mid (safe honest) in
     (second.runs.honest.1 honest_mid, kept.synced, subst (λ (l : Image). IsStamped c.in-Ok.shape l) (sym kept.same) (c.in-Ok.ensures.stamped.2 honest_mid (safe honest))))) both.1)
     (if_err_both c.place_of.result IsOfChain _ c.place_of.ensures.causes c.place_of.ensures.shown_before)
-
-pub returns-then-is_err-clause-fixed : goal.returns-then-is_err-clause-fixed
-returns-then-is_err-clause-fixed g c =
-    let old = g.D.Disk.state c.args.disk.now in
-    let new = g.D.Disk.state c.sync_device.new.disk in
-    inl (open_err c.sync_device.result (new.trace ≡ old.trace) (sym c.is_err.ensures.value ∙ c.if-is_err.true) c.sync_device.ensures.recorded.err)
-
-pub returns-in-Err-clause-fixed : goal.returns-in-Err-clause-fixed
-returns-in-Err-clause-fixed g c =
-    let old = g.D.Disk.state c.args.disk.now in
-    let mid = g.D.Disk.state c.sync_device.new.disk in
-    let new = g.D.Disk.state c.read_shape.new.disk in
-    let first = c.sync_device.ensures.looks.only in
-    let second = c.read_shape.ensures.examines.only in
-    let safe : old.is_honest → IsSynced mid = open_ok c.sync_device.result (old.is_honest → IsSynced mid) (sym c.is_err.ensures.value ∙ c.if-is_err.false) c.sync_device.ensures.synced in
-    inr (settled_after old mid new first second safe (reads_then old mid new first second))
-
-pub returns-clause-fixed : goal.returns-clause-fixed
-returns-clause-fixed g c =
-    let old = g.D.Disk.state c.args.disk.now in
-    let mid = g.D.Disk.state c.sync_device.new.disk in
-    let read = g.D.Disk.state c.read_shape.new.disk in
-    let new = g.D.Disk.state c.place_of.new.disk in
-    let first = c.sync_device.ensures.looks.only in
-    let second = reads_then mid read new c.read_shape.ensures.examines.only c.place_of.ensures.examines.only in
-    let safe : old.is_honest → IsSynced mid = open_ok c.sync_device.result (old.is_honest → IsSynced mid) (sym c.is_err.ensures.value ∙ c.if-is_err.false) c.sync_device.ensures.synced in
-    err_any c.place_of.result ((new.trace ≡ old.trace) ⊎ (old.is_honest → FixesImage old new))
-    (inr (settled_after old mid new first second safe (reads_then old mid new first second)))

@@ -1,12 +1,11 @@
 use Rattle.lift_journal.specs.lemmas.Looking.{reads_then, well_then, cause_then}
 use Rattle.std.proofs.Common.{◌≡◌, ◌⊎◌, ◌+◌, ◌-◌, [], ◌∷◌, inl, inr, refl, subst, sym, ap, ◌∙◌, arith}
 use Rattle.lift_disk.specs.Trace.Access.{Read}
-use Rattle.lift_journal.proofs.Following.{all_then}
 use Rattle.lift_journal.proofs.Ending.{ends_then}
 use Rattle.std.specs.Prelude.{Bool, ℕ, if◌then◌else◌}
 use Rattle.lift_journal.specs.Visits.{TakesBefore}
 use Rattle.lift_journal.specs.Layout.{start_of}
-use Rattle.lift_journal.proofs.Visiting.{taken_none, taken_weaker, before_then}
+use Rattle.lift_journal.proofs.Visiting.{taken_none, before_then}
 use Rattle.lift_disk.specs.Disk.{IsSynced}
 use Rattle.lift_journal.proofs.place.place_of.Goals.{then-is_in_second_half, else-is_in_second_half}
 use Rattle.lift_journal.proofs.place.place_of.Goals as goal
@@ -33,10 +32,6 @@ returns-in-Err-clause-examines g c =
       err = cause_then c.in-Err.fault old mid new c.read_mark.ensures.looks.only c.in-Ok.ensures.looks.ok c.in-Err.ensures.examines.err;
     }
 
-pub returns-in-Ok-walk-clause-read : goal.returns-in-Ok-walk-clause-read
-returns-in-Ok-walk-clause-read g c =
-    all_then (g.D.Disk.state c.args.disk.now) (g.D.Disk.state c.read_mark.new.disk) (g.D.Disk.state c.walk.new.disk) (Read 0 ∷ []) _ c.in-Ok.ensures.read c.in-Ok-walk.ensures.whole
-
 pub returns-in-Err-clause-behind : goal.returns-in-Err-clause-behind
 returns-in-Err-clause-behind g c =
     let old = g.D.Disk.state c.args.disk.now in
@@ -54,19 +49,6 @@ returns-in-Err-clause-behind g c =
       ends_then c.in-Err.fault (Read 0 ∷ []) [] start end (mid.is_honest × IsSynced mid) (old.is_honest × IsSynced old) mid.image old.image old mid new c.in-Ok.ensures.read
           (λ known. (let kept = well.kept known.0 known.1 in ((runs.honest.1 known.0, kept.synced), kept.same))) c.in-Err.ensures.behind,
     )
-
-pub returns-in_default-clause-behind : goal.returns-in_default-clause-behind
-returns-in_default-clause-behind g c = inl (refl, c.in_default.ensures.unread)
-
-pub returns-in-Ok-walk-clause-shown_some : goal.returns-in-Ok-walk-clause-shown_some
-returns-in-Ok-walk-clause-shown_some g c =
-    let start = c.if-is_in_second_half.start in
-    taken_weaker g.V.Visitor.takes (start + c.args.shape.half - start) 1000000 c.args.visitor.now c.walk.new.visitor (omega (arith, c.requires.within.half)) c.walk.ensures.shown_some
-
-pub returns-in-Err-clause-shown_some : goal.returns-in-Err-clause-shown_some
-returns-in-Err-clause-shown_some g c =
-    let start = c.if-is_in_second_half.start in
-    taken_weaker g.V.Visitor.takes (start + c.args.shape.half - start) 1000000 c.args.visitor.now c.walk.new.visitor (omega (arith, c.requires.within.half)) c.walk.ensures.shown_some
 
 pub returns-in_default-clause-shown_some : goal.returns-in_default-clause-shown_some
 returns-in_default-clause-shown_some g c = taken_none g.V.Visitor.takes 1000000 c.args.visitor.now c.args.visitor.now (omega arith) refl
@@ -90,6 +72,3 @@ returns-in-Err-clause-shown_before g c =
     subst (λ n. TakesBefore takes c.in-Err.fault (Read 0 ∷ []) n (n + half) old.image old new c.args.visitor.now c.walk.new.visitor) start_is
     (before_then takes c.in-Err.fault (Read 0 ∷ []) [] start (start + half) old.image mid.image old mid new c.args.visitor.now c.walk.new.visitor c.in-Ok.ensures.read kept.same
     (c.in-Err.ensures.shown_before (c.read_mark.ensures.looks.only.runs.honest.1 honest) kept.synced))))
-
-pub returns-in_default-clause-shown_before : goal.returns-in_default-clause-shown_before
-returns-in_default-clause-shown_before g c = inl (refl, c.in_default.ensures.unread, refl)

@@ -3,7 +3,7 @@ use Rattle.lift_disk.specs.Disk.{Image}
 use Rattle.lift_journal.specs.Walk.{IsDamagedAt, IsBatchAt}
 use Rattle.lift_journal.specs.declared.walk.Front.{Front}
 use Rattle.lift_journal.specs.declared.reads.AtGate.TheVariants.{Closed, Batch, Damaged}
-use Rattle.lift_journal.proofs.Visiting.{more_shown, has_taken}
+use Rattle.lift_journal.proofs.Visiting.{more_shown}
 use Rattle.lift_journal.specs.Visits.{TakesAll}
 use Rattle.lift_journal.specs.Seen.{batch_of}
 use Rattle.lift_journal.specs.lemmas.Unique.{chain_unique}
@@ -14,11 +14,6 @@ use Rattle.lift_journal.specs.Layout.{body_size, Batch as BatchValue}
 use Rattle.lift_journal.specs.Calls.{reads_from}
 use Rattle.lift_journal.proofs.Following.{rows_then, rows_same}
 use Rattle.lift_journal.proofs.walk.walk.Goals as goal
-
-pub pass-requires-clause-room : goal.pass-requires-clause-room
-pass-requires-clause-room g c =
-    let fits = c.in-Ok-Batch.ensures.fits c.in-Ok-Batch.field-0-is in
-    omega (arith, fits.below, bodies_few (length c.look.new.stored.records.items))
 
 pub loop-front-init : goal.loop-front-init
 loop-front-init g c =
@@ -72,9 +67,6 @@ returns-in-Err-clause-examines g c =
       ok = tt;
       err = failed_then old mid new inv.only inv.well c.in-Err.ensures.looks.err;
     }
-
-pub returns-in-Err-clause-damaged : goal.returns-in-Err-clause-damaged
-returns-in-Err-clause-damaged g c s is = absurd (cc is)
 
 pub returns-in-Ok-Damaged-clause-examines : goal.returns-in-Ok-Damaged-clause-examines
 returns-in-Ok-Damaged-clause-examines g c =
@@ -261,26 +253,6 @@ returns-then-may_end-clause-shown g c honest synced batches chain =
     let same = chain_unique inv.batches batches 1 (take (c.args.end - c.args.start) (drop c.args.start old.image)) found chain in
     subst (λ (bs : List BatchValue). TakesAll g.V.Visitor.takes c.args.visitor.now bs c.loop-front.visitor) same inv.shown.taken
 
-pub returns-in-Err-clause-shown_some : goal.returns-in-Err-clause-shown_some
-returns-in-Err-clause-shown_some g c =
-    has_taken g.V.Visitor.takes c.args.visitor.now c.loop-front.visitor c.args.start c.args.end c.loop-front.front c.loop-front.invariant.batches c.loop-front.invariant.shown c.loop-front.invariant.below
-
-pub returns-in-Ok-Damaged-clause-shown_some : goal.returns-in-Ok-Damaged-clause-shown_some
-returns-in-Ok-Damaged-clause-shown_some g c =
-    has_taken g.V.Visitor.takes c.args.visitor.now c.loop-front.visitor c.args.start c.args.end c.loop-front.front c.loop-front.invariant.batches c.loop-front.invariant.shown c.loop-front.invariant.below
-
-pub returns-in-Ok-Closed-clause-shown_some : goal.returns-in-Ok-Closed-clause-shown_some
-returns-in-Ok-Closed-clause-shown_some g c =
-    has_taken g.V.Visitor.takes c.args.visitor.now c.loop-front.visitor c.args.start c.args.end c.loop-front.front c.loop-front.invariant.batches c.loop-front.invariant.shown c.loop-front.invariant.below
-
-pub returns-then-may_end-clause-shown_some : goal.returns-then-may_end-clause-shown_some
-returns-then-may_end-clause-shown_some g c =
-    has_taken g.V.Visitor.takes c.args.visitor.now c.loop-front.visitor c.args.start c.args.end c.loop-front.front c.loop-front.invariant.batches c.loop-front.invariant.shown c.loop-front.invariant.below
-
-pub returns-then-not-pass-clause-shown_some : goal.returns-then-not-pass-clause-shown_some
-returns-then-not-pass-clause-shown_some g c =
-    has_taken g.V.Visitor.takes c.args.visitor.now c.loop-front.visitor c.args.start c.args.end c.loop-front.front c.loop-front.invariant.batches c.loop-front.invariant.shown c.loop-front.invariant.below
-
 pub returns-in-Err-clause-shown_before : goal.returns-in-Err-clause-shown_before
 returns-in-Err-clause-shown_before g c honest synced =
     let old = g.D.Disk.state c.args.disk.now in
@@ -303,18 +275,3 @@ returns-in-Err-clause-shown_before g c honest synced =
           omega (arith, few.1, rows_same mid.trace front.gate row.0 few.0 (sym row.3 ∙ few.3));
       taken = inv.shown.taken;
     }
-
-pub returns-in-Ok-Damaged-clause-shown_before : goal.returns-in-Ok-Damaged-clause-shown_before
-returns-in-Ok-Damaged-clause-shown_before g c honest synced =
-    let inv = c.loop-front.invariant in
-    (inv.batches, (inv.at honest synced).reached, inv.shown.taken)
-
-pub returns-in-Ok-Closed-clause-shown_before : goal.returns-in-Ok-Closed-clause-shown_before
-returns-in-Ok-Closed-clause-shown_before g c honest synced =
-    let inv = c.loop-front.invariant in
-    (inv.batches, (inv.at honest synced).reached, inv.shown.taken)
-
-pub returns-then-not-pass-clause-shown_before : goal.returns-then-not-pass-clause-shown_before
-returns-then-not-pass-clause-shown_before g c honest synced =
-    let inv = c.loop-front.invariant in
-    (inv.batches, (inv.at honest synced).reached, inv.shown.taken)

@@ -1,11 +1,8 @@
-use Rattle.lift_kiosk.proofs.Determined.{outcome_is, exchanges_are, written_is}
+use Rattle.lift_kiosk.proofs.Determined.{exchanges_are, written_is}
 use Rattle.lift_kiosk.proofs.Whole.{same_session, all_written}
 use Rattle.lift_kiosk.proofs.Streams.{same_streams}
 use Rattle.lift_kiosk.proofs.OfStreams.{is_of_streams}
 use Rattle.lift_kiosk.proofs.laws.dialects_determine.Goals as goal
-
-pub returns-clause-line : goal.returns-clause-line
-returns-clause-line g c unique = outcome_is g.T.Dialect.wants unique
 
 pub returns-clause-lines : goal.returns-clause-lines
 returns-clause-lines g c unique = exchanges_are g.T.Dialect.wants unique g.T.Dialect.keeps

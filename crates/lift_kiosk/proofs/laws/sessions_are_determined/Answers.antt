@@ -18,6 +18,3 @@ returns-clause-streams c = c.dialects_determine.ensures.streams one_thing
 
 pub returns-clause-text : goal.returns-clause-text
 returns-clause-text c = c.dialects_determine.ensures.text one_thing
-
-pub returns-clause-own : goal.returns-clause-own
-returns-clause-own c = c.dialects_determine.ensures.own

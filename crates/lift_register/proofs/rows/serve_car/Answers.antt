@@ -8,10 +8,6 @@ pub returns-clause-rows : goal.returns-clause-rows
 returns-clause-rows c =
     rw (map-set, c.serve.ensures.rows, c.get.ensures.value, row_lists-at c.args.rows.now c.args.car c.index-rows-get.result (omega arith)) refl
 
-pub returns-clause-ended : goal.returns-clause-ended
-returns-clause-ended c =
-    rw (row_lists-at c.args.rows.now c.args.car c.index-rows-get.result (omega arith), ← c.get.ensures.value, ← c.serve.ensures.rows) c.serve.ensures.ended
-
 pub returns-clause-unchanged : goal.returns-clause-unchanged
 returns-clause-unchanged c none =
     map-set_same (λ rows. rows.items) c.args.rows.now c.get.result _ c.index-rows-get.result (c.serve.ensures.unchanged none)

@@ -3,11 +3,10 @@ use Rattle.lift_world.proofs.Calls.{calls_in_order}
 use Rattle.lift_world.proofs.Given.{given_stays}
 use Rattle.lift_world.proofs.Asked.{asks_once_heard, hears_the_next}
 use Rattle.lift_world.specs.lemmas.Looks.{looks_are_takes, takes_need_looks}
-use Rattle.std.proofs.Common.{ℕ, ◌≡◌, ◌≤◌, ◌<◌, ◌+◌, ◌*◌, Bool, true, false, Option, None, [], zero, suc, replicate, leb, cond, refl, sym, ap, subst, arith}
+use Rattle.std.proofs.Common.{ℕ, ◌≡◌, Option, None, [], zero, suc, replicate, refl, sym, ap, subst}
 use Rattle.std.specs.List.{AllByRecursion}
 use Rattle.lift_base.specs.declared.limits.TheConstants.{MOST_CARS}
 use Rattle.lift_base.specs.declared.travel.Position.{Position}
-use Rattle.std.proofs.lemmas.Bool.{leb-true, leb-false}
 use Rattle.std.specs.Prelude.{Contains}
 use Rattle.std.proofs.lemmas.List.Elements.{Contains-push}
 use Rattle.lift_base.specs.declared.history.Entry.{Entry}
@@ -21,10 +20,6 @@ use Rattle.lift_world.specs.World.{World, told_by, told_in, acknowledged}
 use Rattle.lift_world.specs.Possible.{StoresTheReply, ReopeningsUnplace, AcknowledgesReplies}
 use Rattle.lift_world.specs.lemmas.Entries.{flat_map_held}
 use Rattle.lift_world.proofs.theorem.events_are_possible.Goals as goal
-
-fills : (count : ℕ) (b : Bool) → leb count 31 ≡ b → count ≤ 63 → (16 * (1 + count) ≤ 512 * cond b 1 2) × (512 * cond b 1 2 < 16 * (1 + count) + 512)
-fills count true e few = let k = leb-true count 31 e in (omega arith, omega arith)
-fills count false e few = (omega arith, let k = leb-false count 31 e in omega arith)
 
 none_placed : (n : ℕ) → AllByRecursion (λ (p : Option Position). p ≡ None) (replicate n None)
 none_placed zero = tt
@@ -76,6 +71,3 @@ returns-clause-events k w = record {
   unplaces = unplaces w;
   acknowledges = acknowledges w;
 }
-
-pub returns-clause-sectors : goal.returns-clause-sectors
-returns-clause-sectors c count some few = let f = fills count (leb count 31) refl few in record { enough = f.0; none_empty = f.1 }

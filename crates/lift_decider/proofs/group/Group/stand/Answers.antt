@@ -1,7 +1,7 @@
 use Rattle.std.proofs.Common.{◌≡◌, ◌∙◌, get_or, refl, arith}
 use Rattle.lift_register.specs.Register.{rows_of}
 use Rattle.lift_stops.specs.Schedule.{ScheduleState}
-use Rattle.lift_decider.proofs.Changes.{own_again, taken_rows, if_some, made_rows}
+use Rattle.lift_decider.proofs.Changes.{taken_rows, if_some}
 use Rattle.lift_decider.proofs.Inside.{room_at, stood}
 use Rattle.lift_decider.proofs.group.Group.stand.Goals as goal
 
@@ -11,14 +11,6 @@ stand-requires c = record {
       (taken_rows c.self.inside.register c.self.inside.schedules c.from-place.result c.args.car c.index-self-place.result _
       (c.from-place.ensures ∙ c.get.ensures.value) (room_at c.args.self.now c.self.inside.register c.self.inside.schedules c.self.inside.batch.items c.from-place.result c.self.view_is c.requires.cars (omega (arith, c.from-place.ensures, c.get.ensures.in_range))) refl c.self.invariant.0);
 }
-
-pub invariant_of-self : goal.invariant_of-self
-invariant_of-self c = (
-  own_again c.self.inside.register c.self.inside.register c.self.inside.schedules c.from-place.result c.args.car c.stand.new.schedule
-      (c.from-place.ensures ∙ c.get.ensures.value) (room_at c.args.self.now c.self.inside.register c.self.inside.schedules c.self.inside.batch.items c.from-place.result c.self.view_is c.requires.cars (omega (arith, c.from-place.ensures, c.get.ensures.in_range))) (λ k other. refl)
-      (λ s h. made_rows c.stand.new.schedule s c.args.position (rows_of c.self.inside.register c.args.car) c.stand.ensures.schedule h) c.self.invariant.0,
-  c.self.invariant.1,
-)
 
 pub returns-clause-state : goal.returns-clause-state
 returns-clause-state c =

@@ -1,23 +1,10 @@
-use Rattle.std.proofs.Common.{◌≡◌, length, map, sym, ap, ◌∙◌, arith}
-use Rattle.std.proofs.lemmas.List.{length-map}
+use Rattle.std.proofs.Common.{map, sym, ap, ◌∙◌}
 use Rattle.lift_desk.specs.Seats.{ClerkPlace}
-use Rattle.lift_desk.specs.lemmas.Places.{seated_refill, stays_refill, table_at}
+use Rattle.lift_desk.specs.lemmas.Places.{seated_refill, stays_refill}
 use Rattle.lift_desk.proofs.desk.Desk.look_for.Goals as goal
 
 pub invariant_of-clerk : goal.invariant_of-clerk
 invariant_of-clerk g c = seated_refill _ _ _ _ c.deref_mut.ensures.value (ap (λ p. p.seated) c.look.ensures.looked.1) c.clerk.invariant
-
-pub look-requires-clause-table : goal.look-requires-clause-table
-look-requires-clause-table g c =
-    let at : c.from-at.result ≡ c.args.terminal = c.from-at.ensures ∙ c.get.ensures.value in
-    let there : length c.args.self.now ≡ length c.self.inside.tables.items = ap length (sym c.self.view_is) ∙ length-map c.self.inside.tables.items (λ t. t.shared.table_id) in
-    let here = c.requires.terminal in
-    table_at (λ t. t.shared.table_id) c.clerk.inside.places.items _ c.self.inside.tables.items c.from-at.result _ _
-    c.deref_mut.ensures.value
-    (ap (map (λ (p : ClerkPlace). p.table)) c.clerk.view_is ∙ c.requires.clerk ∙ sym c.self.view_is)
-    (omega arith)
-    c.index-table.ensures
-    c.self.invariant.words
 
 pub returns-clause-stays : goal.returns-clause-stays
 returns-clause-stays g c =

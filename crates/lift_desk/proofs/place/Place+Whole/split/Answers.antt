@@ -1,6 +1,5 @@
 use Rattle.std.proofs.Common.{ap, ◌∙◌}
 use Rattle.lift_desk.proofs.Keeps.{ahead_split}
-use Rattle.lift_desk.proofs.Looks.{lending_parts}
 use Rattle.lift_desk.proofs.place.Place+Whole.split.Goals as goal
 
 pub split-requires-clause-keeps : goal.split-requires-clause-keeps
@@ -8,6 +7,3 @@ split-requires-clause-keeps c id =
     let seated = ap (λ p. p.seated) c.self.view_is ∙ c.requires.seated in
     let i = c.self.invariant in
     ahead_split _ _ (i.answers seated) i.in_order (i.lends seated)
-
-pub split-requires-clause-counts : goal.split-requires-clause-counts
-split-requires-clause-counts c = lending_parts _ (c.self.invariant.answers (ap (λ p. p.seated) c.self.view_is ∙ c.requires.seated))

@@ -4,7 +4,6 @@ use Rattle.lift_desk.specs.declared.view.View.{View}
 use Rattle.lift_desk.specs.Words.{turn_of, number_of, last_of}
 use Rattle.lift_desk.specs.Steps.{at_clerk, with_answer}
 use Rattle.lift_desk.proofs.Keeps.{answers_keep, owes_one}
-use Rattle.lift_desk.proofs.Looks.{stores_answer}
 use Rattle.lift_desk.specs.lemmas.WordLists.{last_of-push}
 use Rattle.lift_desk.proofs.place.Place.answer.Goals as goal
 
@@ -19,9 +18,6 @@ store-requires-clause-keeps g c id =
     let turn : turn_of word ≡ turn_of (last_of m.clerk.taken) = c.reply_word-word.ensures.word.turn ∙ i.turn ∙ sym i.last_taken in
     let number : number_of word ≡ number_of (last_of m.clerk.taken) = c.reply_word-word.ensures.word.number ∙ i.number in
     answers_keep _ _ _ _ (i.answers seated) owed (λ k. (turn k, number k)) c.reply_word-word.ensures.word.spelled
-
-pub store-requires-clause-counts : goal.store-requires-clause-counts
-store-requires-clause-counts g c after e = stores_answer _ _ _ (c.self.invariant.answers (ap (λ p. p.seated) c.self.view_is ∙ c.requires.seated)) e
 
 pub invariant_of-self : goal.invariant_of-self
 invariant_of-self g c =

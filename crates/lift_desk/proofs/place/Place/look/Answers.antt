@@ -1,11 +1,10 @@
-use Rattle.std.proofs.Common.{◌≡◌, ℕ, suc, ◌+◌, [], ◌∷◌, ◌++◌, length, true, true≢false, sym, ap, ◌∙◌, inl, arith}
+use Rattle.std.proofs.Common.{◌≡◌, ℕ, suc, ◌+◌, [], ◌∷◌, ◌++◌, length, true, true≢false, sym, ap, ◌∙◌, arith}
 use Rattle.std.proofs.lemmas.List.{length_push}
 use Rattle.lift_desk.specs.declared.view.View.{View}
 use Rattle.lift_desk.specs.Words.{turn_of, number_of, last_of}
 use Rattle.lift_desk.specs.Rule.{with_note}
 use Rattle.lift_desk.specs.Steps.{at_clerk, with_taking, is_new_word}
 use Rattle.lift_desk.proofs.Keeps.{looks_keep, lt_true, taken_more}
-use Rattle.lift_desk.proofs.Looks.{loads_ask}
 use Rattle.lift_desk.specs.lemmas.WordLists.{last_of-push}
 use Rattle.lift_desk.proofs.place.Place.look.Goals as goal
 
@@ -14,10 +13,6 @@ load-word-requires-clause-keeps g c id =
     let i = c.self.invariant in
     let read = c.read_note.ensures.1 in
     looks_keep _ _ _ (ap (λ l. l.view.answers) read ∙ i.answers (ap (λ p. p.seated) c.self.view_is ∙ c.requires.seated)) (ap (λ l. l.view.looks_ahead) read ∙ i.in_order)
-
-pub load-word-requires-clause-counts : goal.load-word-requires-clause-counts
-load-word-requires-clause-counts g c found after e =
-    loads_ask _ _ _ (inl (ap (λ l. l.view.answers) c.read_note.ensures.1 ∙ c.self.invariant.answers (ap (λ p. p.seated) c.self.view_is ∙ c.requires.seated))) e.1
 
 pub invariant_of-self-2 : goal.invariant_of-self-2
 invariant_of-self-2 g c =

@@ -4,7 +4,6 @@ use Rattle.lift_desk.specs.Words.{number_of, last_of, ask_word}
 use Rattle.lift_desk.specs.Steps.{with_ask}
 use Rattle.lift_desk.specs.Seats.{TerminalSeat, seat_with}
 use Rattle.lift_desk.proofs.Keeps.{asks_keep}
-use Rattle.lift_desk.proofs.Looks.{stores_ask}
 use Rattle.lift_desk.specs.lemmas.WordLists.{last_of-push}
 use Rattle.lift_desk.proofs.seat.Seat.ask.Goals as goal
 
@@ -13,9 +12,6 @@ store-requires-clause-keeps c id =
     let i = c.self.invariant in
     let turn = c.ask_word-word.ensures.word.turn in
     asks_keep _ _ _ _ i.asks (i.rests c.if-self.false) (omega arith) c.ask_word-word.ensures.word.spelled
-
-pub store-requires-clause-counts : goal.store-requires-clause-counts
-store-requires-clause-counts c after e = stores_ask _ _ _ c.self.invariant.asks e
 
 pub invariant_of-self : goal.invariant_of-self
 invariant_of-self c =

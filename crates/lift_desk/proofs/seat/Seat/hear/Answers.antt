@@ -1,9 +1,5 @@
 use Rattle.lift_desk.proofs.Keeps.{hears_keep}
-use Rattle.lift_desk.proofs.Looks.{loads_answer}
 use Rattle.lift_desk.proofs.seat.Seat.hear.Goals as goal
 
 pub load-word-requires-clause-keeps : goal.load-word-requires-clause-keeps
 load-word-requires-clause-keeps c id = hears_keep _ _ _ c.self.invariant.asks
-
-pub load-word-requires-clause-counts : goal.load-word-requires-clause-counts
-load-word-requires-clause-counts c found after e = loads_answer _ _ _ _ c.self.invariant.asks e.1

@@ -1,13 +1,13 @@
 use Rattle.std.proofs.Common.{◌⊎◌, ◌≡◌, ◌++◌, ◌+◌, ◌-◌, nat_lt, [], ◌∷◌, List, length, sym, ◌∙◌, ap, subst, arith}
 use Rattle.lift_disk.specs.Disk.{LeavesNow, LeavesOnly}
-use Rattle.lift_journal.specs.declared.fault.JournalFault.TheVariants.{Full, Broken}
+use Rattle.lift_journal.specs.declared.fault.JournalFault.TheVariants.{Full}
 use Rattle.lift_journal.specs.Layout.{Batch, new_batch, body_size, size_of, Holds, HoldsIn}
 use Rattle.lift_journal.specs.Failed.{IsFailedAppend}
 use Rattle.lift_journal.specs.Journal.{JournalView, JournalHolds}
 use Rattle.lift_journal.specs.lemmas.Looking.{open_ok, open_err}
 use Rattle.lift_journal.proofs.Standing.{append_picks, gate_high, ready, same_batches, stands_then, stands_seen, seen_then, leaves_in, becomes_none}
 use Rattle.lift_journal.proofs.Seeing.{bodies_few}
-use Rattle.lift_journal.proofs.Performing.{calls_seen, device_ok, device_err, device_none, performs_body}
+use Rattle.lift_journal.proofs.Performing.{calls_seen, device_ok, device_err, performs_body}
 use Rattle.lift_journal.specs.Calls.{half_start, append_calls, batch_body}
 use Rattle.lift_journal.specs.Storing.{next_gate}
 use Rattle.lift_journal.proofs.Following.{begins_at}
@@ -100,18 +100,6 @@ returns-clause-becomes g c _ honest_seen =
           (let settled = open_ok c.write_records.result _ (sym c.is_err.ensures.value ∙ c.if-is_err.false) c.write_records.ensures.writes.written j.place.shape at.batches batch honest before in
           seen_then g.D.Disk.state c.write_records.new.disk j.place.shape j.place.start j.place.gate j.place.number c.body_count-bodies.result _ _ old batch at is settled);
     }
-
-pub returns-then-self-clause-calls : goal.returns-then-self-clause-calls
-returns-then-self-clause-calls g c =
-    let view = c.args.self.now in
-    let batch = new_batch c.args.batch.now.items in
-    device_none Broken (append_calls (half_start view.is_in_second_half view.shape.half + view.used) (batch_body view.number batch)) (size_of batch + 4) (size_of batch + 2) (g.D.Disk.state view.device) (λ is. absurd (cc is)) (none_made (g.D.Disk.state view.device))
-
-pub returns-then-used-bodies-clause-calls : goal.returns-then-used-bodies-clause-calls
-returns-then-used-bodies-clause-calls g c =
-    let view = c.args.self.now in
-    let batch = new_batch c.args.batch.now.items in
-    device_none Full (append_calls (half_start view.is_in_second_half view.shape.half + view.used) (batch_body view.number batch)) (size_of batch + 4) (size_of batch + 2) (g.D.Disk.state view.device) (λ is. absurd (cc is)) (none_made (g.D.Disk.state view.device))
 
 pub returns-clause-calls : goal.returns-clause-calls
 returns-clause-calls g c =
