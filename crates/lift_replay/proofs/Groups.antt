@@ -2,7 +2,7 @@
 use Rattle.std.proofs.Common.{◌≡◌, ◌⊎◌, ◌↔◌, ℕ, suc, ◌+◌, ◌-◌, ◌<◌, ◌≤◌, ◌==◌, Bool, true, false, cond, List, [], ◌∷◌, ◌++◌, length, Option, Some, None, refl, sym, ap, ◌∙◌, subst, inl, inr, arith}
 use Rattle.std.specs.Prelude.{nat_le, not, ◌&&◌, codes, if◌then◌else◌, MatchBool}
 use Rattle.std.specs.Option.{option_map, option_map_or}
-use Rattle.std.proofs.lemmas.Bool.{false≢true, true≢false, eqb-true, eqb-false, ne_eqb, leb-true, le-leb}
+use Rattle.std.proofs.lemmas.Bool.{cases_eq, false≢true, true≢false, eqb-true, eqb-false, ne_eqb, leb-true, le-leb}
 use Rattle.std.proofs.lemmas.Bool.Decides.{leb_tells}
 use Rattle.lift_base.specs.declared.command.Reply.{Reply}
 use Rattle.lift_building.specs.Plan.{Plan}
@@ -14,7 +14,7 @@ use Rattle.lift_journal.specs.Checkpoint.{sectors_for}
 use Rattle.lift_journal.specs.Layout.{body_size}
 use Rattle.lift_journal.specs.Told.{NoneFails, LastFails}
 use Rattle.lift_register.specs.Base.{base_records}
-use Rattle.lift_desk.specs.Steps.{with_told_answers, with_told_asks}
+use Rattle.lift_desk.specs.Steps.{with_taking, with_told_answers, with_told_asks}
 use mathlib.Core.List.{IsPrefix}
 use Rattle.lift_desk.specs.Seats.{TerminalSeat, ClerkPlace, view_at}
 use Rattle.lift_policy.specs.declared.command.Command.{Command}
@@ -31,12 +31,12 @@ use Rattle.lift_clerk.specs.declared.counts.Counts.{Counts}
 use Rattle.lift_clerk.specs.Turn.{IsTurn, IsFailedTurn, IsBrokenTurn, without_batch}
 use Rattle.lift_clerk.specs.lemmas.Visiting.{length-served}
 use Rattle.lift_clerk.specs.Visits.{Visit, LooksAndAnswers, commands_of as commands_at}
-use Rattle.lift_replay.specs.Group.{Asking, ScriptGroup, FailedBatch, Found, half, waiting_from, waiting_commands, having_heard, heard_replies_text, state_by, replies_by, state_to_decide_on, state_decided, calls_for, after_turn, after_failure, fault_told, turned, turn_told, is_past, folded, with_room, with_batch, in_folding, in_append, room_for, found_after_cut}
+use Rattle.lift_replay.specs.Group.{Asking, asking_at, ScriptGroup, FailedBatch, Found, half, waiting_from, waiting_commands, having_heard, heard_replies_text, state_by, replies_by, state_to_decide_on, state_decided, calls_for, after_turn, after_failure, fault_told, turned, turn_told, is_past, folded, with_room, with_batch, in_folding, in_append, room_for, found_after_cut}
 use Rattle.lift_replay.specs.Report.{turn_text, fault_text}
-use Rattle.lift_replay.specs.Terminals.{AllHear, AreTold, seat_at}
+use Rattle.lift_replay.specs.Terminals.{AllHear, AreTold, BothTold, seat_at, told_seat, waiting_count}
 use Rattle.lift_replay.specs.Told.{ScriptClerk, OutcomeTells, TurnTells, HasCommitted, HasFailedCommit, device_of}
 use Rattle.lift_replay.specs.Shows.{AreInStep, IsFound, IsFused, Stands, IsKeeperOf, Shows}
-use Rattle.lift_replay.proofs.InStep.{all_found, commands_found, hear_all}
+use Rattle.lift_replay.proofs.InStep.{AllFound, all_found, commands_found, finds_waiting, hear_all, looked_alone, told_alike, waiting_is}
 
 le_of : (a b : ℕ) → nat_le a b ≡ true → a ≤ b
 le_of a b e = leb-true a b e
@@ -79,18 +79,38 @@ pub record TakesAll (terminals : List Asking) (visits : List Visit) (replies : L
   pub text : heard ≡ heard_replies_text (waiting_from 0 terminals) replies
   pub in_step : AreInStep (having_heard terminals) after known
 
-pub takes_all : (terminals : List Asking) (seats told after : List TerminalSeat) (places turned known : List ClerkPlace) (visits : List Visit) (replies : List Reply) (heard : List ℕ)
-    → AreInStep terminals seats places → LooksAndAnswers places turned visits replies → AreTold seats told turned known → AllHear told after heard → TakesAll terminals visits replies after known heard
-takes_all terminals seats told after places turned known visits replies heard step serves knows hear =
+-- each terminal was told, or as many were taken as terminals wait
+all_told : (taken : Option ℕ) (seats told : List TerminalSeat) (places known : List ClerkPlace) → AreTold taken seats told places known
+    → ((i : ℕ) → i < length seats → BothTold (seat_at seats i) (seat_at told i) (view_at places i) (view_at known i)) ⊎ (taken ≡ Some (waiting_count seats))
+all_told None seats told places known are = inl (λ i below. elim (are.each i below) [ inl both ↦ both | inr rests ↦ absurd (let e = rests.0 in cc) ])
+all_told (Some n) seats told places known are = elim (cases_eq n (waiting_count seats)) [
+  | inl same ↦ inr (ap Some same)
+  | inr other ↦ inl (λ i below. elim (are.each i below) [ inl both ↦ both | inr rests ↦ absurd (other (let e = rests.0 in cc)) ])
+]
+
+pub takes_all : (terminals : List Asking) (seats told after : List TerminalSeat) (taken : Option ℕ) (places turned known : List ClerkPlace) (visits : List Visit) (replies : List Reply) (heard : List ℕ)
+    → AreInStep terminals seats places → LooksAndAnswers places turned visits replies → ((n : ℕ) → taken ≡ Some n → n ≡ length (commands_at 0 visits)) → AreTold taken seats told turned known → AllHear told after heard
+    → TakesAll terminals visits replies after known heard
+takes_all terminals seats told after taken places turned known visits replies heard step serves counted knows hear =
     let seat : ℕ → _ = λ (i : ℕ). (seat_at seats i).view in
     let many : length visits ≡ length terminals = serves.each_once ∙ step.place_count in
-    let found = all_found terminals places visits replies seat many step.place_count serves.finds step.each
-    (λ i below. subst (λ l. IsPrefix (view_at l i).taken (seat_at seats i).view.asked) serves.stored (knows.each i (omega (arith, below, step.seat_count))).in_order.taken) in
+    let found : AllFound visits terminals = elim (all_told taken seats told turned known knows) [
+      | inl both ↦ all_found terminals places visits replies seat many step.place_count serves.finds step.each
+          (λ i below. subst (λ l. IsPrefix (view_at l i).taken (seat_at seats i).view.asked) serves.stored (both i (omega (arith, below, step.seat_count))).in_order.taken)
+      | inr as_many ↦ (finds_waiting 0 terminals places visits seat many step.place_count serves.finds step.each).1
+          (sym (counted (waiting_count seats) as_many) ∙ waiting_is 0 terminals seats (λ i. view_at places i) step.seat_count step.each)
+    ] in
     let commands = commands_found 0 visits terminals found in
+    let alike : (i : ℕ) → i < length terminals → (seat_at told i ≡ told_seat (seat_at seats i) (view_at turned i)) × (view_at known i ≡ with_told_asks (view_at turned i) (seat i).asked) = λ i below.
+    elim (knows.each i (omega (arith, below, step.seat_count))) [
+      | inl both ↦ (both.hears, both.knows)
+      | inr rests ↦ told_alike (asking_at terminals i).waiting (asking_at terminals i) (seat_at seats i) (seat_at told i) (view_at places i) (view_at turned i) (view_at known i) (step.each i below) refl rests.1
+          (λ none. subst (λ l. (word : ℕ) × (view_at l i ≡ with_taking (view_at places i) word)) (sym serves.stored) (looked_alone i terminals places visits replies found step.place_count below none))
+    ] in
     let all = hear_all 0 terminals places visits replies seat told after heard (λ i. view_at known i) found step.place_count (knows.count ∙ step.seat_count) serves.finds serves.in_range (serves.one_reply_each ∙ ap length commands) step.each
-    (λ i below. ap (λ (s : TerminalSeat). s.view) (knows.each i (omega (arith, below, step.seat_count))).hears ∙ ap (λ l. with_told_answers (seat_at seats i).view (view_at l i).answered) serves.stored)
-    (λ i below. (knows.each i (omega (arith, below, step.seat_count))).knows ∙ ap (λ l. with_told_asks (view_at l i) (seat_at seats i).view.asked) serves.stored)
-    (λ i below. ap (λ (s : TerminalSeat). s.terminal) (knows.each i (omega (arith, below, step.seat_count))).hears ∙ step.own i below ∙ omega arith)
+    (λ i below. ap (λ (s : TerminalSeat). s.view) (alike i below).0 ∙ ap (λ l. with_told_answers (seat_at seats i).view (view_at l i).answered) serves.stored)
+    (λ i below. (alike i below).1 ∙ ap (λ l. with_told_asks (view_at l i) (seat_at seats i).view.asked) serves.stored)
+    (λ i below. ap (λ (s : TerminalSeat). s.terminal) (alike i below).0 ∙ step.own i below ∙ omega arith)
     hear in
     let count = heard_length terminals in
     record {
@@ -274,10 +294,10 @@ module _ (computed : StepsAreDecisions IsEtdChoice etd_pick) (plan : Plan) (g : 
   long_now : (device_of now).is_short ≡ false
   long_now = subst (λ (k : KeeperView FusedDisk). (fuse_state_of k.writer.device).is_short ≡ false) same_keeper long
 
-  went_well : (s : Option FailedBatch) → Stands s plan g old.keeper → (counts : Counts) → IsTurn IsEtdChoice old now counts → HasCommitted old now counts.accepted → outcome.head ≡ turn_text counts.taken counts.accepted → Result s
-  went_well (Some s) stands counts turn made head = absurd (is_broken_not old.keeper.writer.is_broken stands.0 made.was_whole)
-  went_well None stands counts turn made head =
-      let takes = takes_all g.terminals seats outcome.told after old.seat now.seat new.seat turn.visits turn.replies outcome.heard shows.terminals turn.serves outcome.knows outcome.hear in
+  went_well : (s : Option FailedBatch) → Stands s plan g old.keeper → (counts : Counts) → IsTurn IsEtdChoice old now counts → HasCommitted old now counts.accepted → outcome.head ≡ turn_text counts.taken counts.accepted → outcome.taken ≡ Some counts.taken → Result s
+  went_well (Some s) stands counts turn made head took = absurd (is_broken_not old.keeper.writer.is_broken stands.0 made.was_whole)
+  went_well None stands counts turn made head took =
+      let takes = takes_all g.terminals seats outcome.told after outcome.taken old.seat now.seat new.seat turn.visits turn.replies outcome.heard shows.terminals turn.serves (λ n is. (let same = sym took ∙ is in cc) ∙ turn.taken) outcome.knows outcome.hear in
       let run = subst (λ cs. Run old.keeper.writer.plan IsEtdChoice old.keeper.state cs turn.replies turn.decided) takes.commands turn.run in
       let run_here = subst (λ (p : Plan). Run p IsEtdChoice old.keeper.state (waiting_commands g) turn.replies turn.decided) shows.keeper.same_plan run in
       let is = run_is computed plan (state_to_decide_on g) (waiting_commands g) turn.replies turn.decided (subst (λ s. Run plan IsEtdChoice s (waiting_commands g) turn.replies turn.decided) stands.1 run_here) in
@@ -314,10 +334,10 @@ module _ (computed : StepsAreDecisions IsEtdChoice etd_pick) (plan : Plan) (g : 
         subst (λ b. AreInStep (Made b).terminals after new.seat) (sym ok) takes.in_step,
       )
 
-  commit_failed : (s : Option FailedBatch) → Stands s plan g old.keeper → IsFailedTurn IsEtdChoice old now → HasFailedCommit old now → outcome.head ≡ fault_text (codes "turn") 1 → Result s
-  commit_failed (Some s) stands turn stop head = absurd (is_broken_not old.keeper.writer.is_broken stands.0 stop.was_whole)
-  commit_failed None stands turn stop head =
-      let takes = takes_all g.terminals seats outcome.told after old.seat now.seat new.seat turn.visits (unknowns (commands_at 0 turn.visits)) outcome.heard shows.terminals turn.serves outcome.knows outcome.hear in
+  commit_failed : (s : Option FailedBatch) → Stands s plan g old.keeper → IsFailedTurn IsEtdChoice old now → HasFailedCommit old now → outcome.head ≡ fault_text (codes "turn") 1 → outcome.taken ≡ None → Result s
+  commit_failed (Some s) stands turn stop head none = absurd (is_broken_not old.keeper.writer.is_broken stands.0 stop.was_whole)
+  commit_failed None stands turn stop head none =
+      let takes = takes_all g.terminals seats outcome.told after outcome.taken old.seat now.seat new.seat turn.visits (unknowns (commands_at 0 turn.visits)) outcome.heard shows.terminals turn.serves (λ n is. absurd (let same = sym none ∙ is in cc)) outcome.knows outcome.hear in
       let run = subst (λ cs. Run old.keeper.writer.plan IsEtdChoice old.keeper.state cs turn.decided_so now.keeper.state) takes.commands turn.run in
       let run_here = subst (λ (p : Plan). Run p IsEtdChoice old.keeper.state (waiting_commands g) turn.decided_so now.keeper.state) shows.keeper.same_plan run in
       let is = run_is computed plan (state_to_decide_on g) (waiting_commands g) turn.decided_so now.keeper.state (subst (λ s. Run plan IsEtdChoice s (waiting_commands g) turn.decided_so now.keeper.state) stands.1 run_here) in
@@ -354,10 +374,10 @@ module _ (computed : StepsAreDecisions IsEtdChoice etd_pick) (plan : Plan) (g : 
         subst (λ b. AreInStep (Made b).terminals after new.seat) (sym fuse.failed) takes.in_step,
       )
 
-  was_broken : (s : Option FailedBatch) → Stands s plan g old.keeper → old.keeper.writer.is_broken ≡ true → IsBrokenTurn old now → outcome.head ≡ fault_text (codes "turn") 5 → g.failed ≡ s → Result s
-  was_broken None stands broken turn head is = absurd (is_broken_not old.keeper.writer.is_broken broken stands.0)
-  was_broken (Some s) stands broken turn head is =
-      let takes = takes_all g.terminals seats outcome.told after old.seat now.seat new.seat turn.visits (unknowns (commands_at 0 turn.visits)) outcome.heard shows.terminals turn.serves outcome.knows outcome.hear in
+  was_broken : (s : Option FailedBatch) → Stands s plan g old.keeper → old.keeper.writer.is_broken ≡ true → IsBrokenTurn old now → outcome.head ≡ fault_text (codes "turn") 5 → outcome.taken ≡ None → g.failed ≡ s → Result s
+  was_broken None stands broken turn head none is = absurd (is_broken_not old.keeper.writer.is_broken broken stands.0)
+  was_broken (Some s) stands broken turn head none is =
+      let takes = takes_all g.terminals seats outcome.told after outcome.taken old.seat now.seat new.seat turn.visits (unknowns (commands_at 0 turn.visits)) outcome.heard shows.terminals turn.serves (λ n is. absurd (let same = sym none ∙ is in cc)) outcome.knows outcome.hear in
       let kept : IsKeeperOf plan (record g { terminals = having_heard g.terminals }) old.keeper = record {
         same_plan = shows.keeper.same_plan;
         half_is = shows.keeper.half_is;
@@ -369,10 +389,10 @@ module _ (computed : StepsAreDecisions IsEtdChoice etd_pick) (plan : Plan) (g : 
         takes.in_step,
       )
 
-  by_turn : TurnTells old now outcome.head → Result g.failed
-  by_turn (inl (counts, turn, made, head)) = went_well g.failed shows.keeper.stands counts turn made head
-  by_turn (inr (inl (turn, stop, head))) = commit_failed g.failed shows.keeper.stands turn stop head
-  by_turn (inr (inr (broken, turn, head))) = was_broken g.failed shows.keeper.stands broken turn head refl
+  by_turn : TurnTells old now outcome.taken outcome.head → Result g.failed
+  by_turn (inl (counts, turn, made, head, took)) = went_well g.failed shows.keeper.stands counts turn made head took
+  by_turn (inr (inl (turn, stop, head, none))) = commit_failed g.failed shows.keeper.stands turn stop head none
+  by_turn (inr (inr (broken, turn, head, none))) = was_broken g.failed shows.keeper.stands broken turn head none refl
 
   pub turn_shows : (text ≡ turn_told g.failed plan g) × Shows plan (turned g.failed plan g) new after
   turn_shows =

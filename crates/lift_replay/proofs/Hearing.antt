@@ -37,7 +37,7 @@ all_heard olds news n lines all same hear =
     take_whole (suc m) (seat ∷ seats) few = ap (λ l. seat ∷ l) (take_whole m seats (omega (arith, few)))
 
 -- one more has heard
-one_more : (olds news : List TerminalSeat) (n : ℕ) (lines line : List ℕ) → n < length olds → length news ≡ length olds
+pub one_more : (olds news : List TerminalSeat) (n : ℕ) (lines line : List ℕ) → n < length olds → length news ≡ length olds
     → AllHear (take n olds) (take n news) lines → Hears (seat_at olds n) (seat_at news n) line → AllHear (take (suc n) olds) (take (suc n) news) (lines ++ line)
 one_more [] news n lines line below long before hears = absurd (omega (arith, below))
 one_more (old ∷ olds) [] n lines line below long before hears = absurd (omega (arith, long))

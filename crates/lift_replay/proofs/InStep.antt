@@ -1,6 +1,8 @@
 -- Clerk and terminals stay in step: an ask, and a turn after which all that was answered is heard.
 use Rattle.std.proofs.Common.{◌≡◌, ℕ, zero, suc, ◌+◌, ◌<◌, ◌≤◌, false, cond, List, [], ◌∷◌, ◌++◌, length, All, Option, Some, None, IfSome, refl, sym, ap, ◌∙◌, subst, inl, inr, arith, length-append}
+use Rattle.std.proofs.lemmas.Bool.{le-ltb, lt-ltb}
 use Rattle.std.proofs.lemmas.List.Elements.{All-head, All-tail}
+use Rattle.std.proofs.lemmas.List.Sums.{sum_by-cons}
 use mathlib.Core.List.{IsPrefix}
 use Rattle.lift_base.specs.declared.command.Reply.{Reply}
 use Rattle.lift_desk.specs.declared.words.Ask.{Ask}
@@ -8,13 +10,13 @@ use Rattle.lift_desk.specs.declared.view.TerminalView.{TerminalView}
 use Rattle.lift_desk.specs.declared.view.ClerkView.{ClerkView}
 use Rattle.lift_desk.specs.Words.{number_of, last_of, ask_word, reply_word, IsReply}
 use Rattle.lift_desk.specs.Steps.{is_new_word, with_taking, with_answer, with_hearing, with_told_answers, with_told_asks}
-use Rattle.lift_desk.specs.Seats.{TerminalSeat, ClerkPlace, Waits, IsToldAnswer, HearsOf, TakesOf, view_at}
+use Rattle.lift_desk.specs.Seats.{TerminalSeat, ClerkPlace, Waits, IsToldAnswer, HearsOf, TakesOf, seat_with, view_at}
 use Rattle.lift_desk.specs.lemmas.WordLists.{last_of-push, prefix_length}
 use Rattle.lift_policy.specs.declared.command.Command.{Command}
 use Rattle.lift_clerk.specs.Visits.{Visit, FindsAt, Finds, command_at, commands_of, with_reply, replies_after, served}
 use Rattle.lift_replay.specs.Group.{Asking, asking_at, waiting_from, having_heard, heard_replies_text}
 use Rattle.lift_replay.specs.Report.{heard_text}
-use Rattle.lift_replay.specs.Terminals.{AllHear, Hears, heard_line, seat_at}
+use Rattle.lift_replay.specs.Terminals.{AllHear, Hears, NeitherTold, heard_line, has_unheard, seat_at, told_seat, waiting_count}
 use Rattle.lift_replay.specs.Shows.{WaitsFor, IsInStep}
 
 -- a terminal waits just where an ask of it does
@@ -74,6 +76,70 @@ all_found (a ∷ askings) (place ∷ places) (v ∷ visits) replies seat many co
           (λ i below. each (suc i) (omega (arith, below))) (λ i below. front (suc i) (omega (arith, below))),
     )
 
+-- Of the asks that wait each look has found its own. So where as many were found as wait, just these were.
+heads : (k : ℕ) (w f : Option Ask) (waiting found : List Command) → ((ask : Ask) → w ≡ Some ask → f ≡ w) → length waiting ≤ length found
+    → (length (command_at k w ++ waiting) ≤ length (command_at k f ++ found))
+    × (length (command_at k f ++ found) ≡ length (command_at k w ++ waiting) → (f ≡ w) × (length found ≡ length waiting))
+heads k None None waiting found told few = (few, (λ same. (refl, same)))
+heads k None (Some ask) waiting found told few = (omega (arith, few), (λ same. absurd (omega (arith, same, few))))
+heads k (Some ask) None waiting found told few = absurd (let is = told ask refl in cc)
+heads k (Some ask) (Some other) waiting found told few = (omega (arith, few), (λ same. (told ask refl, omega (arith, same))))
+
+pub finds_waiting : (k : ℕ) (askings : List Asking) (places : List ClerkPlace) (visits : List Visit) (seat : ℕ → TerminalView)
+    → length visits ≡ length askings → length places ≡ length askings → Finds places visits
+    → ((i : ℕ) → i < length askings → IsInStep (asking_at askings i) (seat i) (view_at places i))
+    → (length (waiting_from k askings) ≤ length (commands_of k visits)) × (length (commands_of k visits) ≡ length (waiting_from k askings) → AllFound visits askings)
+finds_waiting k [] places [] seat many count finds each = (omega arith, (λ same. tt))
+finds_waiting k [] places (v ∷ visits) seat many count finds each = absurd (omega (arith, many))
+finds_waiting k (a ∷ askings) places [] seat many count finds each = absurd (omega (arith, many))
+finds_waiting k (a ∷ askings) [] (v ∷ visits) seat many count finds each = absurd (omega (arith, count))
+finds_waiting k (a ∷ askings) (place ∷ places) (v ∷ visits) seat many count finds each =
+    let here = each 0 (omega arith) in
+    let rest = finds_waiting (suc k) askings places visits (λ i. seat (suc i)) (omega (arith, many)) (omega (arith, count)) finds.1 (λ i below. each (suc i) (omega (arith, below))) in
+    let told : (ask : Ask) → a.waiting ≡ Some ask → v.found ≡ a.waiting = λ ask is.
+    let waits = subst (λ w. WaitsFor w (seat 0) place.view) is here.waits in
+    finds.0.told ask (waits.0, here.told ∙ waits.1) ∙ sym is in
+    let both = heads k a.waiting v.found (waiting_from (suc k) askings) (commands_of (suc k) visits) told rest.0 in
+    (both.0, (λ same. let is = both.1 same in (is.0, rest.1 is.1)))
+
+-- as many asks wait as terminals do
+one_waits : (k : ℕ) (w : Option Ask) (a : Asking) (seat : TerminalSeat) (place : ClerkView) → IsInStep a seat.view place → a.waiting ≡ w → cond (has_unheard seat) 1 0 ≡ length (command_at k w)
+one_waits k None a seat place step none = ap (λ b. cond b 1 0) (le-ltb (length seat.view.heard) (length seat.view.asked) (let quiet = waits_not a seat.view place step none in omega (arith, quiet)))
+one_waits k (Some ask) a seat place step some = ap (λ b. cond b 1 0) (lt-ltb (length seat.view.heard) (length seat.view.asked) (waits_so a seat.view place ask step some))
+
+pub waiting_is : (k : ℕ) (askings : List Asking) (seats : List TerminalSeat) (place : ℕ → ClerkView) → length seats ≡ length askings
+    → ((i : ℕ) → i < length askings → IsInStep (asking_at askings i) (seat_at seats i).view (place i)) → waiting_count seats ≡ length (waiting_from k askings)
+waiting_is k [] [] place count each = refl
+waiting_is k [] (seat ∷ seats) place count each = absurd (omega (arith, count))
+waiting_is k (a ∷ askings) [] place count each = absurd (omega (arith, count))
+waiting_is k (a ∷ askings) (seat ∷ seats) place count each =
+    sum_by-cons (λ (s : TerminalSeat). cond (has_unheard s) 1 0) seat seats
+    ∙ ap (λ n. n + waiting_count seats) (one_waits k a.waiting a seat (place 0) (each 0 (omega arith)) refl)
+    ∙ ap (λ n. length (command_at k a.waiting) + n) (waiting_is (suc k) askings seats (λ i. place (suc i)) (omega (arith, count)) (λ i below. each (suc i) (omega (arith, below))))
+    ∙ sym (length-append (command_at k a.waiting) (waiting_from (suc k) askings))
+
+-- where nothing waits, nothing was answered
+pub looked_alone : (i : ℕ) (askings : List Asking) (places : List ClerkPlace) (visits : List Visit) (replies : List Reply) → AllFound visits askings → length places ≡ length askings → i < length askings
+    → (asking_at askings i).waiting ≡ None → (word : ℕ) × (view_at (served places visits replies) i ≡ with_taking (view_at places i) word)
+looked_alone i [] places visits replies found count below none = absurd (omega (arith, below))
+looked_alone i (a ∷ askings) [] visits replies found count below none = absurd (omega (arith, count))
+looked_alone i (a ∷ askings) (place ∷ places) [] replies found count below none = absurd found
+looked_alone zero (a ∷ askings) (place ∷ places) (v ∷ visits) replies found count below none =
+    (v.word, ap (λ f. with_reply (with_taking place.view v.word) f replies) (found.0 ∙ none))
+looked_alone (suc i) (a ∷ askings) (place ∷ places) (v ∷ visits) replies found count below none =
+    looked_alone i askings places visits (replies_after v.found replies) found.1 (omega (arith, count)) (omega (arith, below)) none
+
+-- A terminal that rests is as it would be if it were told.
+pub told_alike : (w : Option Ask) (a : Asking) (seat told : TerminalSeat) (place turned known : ClerkView) → IsInStep a seat.view place → a.waiting ≡ w → NeitherTold seat told turned known
+    → (a.waiting ≡ None → (word : ℕ) × (turned ≡ with_taking place word))
+    → (told ≡ told_seat seat turned) × (known ≡ with_told_asks turned seat.view.asked)
+told_alike (Some ask) a seat told place turned known step is rests looks = absurd (rests.rests (waits_so a seat.view place ask step is))
+told_alike None a seat told place turned known step is rests looks =
+    let looked = looks is in (
+      rests.seat_same ∙ ap (λ l. seat_with seat (with_told_answers seat.view l)) (step.told_answers ∙ sym (ap (λ (v : ClerkView). v.answered) looked.1)),
+      rests.place_same ∙ ap (with_told_asks turned) (ap (λ (v : ClerkView). v.told) looked.1 ∙ step.told),
+    )
+
 pub commands_found : (k : ℕ) (visits : List Visit) (askings : List Asking) → AllFound visits askings → commands_of k visits ≡ waiting_from k askings
 commands_found k [] [] found = refl
 commands_found k [] (a ∷ askings) found = absurd found
@@ -126,6 +192,7 @@ module _ (a : Asking) (seat : TerminalView) (place : ClerkPlace) (v : Visit) (st
         let in_step : IsInStep (record { turns = a.turns; waiting = None }) (with_hearing (with_told_answers seat answered.answered) h.word) (with_told_asks answered seat.asked) = record {
           turns = step.turns;
           told = refl;
+          told_answers = refl;
           heard = heard;
           even = omega (arith, step.even, ap length more, length-append place.view.taken (v.word ∷ []), length-append place.view.answered (reply_word (length looked.taken) ask.number reply ∷ []));
           waits = all_taken;
@@ -148,6 +215,7 @@ module _ (a : Asking) (seat : TerminalView) (place : ClerkPlace) (v : Visit) (st
       let in_step : IsInStep (record { turns = a.turns; waiting = None }) (with_told_answers seat looked.answered) (with_told_asks looked seat.asked) = record {
         turns = step.turns;
         told = refl;
+        told_answers = refl;
         heard = step.heard;
         even = step.even ∙ ap length (sym same);
         waits = waits ∙ sym same;

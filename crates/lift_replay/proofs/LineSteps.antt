@@ -91,7 +91,7 @@ module _ (terminals : List Asking) (seats after : List TerminalSeat) (places kno
       (ap (λ l. (seat_at l t).terminal) same ∙ step.own t inside)
       (subst (λ l. IsInStep (record { turns = a.turns; waiting = w }) (seat_at after t).view (view_at l t)) (sym known_is)
       (subst (λ l. IsInStep (record { turns = a.turns; waiting = w }) (seat_at l t).view (view_at places t)) (sym same)
-      (record { turns = here.turns; told = here.told; heard = here.heard; even = here.even; waits = subst (λ x. WaitsFor x (seat_at seats t).view (view_at places t)) is here.waits })))
+      (record { turns = here.turns; told = here.told; told_answers = here.told_answers; heard = here.heard; even = here.even; waits = subst (λ x. WaitsFor x (seat_at seats t).view (view_at places t)) is here.waits })))
       (λ i other. ap (λ l. seat_at l i) same) (λ i other. ap (λ l. view_at l i) known_is)
 
   asks : (text : List ℕ) (w : Option Ask) → a.waiting ≡ w → Asks seats after places known t number body text → Asked text w
@@ -122,6 +122,7 @@ module _ (terminals : List Asking) (seats after : List TerminalSeat) (places kno
       let in_step : IsInStep (record { turns = suc a.turns; waiting = Some asking }) (told_seat (having_asked (seat_at seats t) number body) (view_at places t)).view (with_told_asks (view_at places t) ((seat_at seats t).view.asked ++ word ∷ [])) = record {
         turns = omega (arith, length-append (seat_at seats t).view.asked (word ∷ []), here.turns);
         told = refl;
+        told_answers = refl;
         heard = here.heard;
         even = here.even;
         waits = (h.in_range, ap (λ l. l ++ word ∷ []) same ∙ ap (λ n. (view_at places t).taken ++ ask_word (suc n) number body ∷ []) (ap length same));

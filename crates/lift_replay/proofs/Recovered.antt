@@ -163,7 +163,7 @@ new_in_step plan desk count =
       each = λ t below.
           subst (λ a. IsInStep a (seat_at (seats_from 0 desk) t).view (view_at (clerk_of desk) t)) (sym (first_askings (MOST_CARS + length plan.kiosks) t))
           (subst (λ v. IsInStep unasked v (view_at (clerk_of desk) t)) (sym (first_seats 0 desk t))
-          (subst (λ v. IsInStep unasked no_asks v) (sym (first_places desk t)) (record { turns = refl; told = refl; heard = refl; even = refl; waits = refl })));
+          (subst (λ v. IsInStep unasked no_asks v) (sym (first_places desk t)) (record { turns = refl; told = refl; told_answers = refl; heard = refl; even = refl; waits = refl })));
     }
 
 pub new_shows : (plan : Plan) (g : ScriptGroup) (keeper : KeeperView FusedDisk) (clerk : ScriptClerk) (seats : List TerminalSeat) (desk : List TableId) → IsKeeperOf plan g keeper → g.terminals ≡ new_terminals plan

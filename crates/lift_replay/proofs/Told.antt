@@ -1,5 +1,5 @@
 -- What is told, step by step.
-use Rattle.std.proofs.Common.{◌≡◌, ◌≢◌, ℕ, ◌==◌, List, [], ◌∷◌, length, get_or, Bool, true, false, Some, Ok, Err, Result, subst, slice_set, ap, ◌∙◌, refl, inl, inr, arith}
+use Rattle.std.proofs.Common.{◌≡◌, ◌≢◌, ℕ, ◌==◌, List, [], ◌∷◌, length, get_or, Bool, true, false, Some, None, Ok, Err, Result, subst, slice_set, ap, ◌∙◌, refl, inl, inr, arith}
 use Rattle.std.specs.Prelude.{OnOk, IfOk, codes, ◌⊎◌}
 use Rattle.lift_replay.specs.declared.lines.Verdict.{Verdict}
 use Rattle.lift_replay.specs.declared.lines.Verdict.TheVariants.{Good, Bad}
@@ -46,10 +46,10 @@ not_skipped (b ∷ text) some other skipped = other skipped
 -- a turn that failed, or found the journal broken, tells its number
 pub fault_tells : (old new : ScriptClerk) (fault : KeeperFault) (number : ℕ) → number ≡ fault_number fault → (fault ≡ Journal Disk) ⊎ (fault ≡ Journal Broken)
     → (fault ≡ Journal Disk → IsFailedTurn IsEtdChoice old new) → (fault ≡ Journal Disk → HasFailedCommit old new) → (fault ≡ Journal Broken → old.keeper.writer.is_broken ≡ true)
-    → (old.keeper.writer.is_broken ≡ true → IsBrokenTurn old new) → TurnTells old new (fault_text (codes "turn") number)
-fault_tells old new fault number is (inl disk) fails stops broken rests = inr (inl (fails disk, stops disk, ap (fault_text (codes "turn")) (is ∙ ap fault_number disk)))
+    → (old.keeper.writer.is_broken ≡ true → IsBrokenTurn old new) → TurnTells old new None (fault_text (codes "turn") number)
+fault_tells old new fault number is (inl disk) fails stops broken rests = inr (inl (fails disk, stops disk, ap (fault_text (codes "turn")) (is ∙ ap fault_number disk), refl))
 fault_tells old new fault number is (inr breaks) fails stops broken rests =
-    inr (inr (broken breaks, rests (broken breaks), ap (fault_text (codes "turn")) (is ∙ ap fault_number breaks)))
+    inr (inr (broken breaks, rests (broken breaks), ap (fault_text (codes "turn")) (is ∙ ap fault_number breaks), refl))
 
 pub is_whole : (b : Bool) → (b ≡ true → ⊥) → b ≡ false
 is_whole true not = absurd (not refl)

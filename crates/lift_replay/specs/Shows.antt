@@ -27,10 +27,11 @@ WaitsFor (Some ask) seat place =
     ∷ [])
 
 -- The clerk was told of all that the terminal asked, has answered all that it took, and the
--- terminal has heard all of it.
+-- terminal was told of all of it, and has heard it.
 pub record IsInStep (asking : Asking) (seat : TerminalView) (place : ClerkView) : Type 0 where
   pub turns : length seat.asked ≡ asking.turns
   pub told : place.told ≡ seat.asked
+  pub told_answers : seat.told ≡ place.answered
   pub heard : seat.heard ≡ place.answered
   pub even : length place.answered ≡ length place.taken
   pub waits : WaitsFor asking.waiting seat place

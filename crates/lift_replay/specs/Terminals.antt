@@ -1,6 +1,6 @@
 -- The seats of a desk's terminals, what they ask, and what they hear.
 use Rattle.std.specs.Prelude.{ℕ, suc, ◌≡◌, ◌<◌, ◌⊎◌, List, [], ◌∷◌, ◌++◌, length}
-use Rattle.std.specs.Prelude.{slice_index_or, Option, Some, None}
+use Rattle.std.specs.Prelude.{slice_index_or, Bool, nat_lt, count_by, Option, Some, None}
 use Rattle.atomic_table.specs.Seated.{TableId}
 use Rattle.lift_base.specs.declared.command.Body.{Body}
 use Rattle.lift_base.specs.declared.command.Reply.{Reply}
@@ -42,12 +42,33 @@ pub record BothTold (seat told : TerminalSeat) (place known : ClerkView) : Type 
   pub knows : known ≡ with_told_asks place seat.view.asked
   pub in_order : IsInOrder (lists_of seat.view place)
 
--- all terminals are told
-pub record AreTold (seats told : List TerminalSeat) (places known : List ClerkPlace) : Type 0 where
+-- A terminal that doesn't wait is told nothing, and the clerk nothing of it.
+pub record NeitherTold (seat told : TerminalSeat) (place known : ClerkView) : Type 0 where
+  pub rests : ¬ Waits seat.view
+  pub seat_same : told ≡ seat
+  pub place_same : known ≡ place
+
+-- its last ask has not been heard
+abbrev pub has_unheard : TerminalSeat → Bool
+has_unheard seat = nat_lt (length seat.view.heard) (length seat.view.asked)
+
+-- how many terminals wait
+abbrev pub waiting_count : List TerminalSeat → ℕ
+waiting_count seats = count_by has_unheard seats
+
+-- A terminal is told, or it doesn't wait, and the turn took as many asks as terminals do.
+abbrev pub ToldOrRests : (taken : Option ℕ) → List TerminalSeat → (seat told : TerminalSeat)
+    → (place known : ClerkView) → Type 0
+ToldOrRests taken seats seat told place known = BothTold seat told place known
+    ⊎ ((taken ≡ Some (waiting_count seats)) × NeitherTold seat told place known)
+
+-- terminals are told after a turn that took so many asks, where that is known
+pub record AreTold (taken : Option ℕ) (seats told : List TerminalSeat)
+    (places known : List ClerkPlace) : Type 0 where
   pub count : length told ≡ length seats
   pub place_count : length known ≡ length places
-  pub each : (i : ℕ) → i < length seats
-      → BothTold (seat_at seats i) (seat_at told i) (view_at places i) (view_at known i)
+  pub each : (i : ℕ) → i < length seats → ToldOrRests taken seats
+      (seat_at seats i) (seat_at told i) (view_at places i) (view_at known i)
 
 -- what the report shows of what a terminal hears
 abbrev pub heard_line : TerminalSeat → Option Reply → List ℕ

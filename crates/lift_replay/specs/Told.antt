@@ -1,6 +1,6 @@
 -- What an ask and a turn report, and how they leave the clerk and the terminals.
 use Rattle.std.specs.Prelude.{ℕ, ◌≡◌, ◌⊎◌, ◌↔◌, ◌+◌, ◌<◌, ◌≤◌, true, false, List, [], ◌++◌, codes}
-use Rattle.std.specs.Prelude.{length, slice_set}
+use Rattle.std.specs.Prelude.{length, slice_set, Option, Some, None}
 use Rattle.lift_base.specs.declared.command.Body.{Body}
 use Rattle.lift_disk.specs.Disk.{DiskState}
 use Rattle.lift_disk.specs.Faults.{FusedDisk, fuse_state_of}
@@ -88,15 +88,15 @@ pub record HasFailedCommit (old new : ScriptClerk) : Type 0 where
   pub last_fails : LastFails (device_of old) (device_of new)
 
 -- What a turn took and accepted, or fault 1 where the device failed it, or fault 5 while the
--- journal is broken.
-abbrev pub TurnTells : (old new : ScriptClerk) → List ℕ → Type 0
-TurnTells old new text =
+-- journal is broken. After a fault it isn't said how many asks were taken.
+abbrev pub TurnTells : (old new : ScriptClerk) → (taken : Option ℕ) → List ℕ → Type 0
+TurnTells old new taken text =
     ((counts : Counts) × IsTurn IsEtdChoice old new counts × HasCommitted old new counts.accepted
-    × (text ≡ turn_text counts.taken counts.accepted))
+    × (text ≡ turn_text counts.taken counts.accepted) × (taken ≡ Some counts.taken))
     ⊎ ((IsFailedTurn IsEtdChoice old new × HasFailedCommit old new
-    × (text ≡ fault_text (codes "turn") 1))
+    × (text ≡ fault_text (codes "turn") 1) × (taken ≡ None))
     ⊎ ((old.keeper.writer.is_broken ≡ true) × IsBrokenTurn old new
-    × (text ≡ fault_text (codes "turn") 5)))
+    × (text ≡ fault_text (codes "turn") 5) × (taken ≡ None)))
 
 -- what a turn leaves as it was
 pub record KeepsPlace (old new : ScriptClerk) : Type 0 where
@@ -105,17 +105,18 @@ pub record KeepsPlace (old new : ScriptClerk) : Type 0 where
   pub fuse : (call : ℕ) → (device_of new).calls < call → (device_of new).fails_at call
       ↔ (device_of old).fails_at call
 
--- what a turn reports, and below it what each terminal hears, by rising terminal: all are told
--- before what was answered
+-- what a turn reports, and below it what each terminal hears, by rising terminal: all that wait are
+-- told before what was answered
 pub record OutcomeTells (old new : ScriptClerk) (seats after : List TerminalSeat)
     (text : List ℕ) : Type 0 where
   pub turned : ScriptClerk
   pub told : List TerminalSeat
+  pub taken : Option ℕ
   pub head : List ℕ
   pub heard : List ℕ
-  pub tells : TurnTells old turned head
+  pub tells : TurnTells old turned taken head
   pub place : KeepsPlace old turned
-  pub knows : AreTold seats told turned.seat new.seat
+  pub knows : AreTold taken seats told turned.seat new.seat
   pub rest : KeepsKeeper turned new
   pub hear : AllHear told after heard
   pub shown : text ≡ head ++ heard

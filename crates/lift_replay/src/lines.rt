@@ -64,9 +64,14 @@ fn push_ask(
     }
 }
 
-/// One turn, and what it took and added, or its fault.
-fn push_taken(report: &mut String, clerk: &mut Clerk<'_, '_, FuseDisk, Etd>) -> Result<(), NoMemory>
-    ensures tells { OnOk result ((told : List ℕ) × TurnTells clerk.old clerk.new told
+/// One turn, and what it took and added, or its fault. The answer is how many asks it took, none after
+/// a fault.
+fn push_taken(
+    report: &mut String,
+    clerk: &mut Clerk<'_, '_, FuseDisk, Etd>,
+) -> Result<Option<usize>, NoMemory>
+    ensures tells { IfOk result (λ taken. (told : List ℕ)
+        × TurnTells clerk.old clerk.new taken told
         × (string_bytes report.new ≡ string_bytes report.old ++ told)) }
     ensures desk { clerk.new.desk ≡ clerk.old.desk }
     ensures plan { clerk.new.keeper.writer.plan ≡ clerk.old.keeper.writer.plan }
@@ -74,8 +79,14 @@ fn push_taken(report: &mut String, clerk: &mut Clerk<'_, '_, FuseDisk, Etd>) -> 
     ensures seated { IsClerkOf clerk.new.desk clerk.new.seat }
 {
     match clerk.turn() {
-        Ok(counts) => push_turn(report, counts.taken, counts.accepted),
-        Err(fault) => push_fault(report, "turn", fault.number()),
+        Ok(counts) => {
+            push_turn(report, counts.taken, counts.accepted)?;
+            Ok(Some(counts.taken))
+        }
+        Err(fault) => {
+            push_fault(report, "turn", fault.number())?;
+            Ok(None)
+        }
     }
 }
 
@@ -87,8 +98,10 @@ fn push_turn_of(report: &mut String, station: &mut Station) -> Result<(), NoMemo
         × (string_bytes report.new ≡ string_bytes report.old ++ told)) }
     ensures building { station.new.building ≡ station.old.building }
 {
-    push_taken(report, &mut station.clerk)?;
-    station.terminals.push_all_told(report, &mut station.clerk)
+    let taken = push_taken(report, &mut station.clerk)?;
+    station
+        .terminals
+        .push_all_told(report, &mut station.clerk, taken)
 }
 
 /// Carries out a line. The answer is what ends the lines at this desk, if it does.

@@ -1,7 +1,7 @@
 //! The terminals' seats at a desk: what they ask, and what they hear.
 
 ghost use Rattle.std.specs.Prelude.{◌≡◌, ◌<◌, ◌++◌, ◌↔◌, List, ℕ, length, slice_set, string_bytes};
-ghost use Rattle.std.specs.Prelude.{OnOk, OnErr};
+ghost use Rattle.std.specs.Prelude.{OnOk, OnErr, IsTrue};
 ghost use Rattle.lift_desk.specs.Rule.{IsInOrder};
 ghost use Rattle.lift_desk.specs.Seats.{AreSeatsOf, IsClerkOf, TerminalSeat, Waits, seats_from};
 ghost use Rattle.lift_desk.specs.Seats.{view_at};
@@ -9,7 +9,7 @@ ghost use Rattle.lift_desk.specs.Spelled.{IsAsk};
 ghost use Rattle.lift_desk.specs.Steps.{lists_of};
 ghost use Rattle.lift_clerk.specs.Clerk.{IsToldAt};
 ghost use Rattle.lift_replay.specs.Terminals.{AreTerminalsOf, AllHear, AreTold, Hears};
-ghost use Rattle.lift_replay.specs.Terminals.{having_asked, seat_at, told_seat};
+ghost use Rattle.lift_replay.specs.Terminals.{having_asked, seat_at, told_seat, waiting_count};
 
 use crate::refused::NoMemory;
 use crate::report::push_heard;
@@ -97,24 +97,52 @@ impl<'d> Terminals<'d> {
         push_heard(report, seat.terminal(), number, reply)
     }
 
-    /// The clerk is told what each terminal has asked so far, and each terminal what was answered
-    /// there so far. By rising terminal those that wait look for it, and the report shows what each
-    /// hears.
+    /// Whether the terminal's last ask has not been heard.
+    #[inline(always)]
+    fn waits_at(&self, index: usize) -> bool
+        requires { index < length self.now.seats.items }
+        ensures { IsTrue result ↔ Waits (seat_at self.now.seats.items index).view }
+    {
+        self.seats[index].pending().is_some()
+    }
+
+    /// How many terminals wait for an answer.
+    fn count_waiting(&self) -> usize
+        ensures { result ≡ waiting_count self.now.seats.items }
+    {
+        let mut waiting = 0;
+        for seat in &self.seats {
+            if seat.pending().is_some() {
+                waiting += 1;
+            }
+        }
+        waiting
+    }
+
+    /// After a turn, which took so many asks where that is known, the clerk is told what each terminal
+    /// has asked so far, and each terminal what was answered there so far. By rising terminal those
+    /// that wait look for it, and the report shows what each hears. Where it took as many as
+    /// terminals wait, it took just theirs: the others have nothing to hear, and are told nothing.
     pub fn push_all_told(
         &mut self,
         report: &mut String,
         clerk: &mut Clerk<'_, '_, FuseDisk, Etd>,
+        taken: Option<usize>,
     ) -> Result<(), NoMemory>
         requires desk { clerk.old.desk ≡ self.old.desk.now }
         requires places { length clerk.old.seat ≡ length self.old.seats.items }
         ensures hears { OnOk result ((told : List TerminalSeat) × (lines : List ℕ)
-            × AreTold self.old.seats.items told clerk.old.seat clerk.new.seat
+            × AreTold taken self.old.seats.items told clerk.old.seat clerk.new.seat
             × AllHear told self.new.seats.items lines
             × (string_bytes report.new ≡ string_bytes report.old ++ lines)) }
         ensures rest { clerk.new ≡ record clerk.old { seat = clerk.new.seat } }
         ensures desk { self.new.desk ≡ self.old.desk }
     {
+        let waiting_alone = taken == Some(self.count_waiting());
         for terminal in 0..self.desk.len() {
+            if waiting_alone && !self.waits_at(terminal) {
+                continue;
+            }
             self.tell(clerk, terminal);
             self.push_heard_at(report, terminal)?;
         }

@@ -6,11 +6,11 @@ use Rattle.lift_keeper.specs.declared.fault.KeeperFault.TheVariants.{Journal}
 use Rattle.lift_keeper.specs.lemmas.Committed.{safe_register}
 use Rattle.lift_replay.specs.Told.{HasCommitted}
 use Rattle.lift_replay.specs.Report.{fault_text, turn_text}
-use Rattle.lift_replay.proofs.Told.{fault_tells, is_whole, on_ok}
+use Rattle.lift_replay.proofs.Told.{fault_tells, is_whole}
 use Rattle.lift_replay.proofs.lines.push_taken.Goals as goal
 
-pub returns-in-Ok-clause-tells : goal.returns-in-Ok-clause-tells
-returns-in-Ok-clause-tells c =
+pub returns-in_ok-push_turn-in-Ok-clause-tells : goal.returns-in_ok-push_turn-in-Ok-clause-tells
+returns-in_ok-push_turn-in-Ok-clause-tells c =
     let before = c.args.clerk.now in
     let after = c.turn.new.self in
     let old = before.keeper.writer in
@@ -26,10 +26,10 @@ returns-in-Ok-clause-tells c =
       second = made.second;
       none_fails = made.none_fails (λ is. cc);
     } in
-    on_ok c.push_turn.result (λ pushed. (turn_text counts.taken counts.accepted, inl (counts, c.in-Ok.ensures.turns, committed, refl), pushed)) c.push_turn.ensures
+    (turn_text counts.taken counts.accepted, inl (counts, c.in-Ok.ensures.turns, committed, refl, refl), c.in_ok-push_turn-in-Ok.ensures)
 
-pub returns-in-Err-clause-tells : goal.returns-in-Err-clause-tells
-returns-in-Err-clause-tells c =
+pub returns-in_ok-push_fault-in-Err-clause-tells : goal.returns-in_ok-push_fault-in-Err-clause-tells
+returns-in_ok-push_fault-in-Err-clause-tells c =
     let before = c.args.clerk.now in
     let after = c.turn.new.self in
     let old = before.keeper.writer in
@@ -48,4 +48,4 @@ returns-in-Err-clause-tells c =
       last_fails = c.turn.ensures.calls.last_fails failed;
     })
     (λ broken. t.is.broken.0 (c.in-Err.is ∙ ap Err broken)) c.turn.ensures.rests in
-    on_ok c.push_fault.result (λ pushed. (fault_text (codes "turn") c.number.result, tells, pushed)) c.push_fault.ensures
+    (fault_text (codes "turn") c.number.result, tells, c.in_ok-push_fault-in-Err.ensures)

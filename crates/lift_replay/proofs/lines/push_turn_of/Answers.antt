@@ -6,11 +6,12 @@ use Rattle.lift_replay.proofs.lines.push_turn_of.Goals as goal
 
 pub returns-clause-outcome : goal.returns-clause-outcome
 returns-clause-outcome c =
-    let taken = c.in_ok-push_taken.ensures.tells in
+    let taken = c.in_ok-taken.ensures.tells in
     on_ok c.push_all_told.result (λ heard.
     let outcome : OutcomeTells c.args.station.now.clerk c.push_all_told.new.clerk c.args.station.now.terminals.seats.items c.push_all_told.new.self.seats.items (taken.0 ++ heard.1) = record {
       turned = c.push_taken.new.clerk;
       told = heard.0;
+      taken = c.in_ok-taken.taken;
       head = taken.0;
       heard = heard.1;
       tells = taken.1;
