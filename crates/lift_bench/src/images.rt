@@ -37,7 +37,10 @@ fn stops(count: usize) -> ArrayVec<Record, MOST_ENTRIES>
     batch
 }
 
-fn journal_at<O: FileOpener>(opener: O, image: &str) -> Result<Journal<FileDisk<O::Told>>, Fault> {
+fn journal_at<O: FileOpener>(
+    opener: O,
+    image: &str,
+) -> Result<Journal<FileDisk<O::Listed>>, Fault> {
     let disk = FileDisk::open(opener, image)?;
     match Journal::open(disk) {
         Ok(journal) => Ok(journal),

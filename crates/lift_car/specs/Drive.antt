@@ -68,13 +68,13 @@ HaltsBeside view halts before seen after =
     (port : _) × (view port ≡ seen) × halts before port after
 
 -- It goes to this stop, once, and halts there while its port is so; or it stays.
-abbrev pub GoesToStop : {C : Type 0} → (told : C → Position) → (goes : C → StopAt → C → Type 0)
+abbrev pub GoesToStop : {C : Type 0} → (stands : C → Position) → (goes : C → StopAt → C → Type 0)
     → (halts : C → PortView → C → Type 0)
     → (before : C) → Option StopAt → PortView → (after : C) → Type 0
-GoesToStop told goes halts before None port after = after ≡ before
-GoesToStop told goes halts before (Some stop) port after =
+GoesToStop stands goes halts before None port after = after ≡ before
+GoesToStop stands goes halts before (Some stop) port after =
     (there : _) × goes before stop there × halts there port after
-    × (told after ≡ position_at stop)
+    × (stands after ≡ position_at stop)
 
 -- Where no stop was heard the port rests once.
 abbrev pub RestsWithoutStop : Option StopAt → (before after : PortView) → Type 0
@@ -98,45 +98,45 @@ EndsWith (Refused reason) end = end ≡ EndRefused reason
 EndsWith Unknown end = end ≡ EndUnknown
 
 -- It asks, hears this answer, and goes to the answer's stop before anything else is asked, or rests.
-pub record Errand {C : Type 0} (told : C → Position) (goes : C → StopAt → C
+pub record Errand {C : Type 0} (stands : C → Position) (goes : C → StopAt → C
     → Type 0) (halts : C → PortView → C
     → Type 0) (looks : ℕ) (reply : Reply) (before after : Standing C) : Type 0 where
   pub room : before.arrived ≡ true → before.last < 16777215
   pub answered : PortView
   pub port : PortDid looks before.port
-      (Answered (ask_at before.arrived before.last (told before.car)) reply) answered
+      (Answered (ask_at before.arrived before.last (stands before.car)) reply) answered
   pub rests : RestsWithoutStop (stop_in reply) answered after.port
   pub last : after.last ≡ last_after before.last
-      (ask_at before.arrived before.last (told before.car)).number reply
-  pub moves : GoesToStop told goes halts before.car (stop_in reply) answered after.car
+      (ask_at before.arrived before.last (stands before.car)).number reply
+  pub moves : GoesToStop stands goes halts before.car (stop_in reply) answered after.car
   pub arrived : after.arrived ≡ has_stop (stop_in reply)
 
 -- one errand after another
-abbrev pub DoesErrands : {C : Type 0} → (told : C → Position) → (goes : C → StopAt → C → Type 0)
+abbrev pub DoesErrands : {C : Type 0} → (stands : C → Position) → (goes : C → StopAt → C → Type 0)
     → (halts : C → PortView → C → Type 0)
     → (looks : ℕ) → List Reply → Standing C → Standing C → Type 0
-DoesErrands told goes halts looks [] before after = after ≡ before
-DoesErrands told goes halts looks (reply ∷ replies) before after =
-    (mid : Standing _) × Errand told goes halts looks reply before mid × GoesOn reply
-    × DoesErrands told goes halts looks replies mid after
+DoesErrands stands goes halts looks [] before after = after ≡ before
+DoesErrands stands goes halts looks (reply ∷ replies) before after =
+    (mid : Standing _) × Errand stands goes halts looks reply before mid × GoesOn reply
+    × DoesErrands stands goes halts looks replies mid after
 
 -- Why it asks no more, or what came of its last ask; the car stays.
-abbrev pub LastAsk : {C : Type 0} → (told : C → Position) → (looks : ℕ) → Ending
+abbrev pub LastAsk : {C : Type 0} → (stands : C → Position) → (looks : ℕ) → Ending
     → (before after : Standing C) → Type 0
-LastAsk told looks Limit before after = (before.arrived ≡ true) × (before.last ≡ 16777215)
+LastAsk stands looks Limit before after = (before.arrived ≡ true) × (before.last ≡ 16777215)
     × (after.port ≡ before.port)
-LastAsk told looks Late before after =
-    PortDid looks before.port (NotAnswered (ask_at before.arrived before.last (told before.car)))
+LastAsk stands looks Late before after =
+    PortDid looks before.port (NotAnswered (ask_at before.arrived before.last (stands before.car)))
     after.port
-LastAsk told looks Spent before after =
-    PortDid looks before.port (NotTaken (ask_at before.arrived before.last (told before.car)))
+LastAsk stands looks Spent before after =
+    PortDid looks before.port (NotTaken (ask_at before.arrived before.last (stands before.car)))
     after.port
-LastAsk told looks (EndRefused reason) before after =
+LastAsk stands looks (EndRefused reason) before after =
     PortDid looks before.port
-    (Answered (ask_at before.arrived before.last (told before.car)) (Refused reason)) after.port
-LastAsk told looks EndUnknown before after =
+    (Answered (ask_at before.arrived before.last (stands before.car)) (Refused reason)) after.port
+LastAsk stands looks EndUnknown before after =
     PortDid looks before.port
-    (Answered (ask_at before.arrived before.last (told before.car)) Unknown) after.port
+    (Answered (ask_at before.arrived before.last (stands before.car)) Unknown) after.port
 
 -- the last command follows an answer that is brought in, too
 abbrev pub last_opened : ℕ → Opening → ℕ
@@ -154,15 +154,15 @@ last_stop [] = None
 last_stop (reply ∷ replies) = later_stop (last_stop replies) (stop_in reply)
 
 -- the car says that it is at this stop, or it is where it was
-abbrev pub TellsStop : {C : Type 0} → (told : C → Position) → (before : C) → Option StopAt
+abbrev pub TellsStop : {C : Type 0} → (stands : C → Position) → (before : C) → Option StopAt
     → (after : C)
     → Type 0
-TellsStop told before None after = after ≡ before
-TellsStop told before (Some stop) after = told after ≡ position_at stop
+TellsStop stands before None after = after ≡ before
+TellsStop stands before (Some stop) after = stands after ≡ position_at stop
 
 -- A drive that brought an earlier answer in, if one was pending: it heard these answers to its own
 -- asks, and ended since it may ask no more, or by its last ask.
-pub record Drives {C : Type 0} (told : C → Position) (goes : C → StopAt → C
+pub record Drives {C : Type 0} (stands : C → Position) (goes : C → StopAt → C
     → Type 0) (halts : C → PortView → C → Type 0) (limits : Limits) (end : Ending) (before after : Standing C) : Type 0 where
   pub opening : Opening
   pub begun : Standing C
@@ -173,12 +173,12 @@ pub record Drives {C : Type 0} (told : C → Position) (goes : C → StopAt → 
   pub first : begun.last ≡ last_opened before.last opening
   pub placing : begun.arrived ≡ false
   pub parked : begun.car ≡ before.car
-  pub runs : DoesErrands told goes halts limits.looks replies begun stood
+  pub runs : DoesErrands stands goes halts limits.looks replies begun stood
   pub ends : ((length replies ≡ limits.lines) × (end ≡ Limit) × (after ≡ stood))
-      ⊎ ((length replies < limits.lines) × LastAsk told limits.looks end stood after)
+      ⊎ ((length replies < limits.lines) × LastAsk stands limits.looks end stood after)
   pub number : after.last ≡ stood.last
   pub stays : after.car ≡ stood.car
-  pub tells : TellsStop told before.car (last_stop replies) after.car
+  pub tells : TellsStop stands before.car (last_stop replies) after.car
 
 -- The answer to an earlier ask was not heard.
 pub record WaitsStill {C : Type 0} (limits : Limits) (end : Ending)
@@ -188,7 +188,7 @@ pub record WaitsStill {C : Type 0} (limits : Limits) (end : Ending)
   pub number : after.last ≡ before.last
   pub stays : after.car ≡ before.car
 
-abbrev pub IsDrive : {C : Type 0} → (told : C → Position) → (goes : C → StopAt → C → Type 0)
+abbrev pub IsDrive : {C : Type 0} → (stands : C → Position) → (goes : C → StopAt → C → Type 0)
     → (halts : C → PortView → C → Type 0) → Limits → Ending → (before after : Standing C) → Type 0
-IsDrive told goes halts limits end before after = WaitsStill limits end before after
-    ⊎ Drives told goes halts limits end before after
+IsDrive stands goes halts limits end before after = WaitsStill limits end before after
+    ⊎ Drives stands goes halts limits end before after

@@ -10,18 +10,18 @@ use lift_base::{Position, Stop};
 /// A car that says where it is, and goes to a stop.
 pub trait Car {
     // where it says that it is
-    ghost told: { Self → PositionValue };
+    ghost stands: { Self → PositionValue };
 
     // going to a stop takes it from one state to another
     ghost goes: { Self → StopValue → Self → Type 0 };
 
     /// The next floor at which it can still stop, and its direction.
     fn tell(&self) -> Position
-        ensures { result ≡ told self.now };
+        ensures { result ≡ stands self.now };
 
     /// Goes to the stop. It then says that floor and direction.
     fn go(&mut self, stop: Stop)
-        ensures arrives { told self.new ≡ position_at stop }
+        ensures arrives { stands self.new ≡ position_at stop }
         ensures goes { goes self.old stop self.new };
 }
 
@@ -34,7 +34,7 @@ pub trait Halts<P>: Car {
     /// is asked once the car has been there. The car then tells what it told before.
     fn halt(&mut self, port: &P)
         ensures halts { halts self.old port.now self.new }
-        ensures told { Self.told self.new ≡ Self.told self.old };
+        ensures stands { Self.stands self.new ≡ Self.stands self.old };
 }
 
 /// A car that is at once where it is sent.
@@ -46,7 +46,7 @@ pub struct ModelCar {
 impl Car for ModelCar {
     ghost use Rattle.lift_car.specs.Model.{position_of_car, IsSentTo};
 
-    ghost told = { position_of_car };
+    ghost stands = { position_of_car };
 
     ghost goes = { IsSentTo };
 

@@ -78,7 +78,7 @@ fn stop_of(reply: &Reply) -> Result<Option<Stop>, Ending>
 
 /// Goes to a stop that was heard, and halts there; rests where none was.
 fn move_on<C: Halts<P>, P: Port>(car: &mut C, port: &mut P, stop: &Option<Stop>)
-    ensures moves { GoesToStop C.told C.goes (HaltsBeside P.view C.halts) car.old stop.now (P.view port.old) car.new }
+    ensures moves { GoesToStop C.stands C.goes (HaltsBeside P.view C.halts) car.old stop.now (P.view port.old) car.new }
     ensures rests { RestsWithoutStop stop.now (P.view port.old) (P.view port.new) }
     ensures pending { (P.view port.new).pending ≡ (P.view port.old).pending }
     ensures stays { P.place port.new ≡ P.place port.old }
@@ -101,10 +101,10 @@ fn errand<C: Halts<P>, P: Port>(
     looks: u32,
 ) -> Result<(), Ending>
     requires free { (P.view port.old).pending ≡ None }
-    ensures ok { OnOk result ((reply : ReplyValue) × GoesOn reply × Errand C.told C.goes (HaltsBeside P.view C.halts) looks reply
+    ensures ok { OnOk result ((reply : ReplyValue) × GoesOn reply × Errand C.stands C.goes (HaltsBeside P.view C.halts) looks reply
         (standing last.old arrived.old (P.view port.old) car.old)
         (standing last.new arrived.new (P.view port.new) car.new)) }
-    ensures end { IfErr result (λ end. LastAsk C.told looks end
+    ensures end { IfErr result (λ end. LastAsk C.stands looks end
         (standing last.old arrived.old (P.view port.old) car.old)
         (standing last.new arrived.new (P.view port.new) car.new)) }
     ensures number { IfErr result (λ _. last.new ≡ last.old) }
@@ -140,7 +140,7 @@ pub fn drive<C: Halts<P>, P: Port>(
     last: Number,
     limits: Limits,
 ) -> DriveEnd
-    ensures drive { (arrived : Bool) × IsDrive C.told C.goes (HaltsBeside P.view C.halts) limits result.end
+    ensures drive { (arrived : Bool) × IsDrive C.stands C.goes (HaltsBeside P.view C.halts) limits result.end
         (standing last false (P.view port.old) car.old)
         (standing result.last arrived (P.view port.new) car.new) }
     ensures stays { P.place port.new ≡ P.place port.old }

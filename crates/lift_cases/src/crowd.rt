@@ -77,7 +77,7 @@ fn ask_next(decider: &mut Decider, terminal: Terminal, body: &Body) -> Reply {
 }
 
 /// Where a car is after what it told, if anything.
-fn told(reply: &Reply, body: &Body) -> Option<Position> {
+fn stood_by(reply: &Reply, body: &Body) -> Option<Position> {
     match reply {
         Reply::Stopped(_) | Reply::Placed(_) => match *body {
             Body::Stop(floor, dir) | Body::Place(floor, dir) => Some(Position { floor, dir }),
@@ -137,7 +137,7 @@ pub(crate) fn are_commands_as_from_nothing(decider: &mut Decider, count: u32, se
     for _ in 0..count {
         let (terminal, body) = next_command(&mut seed, decider);
         let reply = ask_next(decider, terminal, &body);
-        if let Some(position) = told(&reply, &body) {
+        if let Some(position) = stood_by(&reply, &body) {
             match positions.get_mut(usize::from(terminal.get())) {
                 Some(place) => *place = Some(position),
                 None => return false,

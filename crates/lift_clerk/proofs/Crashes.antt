@@ -19,7 +19,7 @@ use Rattle.lift_world.specs.declared.event.Kept.{Kept}
 use Rattle.lift_world.specs.declared.event.Kept.TheVariants.{Safe, WithBatch}
 use Rattle.lift_world.specs.declared.event.Phase.TheVariants.{GateWritten}
 use Rattle.lift_world.specs.declared.event.Taken.{Taken}
-use Rattle.lift_world.specs.World.{World, state_of, safe_list, batch_in_flight, may_keep, outcome, acknowledged, told_in, asks}
+use Rattle.lift_world.specs.World.{World, state_of, safe_list, batch_in_flight, may_keep, outcome, acknowledged, acknowledged_in, asks}
 use Rattle.lift_world.specs.Next.{goes, sectors_for_body}
 use Rattle.lift_world.specs.Asking.{asked_on}
 use Rattle.lift_world.specs.Headline.{IsHeld, IsOfBuilding, StillNames, RecoversAcknowledged, RecoversLetters}
@@ -188,8 +188,8 @@ cuts_at laws w clerk waits left m (inr a) agrees =
 -- the image shows each entry that was acknowledged, and each letter
 pub record ShowsGiven (plan : Plan) (base : RegisterState) (entries : List Entry) (given : List Taken) (left : Image) : Type 0 where
   pub reads : IsImageOf plan (register_of base entries) left
-  pub holds : All (IsHeld base entries) (flat_map (told_in plan) given)
-  pub letters : All (StillNames base entries) (flat_map (told_in plan) given)
+  pub holds : All (IsHeld base entries) (flat_map (acknowledged_in plan) given)
+  pub letters : All (StillNames base entries) (flat_map (acknowledged_in plan) given)
 
 pub cuts_show_letters : Laws → (w : World) (entries : List Entry) (left : Image) → IsBuilding w.building → IsOfBuilding w.building w.base → IsReached w → IsKept w entries left
     → ShowsGiven w.building w.base entries w.given left

@@ -94,13 +94,13 @@ module _ {D : Type 0} (laws : Laws) where
           let k = unknowns_are_broken_turns laws r.world before after t r.shows (agree t.commands) in
           go_on _ _ (λ (xs : List Entry). xs) k.1 (ap (λ x. x.plan) t.rests)
 
-      nothing_more : (told : List Taken) → IsRunOf base after safe told → IsRunOf base after (safe ++ []) told
-      nothing_more told k = subst (λ (es : List Entry). IsRunOf base after es told) (sym (append-nil safe)) k
+      nothing_more : (replied : List Taken) → IsRunOf base after safe replied → IsRunOf base after (safe ++ []) replied
+      nothing_more replied k = subst (λ (es : List Entry). IsRunOf base after es replied) (sym (append-nil safe)) k
 
-      any_run : (fails : Bool) (batch more : List Entry) (told : List Taken) → TurnAdds before after fails batch more told → IsRunOf base after (safe ++ more) (given ++ told)
-      any_run fails batch more told (Safe t) = turn_run t
-      any_run fails batch more told (InDoubt t) = nothing_more _ (failure_run t)
-      any_run fails batch more told (Unknown t) = nothing_more _ (broken_run t)
+      any_run : (fails : Bool) (batch more : List Entry) (replied : List Taken) → TurnAdds before after fails batch more replied → IsRunOf base after (safe ++ more) (given ++ replied)
+      any_run fails batch more replied (Safe t) = turn_run t
+      any_run fails batch more replied (InDoubt t) = nothing_more _ (failure_run t)
+      any_run fails batch more replied (Unknown t) = nothing_more _ (broken_run t)
 
       reopening_run : (o : ClerkReopens before after) → IsRunOf base after (kept_after safe before.keeper.writer.doubt o.one_of) given
       reopening_run o =

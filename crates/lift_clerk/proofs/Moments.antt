@@ -80,12 +80,12 @@ module _ {D P : Type 0} (state : D → DiskState) (law : CrashesKeep D) (before 
   abbrev last : DiskState
   last = state after.keeper.writer.device
 
-  advances : (batch more : List Entry) (told : List Taken) (base : RegisterState) (safe : List Entry) (given : List Taken) → MayAdd before.keeper batch → LeavesOnly first last (IsInDoubt its was batch)
-      → History base (group_of before) safe given → History base (group_of after) (safe ++ more) (given ++ told) → AdvancesFrom base (group_of before) safe given (group_of after) batch more told first last
-  advances batch more told base safe given may moments h k = record {
+  advances : (batch more : List Entry) (replied : List Taken) (base : RegisterState) (safe : List Entry) (given : List Taken) → MayAdd before.keeper batch → LeavesOnly first last (IsInDoubt its was batch)
+      → History base (group_of before) safe given → History base (group_of after) (safe ++ more) (given ++ replied) → AdvancesFrom base (group_of before) safe given (group_of after) batch more replied first last
+  advances batch more replied base safe given may moments h k = record {
     history = k;
     stands = moments_stand law (group_of before) batch may first last moments base safe given h;
-    now = kept_now law base (group_of after) (safe ++ more) (given ++ told) k last leaves;
+    now = kept_now law base (group_of after) (safe ++ more) (given ++ replied) k last leaves;
   }
 
   -- the batch of a turn that fails first is the one that it leaves in doubt
@@ -96,20 +96,20 @@ module _ {D P : Type 0} (state : D → DiskState) (law : CrashesKeep D) (before 
       ⊎_elim (λ (is : fault ≡ Journal Disk). c.doubts (ap (λ (x : KeeperFault). Err x) is))
       (λ (is : fault ≡ Journal Broken). not_both before.keeper.writer.is_broken whole (c.broken.0 (ap (λ (x : KeeperFault). Err x) is))) c.causes
 
-  turn_goes_on : (fails : Bool) → is_err result ≡ fails → (batch more : List Entry) (told : List Taken) → TurnAdds (group_of before) (group_of after) fails batch more told
+  turn_goes_on : (fails : Bool) → is_err result ≡ fails → (batch more : List Entry) (replied : List Taken) → TurnAdds (group_of before) (group_of after) fails batch more replied
       → (base : RegisterState) (safe : List Entry) (given : List Taken) → History base (group_of before) safe given
-      → AdvancesFrom base (group_of before) safe given (group_of after) batch more told first last
-  turn_goes_on fails is batch more told (Safe t) base safe given h =
+      → AdvancesFrom base (group_of before) safe given (group_of after) batch more replied first last
+  turn_goes_on fails is batch more replied (Safe t) base safe given h =
       advances _ _ _ base safe given
       (inr (t.decides, refl))
       (moment_of state before.keeper.writer (batch_size result after.keeper) after.keeper.state.register after.keeper.writer result commits t.decides.was_whole t.decides.decided.batch
       (ap (λ (x : State). x.register) t.state ∙ t.decides.shows))
       h (Turned h (Safe t))
-  turn_goes_on fails is batch more told (InDoubt t) base safe given h =
+  turn_goes_on fails is batch more replied (InDoubt t) base safe given h =
       advances _ _ _ base safe given (inr t.may)
       (subst (λ (es : List Entry). LeavesOnly first last (IsInDoubt its was es)) (sym (fails_with result commits.is t.may.0.was_whole is)) (commits.is.safe.any_moment t.may.0.was_whole))
       h (Turned h (InDoubt t))
-  turn_goes_on fails is batch more told (Unknown t) base safe given h =
+  turn_goes_on fails is batch more replied (Unknown t) base safe given h =
       advances _ _ _ base safe given (inl refl) (commits.is.safe.while_broken t.was_broken) h (Turned h (Unknown t))
 
   pub turn_advances : (choice : Choice) → RunsAreAny choice → TurnsOnce state choice before after result → TurnAdvances state before after result

@@ -24,7 +24,7 @@ use Rattle.lift_clerk.specs.declared.counts.Counts.{Counts}
 use Rattle.lift_clerk.specs.declared.answering.DueAnswer.{DueAnswer}
 use Rattle.lift_clerk.specs.Visits.{Visit, commands_of, LooksAndAnswers}
 use Rattle.lift_clerk.specs.Clerk.{ClerkState}
-use Rattle.lift_clerk.specs.Answering.{AreOwed, terminals_in, replies_in, replies_told, with_answers}
+use Rattle.lift_clerk.specs.Answering.{AreOwed, terminals_in, replies_in, stored_replies, with_answers}
 use Rattle.lift_clerk.specs.Scanning.{ClerkScans, Decides}
 use Rattle.lift_clerk.specs.Turn.{without_batch, IsTurn, IsFailedTurn, IsBrokenTurn}
 use Rattle.lift_clerk.specs.lemmas.Stored.{scan-answered, scan-owed}
@@ -40,8 +40,8 @@ owes_all desk choice places seat before after answers seated all =
 
 -- each look is answered
 pub serves_all : {D : Type 0} (desk : List TableId) (choice : Choice) (places seat next : List ClerkPlace) (before after : KeeperView D) (answers : List DueAnswer) (is_safe : Bool) → IsClerkOf desk places
-    → (all : ClerkScans choice desk places seat before after answers (length desk)) → next ≡ with_answers is_safe seat answers → All IsReply (replies_told is_safe answers)
-    → LooksAndAnswers places next all.scans.visits (replies_told is_safe answers)
+    → (all : ClerkScans choice desk places seat before after answers (length desk)) → next ≡ with_answers is_safe seat answers → All IsReply (stored_replies is_safe answers)
+    → LooksAndAnswers places next all.scans.visits (stored_replies is_safe answers)
 serves_all desk choice places seat next before after answers is_safe seated all is in_range = record {
   each_once = all.scans.count ∙ sym (ap length seated) ∙ length-map places (λ (p : ClerkPlace). p.table);
   finds = all.scans.looks;
@@ -83,7 +83,7 @@ nothing_waits batch is_broken empty_batch whole = ⊎_elim (λ none. none) (λ b
 pub good_turn : {D P : Type 0} (desk : List TableId) (choice : Choice) (old new : ClerkState D P) (seat : List ClerkPlace) (between : KeeperView D) (answers : List DueAnswer) (counts : Counts)
     → IsClerkOf desk old.seat
     → (all : ClerkScans choice desk old.seat seat old.keeper between answers (length desk))
-    → new.seat ≡ with_answers true seat answers → All IsReply (replies_told true answers) → new.desk ≡ old.desk
+    → new.seat ≡ with_answers true seat answers → All IsReply (stored_replies true answers) → new.desk ≡ old.desk
     → (old.keeper.state.batch ≡ []) ⊎ (old.keeper.writer.is_broken ≡ true)
     → old.keeper.writer.is_broken ≡ false
     → new.keeper.state ≡ without_batch between.state
@@ -111,7 +111,7 @@ good_turn desk choice old new seat between answers counts seated all stored in_r
 pub failed_turn : {D P : Type 0} (desk : List TableId) (choice : Choice) (old new : ClerkState D P) (seat : List ClerkPlace) (between : KeeperView D) (answers : List DueAnswer)
     → IsClerkOf desk old.seat
     → (all : ClerkScans choice desk old.seat seat old.keeper between answers (length desk))
-    → new.seat ≡ with_answers false seat answers → All IsReply (replies_told false answers) → new.desk ≡ old.desk
+    → new.seat ≡ with_answers false seat answers → All IsReply (stored_replies false answers) → new.desk ≡ old.desk
     → (old.keeper.state.batch ≡ []) ⊎ (old.keeper.writer.is_broken ≡ true)
     → old.keeper.writer.is_broken ≡ false
     → new.keeper.state ≡ between.state
@@ -139,7 +139,7 @@ failed_turn desk choice old new seat between answers seated all stored in_range 
 pub broken_turn : {D P : Type 0} (desk : List TableId) (choice : Choice) (old new : ClerkState D P) (seat : List ClerkPlace) (between : KeeperView D) (answers : List DueAnswer)
     → IsClerkOf desk old.seat
     → (all : ClerkScans choice desk old.seat seat old.keeper between answers (length desk))
-    → new.seat ≡ with_answers false seat answers → All IsReply (replies_told false answers) → new.desk ≡ old.desk
+    → new.seat ≡ with_answers false seat answers → All IsReply (stored_replies false answers) → new.desk ≡ old.desk
     → old.keeper.writer.is_broken ≡ true
     → new.keeper ≡ between
     → IsBrokenTurn old new

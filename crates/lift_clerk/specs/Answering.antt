@@ -17,11 +17,11 @@ abbrev pub replies_in : List DueAnswer → List Reply
 replies_in answers = map (λ (a : DueAnswer). a.reply) answers
 
 -- what is answered: what was decided where it is safe, else Unknown
-abbrev pub reply_told : Bool → Reply → Reply
-reply_told is_safe reply = if is_safe then reply else Unknown
+abbrev pub stored_reply : Bool → Reply → Reply
+stored_reply is_safe reply = if is_safe then reply else Unknown
 
-abbrev pub replies_told : Bool → List DueAnswer → List Reply
-replies_told is_safe answers = map (λ (a : DueAnswer). reply_told is_safe a.reply) answers
+abbrev pub stored_replies : Bool → List DueAnswer → List Reply
+stored_replies is_safe answers = map (λ (a : DueAnswer). stored_reply is_safe a.reply) answers
 
 -- each of these terminals of the desk is owed an answer, and none of them stands twice
 abbrev pub AreOwed : List TableId → List ClerkPlace → List ℕ → Type 0
@@ -39,4 +39,4 @@ with_reply_to_last view reply =
 abbrev pub with_answers : Bool → List ClerkPlace → List DueAnswer → List ClerkPlace
 with_answers is_safe places [] = places
 with_answers is_safe places (a ∷ answers) = with_answers is_safe (clerk_with places a.terminal
-    (with_reply_to_last (view_at places a.terminal) (reply_told is_safe a.reply))) answers
+    (with_reply_to_last (view_at places a.terminal) (stored_reply is_safe a.reply))) answers

@@ -35,9 +35,9 @@ pub data History {D : Type 0} (base : RegisterState) : GroupState D → List Ent
       → IsOfBuilding group.keeper.writer.plan base → IsNewClerk group
       → group.keeper.writer.register ≡ base → History base group [] []
   -- A turn adds to what is safe and to what was answered, whether it fails or not.
-  Turned : {before after : GroupState D} {safe batch more : List Entry} {given told : List Taken}
-      {fails : Bool} → History base before safe given → TurnAdds before after fails batch more told
-      → History base after (safe ++ more) (given ++ told)
+  Turned : {before after : GroupState D} {safe batch more : List Entry} {given replied : List Taken}
+      {fails : Bool} → History base before safe given → TurnAdds before after fails batch more replied
+      → History base after (safe ++ more) (given ++ replied)
   -- A reopening keeps what was safe, or that and the batch in doubt.
   Reopened : {before after : GroupState D} {safe : List Entry} {given : List Taken}
       → History base before safe given → (r : ClerkReopens before after)

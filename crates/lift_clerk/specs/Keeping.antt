@@ -9,7 +9,7 @@ use Rattle.lift_register.specs.Register.{RegisterState, register_of}
 use Rattle.lift_keeper.specs.Images.{IsImageOf, IsInDoubt}
 use Rattle.lift_keeper.specs.Writer.{WriterView}
 use Rattle.lift_world.specs.declared.event.Taken.{Taken}
-use Rattle.lift_world.specs.World.{told_in}
+use Rattle.lift_world.specs.World.{acknowledged_in}
 use Rattle.lift_world.specs.Headline.{IsHeld, StillNames}
 use Rattle.lift_clerk.specs.Steps.{GroupState, MayAdd}
 use Rattle.lift_clerk.specs.Machine.{kept_after}
@@ -22,8 +22,8 @@ use Rattle.lift_clerk.specs.History.{History, BeginsOver}
 pub record ImageKeeps (D : Type 0) (plan : Plan) (base : RegisterState) (entries : List Entry)
     (given : List Taken) (left : Image) : Type 0 where
   pub reads : IsImageOf plan (register_of base entries) left
-  pub holds : All (IsHeld base entries) (flat_map (told_in plan) given)
-  pub letters : All (StillNames base entries) (flat_map (told_in plan) given)
+  pub holds : All (IsHeld base entries) (flat_map (acknowledged_in plan) given)
+  pub letters : All (StillNames base entries) (flat_map (acknowledged_in plan) given)
   pub goes_on : (clerk : GroupState D) → BeginsOver plan left clerk
       → History base clerk entries given
 
@@ -77,9 +77,9 @@ MomentsKeep D state =
 -- after it, and just these commands were answered in it. What was given before is kept at each
 -- moment of it, and all of it from its end on.
 pub record AdvancesFrom {D : Type 0} (base : RegisterState) (before : GroupState D) (safe : List Entry)
-    (given : List Taken) (after : GroupState D) (batch more : List Entry) (told : List Taken)
+    (given : List Taken) (after : GroupState D) (batch more : List Entry) (replied : List Taken)
     (old new : DiskState) : Type 0 where
-  pub history : History base after (safe ++ more) (given ++ told)
+  pub history : History base after (safe ++ more) (given ++ replied)
   pub stands : LeavesOnly old new (KeepsEither D before.keeper.writer.plan base safe batch given)
   pub now : LeavesNow new (KeepsEither D after.keeper.writer.plan base (safe ++ more)
-      after.keeper.writer.doubt (given ++ told))
+      after.keeper.writer.doubt (given ++ replied))

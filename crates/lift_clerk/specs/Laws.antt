@@ -22,7 +22,7 @@ use Rattle.lift_world.specs.Turns.{RunningReopeningsEndAtRest, FailedReopeningsE
 use Rattle.lift_world.specs.Turns.{CutsEndAtRest}
 use Rattle.lift_world.specs.Headline.{IsOfBuilding}
 use Rattle.lift_clerk.specs.Machine.{TurnsAreTurns, FailuresAreFailures, BrokenTurnsAreBroken}
-use Rattle.lift_clerk.specs.Machine.{TerminalsKeepIt}
+use Rattle.lift_clerk.specs.Machine.{TerminalsPreserveTie}
 
 pub record Laws : Type 0 where
   pub asks : (w : World) → AsksStand w
@@ -64,4 +64,4 @@ pub record TurnsAreTheMachines (D P : Type 0) (chooses : P → Choice) : Type 0 
   pub turns : (policy : P) → TurnsAreTurns D P (chooses policy)
   pub failures : (policy : P) → FailuresAreFailures D P (chooses policy)
   pub broken : BrokenTurnsAreBroken D P
-  pub terminals : TerminalsKeepIt D P
+  pub terminals : TerminalsPreserveTie D P

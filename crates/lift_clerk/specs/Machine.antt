@@ -33,8 +33,8 @@ IsMachineOf w clerk = IsTied w (λ (t : ℕ). (view_at clerk.seat t).taken) (vie
     clerk.keeper.state clerk.keeper.writer []
 
 -- It stays so whatever terminals ask and hear between.
-abbrev pub TerminalsKeepIt : (D P : Type 0) → Type 0
-TerminalsKeepIt D P = (w end : World) (clerk : ClerkState D P) (event : Event)
+abbrev pub TerminalsPreserveTie : (D P : Type 0) → Type 0
+TerminalsPreserveTie D P = (w end : World) (clerk : ClerkState D P) (event : Event)
     → IsTrue (is_of_terminals event) → next w event ≡ Some end
     → IsMachineOf w clerk → IsMachineOf end clerk
 

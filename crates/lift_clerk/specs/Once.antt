@@ -55,11 +55,11 @@ pub record ReopensOnce {D P T : Type 0} (state : D → DiskState) (before after 
 -- as, and what was given is kept.
 pub record TurnAdvances {D P : Type 0} (state : D → DiskState) (before after : ClerkState D P)
     (result : Result Counts KeeperFault) : Type 0 where
-  pub adds : (batch : List Entry) × (more : List Entry) × (told : List Taken)
-      × TurnAdds (group_of before) (group_of after) (is_err result) batch more told
-  pub goes_on : (batch more : List Entry) (told : List Taken)
-      → TurnAdds (group_of before) (group_of after) (is_err result) batch more told
+  pub adds : (batch : List Entry) × (more : List Entry) × (replied : List Taken)
+      × TurnAdds (group_of before) (group_of after) (is_err result) batch more replied
+  pub goes_on : (batch more : List Entry) (replied : List Taken)
+      → TurnAdds (group_of before) (group_of after) (is_err result) batch more replied
       → (base : RegisterState) (safe : List Entry) (given : List Taken)
       → History base (group_of before) safe given
-      → AdvancesFrom base (group_of before) safe given (group_of after) batch more told
+      → AdvancesFrom base (group_of before) safe given (group_of after) batch more replied
       (state before.keeper.writer.device) (state after.keeper.writer.device)

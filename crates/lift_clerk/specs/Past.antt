@@ -66,12 +66,12 @@ IsNoEvent group before after = (w : World) (safe : List Entry) (given : List Tak
 -- their replies.
 abbrev pub IsDoneBy : {D : Type 0} → GroupState D → GroupState D
     → (List (Option ℕ) → ℕ → List Event) → List Entry → List Taken → Type 0
-IsDoneBy before after events batch told =
+IsDoneBy before after events batch replied =
     (w : World) (terminals : Terminals) (safe : List Entry) (given : List Taken)
     → IsPastOf w before terminals safe given → TakesAsks after terminals
     → (letters : List (Option ℕ))
     × ((folds : ℕ) → LeadsToPast w (events letters folds) after terminals (safe ++ batch)
-    (given ++ told))
+    (given ++ replied))
 
 -- A group begins at a new desk, over a journal that holds a register of the building.
 abbrev pub PastsBegin : Type 0 → Type 0

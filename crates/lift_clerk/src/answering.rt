@@ -9,7 +9,7 @@ ghost use Rattle.lift_desk.specs.Steps.{with_told_answers, with_told_asks, lists
 ghost use Rattle.lift_desk.specs.Words.{IsReply};
 ghost use Rattle.lift_desk.specs.declared.words.Ask.{Ask};
 ghost use Rattle.lift_clerk.specs.Answering.{AreOwed, terminals_in, with_answers};
-ghost use Rattle.lift_clerk.specs.Answering.{reply_told, replies_told};
+ghost use Rattle.lift_clerk.specs.Answering.{stored_reply, stored_replies};
 
 use arrayvec::ArrayVec;
 use lift_base::{MOST_ENTRIES, Reply, Terminal};
@@ -26,8 +26,8 @@ pub struct DueAnswer {
 
 impl DueAnswer {
     /// The reply as it is stored: Unknown where its batch isn't known to be safe.
-    fn told(self, is_safe: bool) -> Reply
-        ensures { result ≡ reply_told is_safe self.reply }
+    fn stored(self, is_safe: bool) -> Reply
+        ensures { result ≡ stored_reply is_safe self.reply }
     {
         if is_safe { self.reply } else { Reply::Unknown }
     }
@@ -44,12 +44,12 @@ fn store_all<L: Lending>(
     requires seated { IsClerkOf desk.now seat.old }
     requires owed { AreOwed desk.now seat.old (terminals_in answers.now.items) }
     ensures stored { seat.new ≡ with_answers is_safe seat.old answers.now.items }
-    ensures in_range { All IsReply (replies_told is_safe answers.now.items) }
+    ensures in_range { All IsReply (stored_replies is_safe answers.now.items) }
     ensures seated { IsClerkOf desk.now seat.new }
 {
     for place in 0..answers.len() {
         let answer = answers[place];
-        desk.answer(seat, answer.terminal, answer.told(is_safe));
+        desk.answer(seat, answer.terminal, answer.stored(is_safe));
     }
 }
 
@@ -119,7 +119,7 @@ impl<L: Lending> AnsweringSeat<L> {
         requires seated { IsClerkOf desk.now self.old }
         requires owed { AreOwed desk.now self.old (terminals_in answers.now.items) }
         ensures stored { self.new ≡ with_answers (is_some safe) self.old answers.now.items }
-        ensures in_range { All IsReply (replies_told (is_some safe) answers.now.items) }
+        ensures in_range { All IsReply (stored_replies (is_some safe) answers.now.items) }
         ensures seated { IsClerkOf desk.now self.new }
     {
         store_all(desk, &mut self.seat, answers, safe.is_some());

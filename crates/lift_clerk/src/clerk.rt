@@ -191,7 +191,7 @@ impl<'d, 'b, D: Arm, P: Policy + Drop> Clerk<'d, 'b, D, P> {
     pub fn arm(&mut self, calls: u32)
         ensures unchanged { IsUnchanged (D.state self.old.keeper.writer.device)
             (D.state self.new.keeper.writer.device) }
-        ensures told { IsArmedWith (D.fails_by calls (D.state self.old.keeper.writer.device).calls)
+        ensures armed { IsArmedWith (D.fails_by calls (D.state self.old.keeper.writer.device).calls)
             (D.state self.new.keeper.writer.device) }
         ensures rest { self.new ≡ record self.old {
           keeper = record self.old.keeper { writer = record self.old.keeper.writer { device = self.new.keeper.writer.device } };

@@ -13,7 +13,7 @@ use lift_base::{MOST_ENTRIES, MOST_TERMINALS, Reply, Terminal};
 use lift_desk::{Ask, Desk};
 use lift_disk::Disk;
 use lift_keeper::Keeper;
-use lift_policy::{Policy, decisions_keep};
+use lift_policy::{Policy, decisions_preserve};
 
 /// Who looks at the terminals of a desk, one after another, and decides what it finds there.
 pub trait DeskScan<T> {
@@ -65,7 +65,7 @@ impl<'b, D: Disk, P: Policy + Drop> DeskScan<DueAnswer> for ClerkParts<'b, D, P>
     // (each turn looks at each terminal)
     #[inline(always)]
     fn visit(&mut self, desk: &Desk, terminal: Terminal) -> Option<DueAnswer> {
-        decisions_keep(&self.policy);
+        decisions_preserve(&self.policy);
         let ask = self.seat.look(desk, terminal)?;
         let reply = decide(&mut self.keeper, &self.policy, terminal, ask);
         Some(DueAnswer { terminal, reply })

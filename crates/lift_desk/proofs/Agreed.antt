@@ -2,10 +2,10 @@
 use Rattle.std.proofs.Common.{sym, ◌∙◌, subst}
 use Rattle.atomic_table.specs.Table.{State}
 use Rattle.lift_desk.specs.declared.view.View.{View}
-use Rattle.lift_desk.specs.Rule.{IsInOrder, IsAhead, IsKept}
+use Rattle.lift_desk.specs.Rule.{IsInOrder, IsAhead, AreLastWords}
 use Rattle.lift_desk.specs.Agree.{SeatsAgree}
 
-pub agree : (s : State (Unit {0}) View) → IsKept s → SeatsAgree s
+pub agree : (s : State (Unit {0}) View) → AreLastWords s → SeatsAgree s
 agree s r i j u v at_u at_v =
     let f = r.views i u at_u in
     let g = r.views j v at_v in

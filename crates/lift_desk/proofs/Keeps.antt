@@ -12,7 +12,7 @@ use Rattle.atomic_table.proofs.Lists.{at_set, at_snoc}
 use Rattle.lift_desk.specs.declared.view.ClerkView.{ClerkView}
 use Rattle.lift_desk.specs.declared.view.View.{View}
 use Rattle.lift_desk.specs.Words.{turn_of, number_of, last_of, IsAskWord, IsReplyWord}
-use Rattle.lift_desk.specs.Rule.{blank, opening_view, lending, having_back, united, terminal_part, clerk_part, ahead_part, ahead_of, ahead_note_of, noted_by, stamp_of, CountTurns, Lists, IsInOrder, IsAhead, Holders, ViewFits, IsKept}
+use Rattle.lift_desk.specs.Rule.{blank, opening_view, lending, having_back, united, terminal_part, clerk_part, ahead_part, ahead_of, ahead_note_of, noted_by, stamp_of, CountTurns, Lists, IsInOrder, IsAhead, Holders, ViewFits, AreLastWords}
 use Rattle.lift_desk.specs.Steps.{with_ask, with_answer, with_hearing, with_look, with_taking, is_new_word, is_awaited, at_terminal, at_clerk, Asked, AnswersPlace, Looked, LookedAhead, Heard, Met, Compared, ComparedAhead}
 use Rattle.lift_desk.specs.lemmas.WordLists.{last_of-push, CountTurns-push, turn_of-last_of, CountTurns-prefix, CountTurns-stamped, prefix_length, stamped_length, prefix_whole, prefix_refl, prefix_nil, prefix_push, prefix_next, stamped_next, stamped_same, All-last_of, IsAhead-push, IsAhead-prefix, IsAhead-take, turn_at_most, turn_is_last}
 
@@ -36,7 +36,7 @@ off e = absurd (true≢false (sym e))
 
 pub asks_keep : (slots id : ℕ) (me : M) (word : ℕ) → me.0.asks ≡ true → length me.0.terminal.asked ≡ length me.0.terminal.heard
     → turn_of word ≡ suc (length me.0.terminal.asked) → IsAskWord word
-    → Allows IsKept slots id me 0 (λ _. word) (λ _. Asked (step slots 0 word 0 none) me word)
+    → Allows AreLastWords slots id me 0 (λ _. word) (λ _. Asked (step slots 0 word 0 none) me word)
 asks_keep slots id me word may free turn spelled s r _ at _ =
     let v = me.0 in
     let l = r.lists in
@@ -122,12 +122,12 @@ le_of m n e = grind (arith, nat_tests)
 
 abbrev LooksSo : State (Unit {0}) View → ℕ → View → ℕ → Bool → Type 0
 LooksSo s id v n b =
-    IsKept record { words = set s.words 0 n; homes = s.homes; views = set s.views id (at_clerk v (record { taken = if b then v.clerk.taken ++ n ∷ [] else v.clerk.taken; answered = v.clerk.answered; looks = suc v.clerk.looks; last = n; told = v.clerk.told })) }
+    AreLastWords record { words = set s.words 0 n; homes = s.homes; views = set s.views id (at_clerk v (record { taken = if b then v.clerk.taken ++ n ∷ [] else v.clerk.taken; answered = v.clerk.answered; looks = suc v.clerk.looks; last = n; told = v.clerk.told })) }
     × (b ≡ true → IsAskWord n × (turn_of n ≡ suc (length v.clerk.taken)) × (length v.clerk.answered ≡ length v.clerk.taken))
     × IsPrefix v.clerk.told (if b then v.clerk.taken ++ n ∷ [] else v.clerk.taken)
     × (n ≡ last_of (if b then v.clerk.taken ++ n ∷ [] else v.clerk.taken))
 
-looks_so : (s : State (Unit {0}) View) (r : IsKept s) (id : ℕ) (v : View) → v.answers ≡ true → v.looks_ahead ≡ false → get_elem? s.views id ≡ some v
+looks_so : (s : State (Unit {0}) View) (r : AreLastWords s) (id : ℕ) (v : View) → v.answers ≡ true → v.looks_ahead ≡ false → get_elem? s.views id ≡ some v
     → (b : Bool) → nat_lt (turn_of (last_of v.clerk.taken)) (turn_of (get_or s.words 0 0)) ≡ b → LooksSo s id v (get_or s.words 0 0) b
 looks_so s r id v may not_ahead at false is =
     let l = r.lists in
@@ -209,7 +209,7 @@ looks_so s r id v may not_ahead at true is =
     )
 
 pub looks_keep : (slots id : ℕ) (me : M) → me.0.answers ≡ true → me.0.looks_ahead ≡ false
-    → Allows IsKept slots id me 0 (λ n. n) (Looked (step slots 0 0 0 none) me)
+    → Allows AreLastWords slots id me 0 (λ n. n) (Looked (step slots 0 0 0 none) me)
 looks_keep slots id me may not_ahead s r _ at _ =
     let n : ℕ = get_or s.words 0 0 in
     let so = looks_so s r id me.0 may not_ahead at (nat_lt (turn_of (last_of me.0.clerk.taken)) (turn_of n)) refl in
@@ -230,7 +230,7 @@ looks_keep slots id me may not_ahead s r _ at _ =
 
 pub answers_keep : (slots id : ℕ) (me : M) (word : ℕ) → me.0.answers ≡ true → length me.0.clerk.taken ≡ suc (length me.0.clerk.answered)
     → stamp_of word ≡ stamp_of (last_of me.0.clerk.taken) → IsReplyWord word
-    → Allows IsKept slots id me 1 (λ _. word) (λ _. AnswersPlace (step slots 1 word 0 none) me word)
+    → Allows AreLastWords slots id me 1 (λ _. word) (λ _. AnswersPlace (step slots 1 word 0 none) me word)
 answers_keep slots id me word may owed stamp spelled s r _ at _ =
     let v = me.0 in
     let l = r.lists in
@@ -289,12 +289,12 @@ heard_all h a t e below one_more = grind (arith, nat_tests)
 
 abbrev HearsSo : State (Unit {0}) View → ℕ → View → ℕ → Bool → Type 0
 HearsSo s id v n b =
-    IsKept record { words = set s.words 1 n; homes = s.homes; views = set s.views id (at_terminal v (record { asked = v.terminal.asked; heard = if b then v.terminal.heard ++ n ∷ [] else v.terminal.heard; looks = suc v.terminal.looks; last = n; told = v.terminal.told })) }
+    AreLastWords record { words = set s.words 1 n; homes = s.homes; views = set s.views id (at_terminal v (record { asked = v.terminal.asked; heard = if b then v.terminal.heard ++ n ∷ [] else v.terminal.heard; looks = suc v.terminal.looks; last = n; told = v.terminal.told })) }
     × (b ≡ true → IsReplyWord n × (turn_of n ≡ length v.terminal.asked) × (number_of n ≡ number_of (last_of v.terminal.asked)))
     × IsPrefix v.terminal.told (if b then v.terminal.heard ++ n ∷ [] else v.terminal.heard)
     × (n ≡ last_of (if b then v.terminal.heard ++ n ∷ [] else v.terminal.heard))
 
-hears_so : (s : State (Unit {0}) View) (r : IsKept s) (id : ℕ) (v : View) → v.asks ≡ true → get_elem? s.views id ≡ some v
+hears_so : (s : State (Unit {0}) View) (r : AreLastWords s) (id : ℕ) (v : View) → v.asks ≡ true → get_elem? s.views id ≡ some v
     → (b : Bool) → is_awaited v.terminal (get_or s.words 1 0) ≡ b → HearsSo s id v (get_or s.words 1 0) b
 hears_so s r id v may at false is =
     let l = r.lists in
@@ -387,13 +387,13 @@ hears_so s r id v may at true is =
     stamped_last : (xs ys : List ℕ) {zs : List ℕ} → IsPrefix (map stamp_of xs) (map stamp_of zs) → zs ≡ ys → length ys ≤ length xs → 0 < length xs → stamp_of (last_of xs) ≡ stamp_of (last_of ys)
     stamped_last xs ys {zs} p e long some_word = stamped_same xs ys (prefix_whole (map stamp_of xs) (map stamp_of ys) (subst (λ z. IsPrefix (map stamp_of xs) (map stamp_of z)) e p) (omega (arith, length-map xs stamp_of, length-map ys stamp_of))) some_word
 
-pub hears_keep : (slots id : ℕ) (me : M) → me.0.asks ≡ true → Allows IsKept slots id me 1 (λ n. n) (Heard (step slots 1 0 0 none) me)
+pub hears_keep : (slots id : ℕ) (me : M) → me.0.asks ≡ true → Allows AreLastWords slots id me 1 (λ n. n) (Heard (step slots 1 0 0 none) me)
 hears_keep slots id me may s r _ at _ =
     let n : ℕ = get_or s.words 1 0 in
     let so = hears_so s r id me.0 may at (is_awaited me.0.terminal n) refl in
     (at_terminal me.0 (with_hearing me.0.terminal n), keeps, tt, so.0, (refl, refl, so.1, so.2, so.3))
 
-pub meets_keep : (slots id : ℕ) (me : M) → me.0.asks ≡ true → me.0.answers ≡ true → Allows IsKept slots id me 1 (λ n. n) (Met (step slots 1 0 0 none) me)
+pub meets_keep : (slots id : ℕ) (me : M) → me.0.asks ≡ true → me.0.answers ≡ true → Allows AreLastWords slots id me 1 (λ n. n) (Met (step slots 1 0 0 none) me)
 meets_keep slots id me asks answers s r _ at _ =
     let v = me.0 in
     let l = r.lists in
@@ -422,7 +422,7 @@ meets_keep slots id me asks answers s r _ at _ =
 abbrev first_holders : Holders
 first_holders = record { terminal = 0; clerk = 0; ahead = 0; lent = false }
 
-pub begins : IsKept record { words = 0 ∷ 0 ∷ []; homes = []; views = opening_view ∷ [] }
+pub begins : AreLastWords record { words = 0 ∷ 0 ∷ []; homes = []; views = opening_view ∷ [] }
 begins = record {
   holders = first_holders;
   lists = record { asked = []; taken = []; answered = []; heard = [] };
@@ -452,7 +452,7 @@ at_end (x ∷ xs) a b (suc j) n e = ap suc (at_end xs a b j n e)
 -- a seat with both rights becomes the terminal's, and the new one is the clerk's; these words were answered and asked
 parts_split : (id : ℕ) (v : View) (told_answers told_asks : List ℕ) → v.asks ≡ true → v.answers ≡ true
     → ((who : Holders) (l : Lists) → ViewFits who l id v → IsPrefix told_answers l.answered × IsPrefix told_asks l.asked)
-    → Splits IsKept id v (terminal_part v told_answers) (clerk_part v told_asks)
+    → Splits AreLastWords id v (terminal_part v told_answers) (clerk_part v told_asks)
 parts_split id v told_answers told_asks asks answers told s r at =
     let l = r.lists in
     let f = r.views id v at in
@@ -490,17 +490,17 @@ parts_split id v told_answers told_asks asks answers told s r at =
     }
 
 -- each is told what the other has stored
-pub seats_split : (id : ℕ) (v : View) → v.asks ≡ true → v.answers ≡ true → Splits IsKept id v (terminal_part v v.clerk.answered) (clerk_part v v.terminal.asked)
+pub seats_split : (id : ℕ) (v : View) → v.asks ≡ true → v.answers ≡ true → Splits AreLastWords id v (terminal_part v v.clerk.answered) (clerk_part v v.terminal.asked)
 seats_split id v asks answers = parts_split id v v.clerk.answered v.terminal.asked asks answers
     (λ who l f. (subst (λ z. IsPrefix z l.answered) (sym (f.answers answers).2) (prefix_refl l.answered), subst (λ z. IsPrefix z l.asked) (sym (f.asks asks).1) (prefix_refl l.asked)))
 
 -- neither is told anything new
-pub untold_split : (id : ℕ) (v : View) → v.asks ≡ true → v.answers ≡ true → Splits IsKept id v (terminal_part v v.terminal.told) (clerk_part v v.clerk.told)
+pub untold_split : (id : ℕ) (v : View) → v.asks ≡ true → v.answers ≡ true → Splits AreLastWords id v (terminal_part v v.terminal.told) (clerk_part v v.clerk.told)
 untold_split id v asks answers = parts_split id v v.terminal.told v.clerk.told asks answers (λ who l f. (f.told_answers, f.told_asks))
 
 -- a new seat that may store nothing, beside one that keeps to the rule
-adds : (id : ℕ) (v w : View) (s : State (Unit {0}) View) (r : IsKept s) → ViewFits r.holders r.lists id v → ((j : ℕ) → ViewFits r.holders r.lists j w)
-    → IsKept record { words = s.words; homes = s.homes; views = set s.views id v ++ w ∷ [] }
+adds : (id : ℕ) (v w : View) (s : State (Unit {0}) View) (r : AreLastWords s) → ViewFits r.holders r.lists id v → ((j : ℕ) → ViewFits r.holders r.lists j w)
+    → AreLastWords record { words = s.words; homes = s.homes; views = set s.views id v ++ w ∷ [] }
 adds id v w s r old new = record {
   holders = r.holders;
   lists = r.lists;
@@ -513,11 +513,11 @@ adds id v w s r old new = record {
 }
 
 -- a new seat that looks ahead, as no other one does then
-adds_ahead : (id : ℕ) (v w : View) (s : State (Unit {0}) View) (r : IsKept s)
+adds_ahead : (id : ℕ) (v w : View) (s : State (Unit {0}) View) (r : AreLastWords s)
     → v.looks_ahead ≡ false → w.asks ≡ false → w.answers ≡ false → IsAhead r.lists.asked w.clerk.taken → IsPrefix w.terminal.told r.lists.answered → IsPrefix w.clerk.told r.lists.asked → w.noted ≡ 0
     → ViewFits (record r.holders { ahead = length (set s.views id v); lent = true }) r.lists id v
     → ((j : ℕ) (u : View) → j ≢ id → get_elem? s.views j ≡ some u → (u.looks_ahead ≢ true) × (u.answers ≡ true → u.lends ≡ true))
-    → IsKept record { words = s.words; homes = s.homes; views = set s.views id v ++ w ∷ [] }
+    → AreLastWords record { words = s.words; homes = s.homes; views = set s.views id v ++ w ∷ [] }
 adds_ahead id v w s r silent no_asks no_answers took told_answers told_asks no_note mine others =
     let l = r.lists in
     let vs = set s.views id v in
@@ -551,7 +551,7 @@ adds_ahead id v w s r silent no_asks no_answers took told_answers told_asks no_n
     }
 
 -- the clerk's seat lends the right to look ahead, which it had not lent
-pub ahead_split : (id : ℕ) (v : View) → v.answers ≡ true → v.looks_ahead ≡ false → v.lends ≡ false → Splits IsKept id v (lending v) (ahead_of v)
+pub ahead_split : (id : ℕ) (v : View) → v.answers ≡ true → v.looks_ahead ≡ false → v.lends ≡ false → Splits AreLastWords id v (lending v) (ahead_of v)
 ahead_split id v may silent has s r at =
     let f = r.views id v at in
     let a = f.answers may in
@@ -569,7 +569,7 @@ ahead_split id v may silent has s r at =
     (λ j u apart e. let g = r.views j u e in ((λ k. true≢false (sym (g.looks_ahead k).0 ∙ sym a.3 ∙ has)), (λ k. absurd (apart ((g.answers k).0 ∙ sym a.0)))))
 
 -- a seat with the terminal's rights and a seat ahead's is parted; the seat ahead is told what was asked
-pub ahead_parts_split : (id : ℕ) (v : View) → v.asks ≡ true → v.looks_ahead ≡ true → Splits IsKept id v (terminal_part v v.terminal.told) (ahead_part v)
+pub ahead_parts_split : (id : ℕ) (v : View) → v.asks ≡ true → v.looks_ahead ≡ true → Splits AreLastWords id v (terminal_part v v.terminal.told) (ahead_part v)
 ahead_parts_split id v asks looks s r at =
     let f = r.views id v at in
     let a = f.asks asks in
@@ -597,9 +597,9 @@ blank_fits who l seat = record {
 }
 
 -- a seat is spent, and another has what it had
-spends_as : (who : Holders) (id other : ℕ) (w : View) (s : State (Unit {0}) View) (r : IsKept s) → ViewFits who r.lists id w
+spends_as : (who : Holders) (id other : ℕ) (w : View) (s : State (Unit {0}) View) (r : AreLastWords s) → ViewFits who r.lists id w
     → ((j : ℕ) (y : View) → j ≢ id → j ≢ other → get_elem? s.views j ≡ some y → ViewFits who r.lists j y)
-    → IsKept record { words = s.words; homes = s.homes; views = set (set s.views id w) other blank }
+    → AreLastWords record { words = s.words; homes = s.homes; views = set (set s.views id w) other blank }
 spends_as who id other w s r mine others = record {
   holders = who;
   lists = r.lists;
@@ -613,8 +613,8 @@ spends_as who id other w s r mine others = record {
 }
 
 -- a seat is spent, and another may have learned what it was told
-spends : (id : ℕ) (v : View) (other : ℕ) (u w : View) (s : State (Unit {0}) View) (r : IsKept s) → ViewFits r.holders r.lists id w
-    → IsKept record { words = s.words; homes = s.homes; views = set (set s.views id w) other blank }
+spends : (id : ℕ) (v : View) (other : ℕ) (u w : View) (s : State (Unit {0}) View) (r : AreLastWords s) → ViewFits r.holders r.lists id w
+    → AreLastWords record { words = s.words; homes = s.homes; views = set (set s.views id w) other blank }
 spends id v other u w s r mine = spends_as r.holders id other w s r mine (λ j y apart not_other e. r.views j y e)
 
 -- the seat that is joined in stood at its number before
@@ -623,7 +623,7 @@ was_there views id other w u apart there =
     ⊎_elim (λ (x : (other ≡ id) × (w ≡ u)). absurd (apart x.0)) (λ (x : (other ≢ id) × (get_elem? views other ≡ some u)). x.1) (at_set views id other w u there)
 
 -- a seat ahead notes the last ask that it took
-pub notes_split : (id : ℕ) (v : View) → v.looks_ahead ≡ true → Splits IsKept id v v (ahead_note_of v)
+pub notes_split : (id : ℕ) (v : View) → v.looks_ahead ≡ true → Splits AreLastWords id v v (ahead_note_of v)
 notes_split id v may s r at =
     adds id v (ahead_note_of v) s r (r.views id v at) (λ j. record {
       asks = λ k. off k;
@@ -638,7 +638,7 @@ notes_split id v may s r at =
     last_asked asked [] h any = absurd (any refl)
     last_asked asked (x ∷ taken) h any = All-last_of (Contains asked) (x ∷ taken) h.asked_all (omega arith)
 
-pub notes_join : (id : ℕ) (v : View) (other : ℕ) (u : View) → Joins IsKept id v other u (noted_by v u) blank
+pub notes_join : (id : ℕ) (v : View) (other : ℕ) (u : View) → Joins AreLastWords id v other u (noted_by v u) blank
 notes_join id v other u s r at apart there =
     let f = r.views id v at in
     let was : get_elem? s.views other ≡ some u = ⊎_elim (λ (x : (other ≡ id) × (noted_by v u ≡ u)). absurd (apart x.0)) (λ (x : (other ≢ id) × (get_elem? s.views other ≡ some u)). x.1) (at_set s.views id other (noted_by v u) u there) in
@@ -646,7 +646,7 @@ notes_join id v other u s r at apart there =
     spends id v other u (noted_by v u) s r (record { asks = f.asks; answers = f.answers; looks_ahead = f.looks_ahead; told_answers = f.told_answers; told_asks = f.told_asks; noted = g.noted })
 
 -- the clerk has back what it lent
-pub ahead_join : (id : ℕ) (v : View) (other : ℕ) (u : View) → v.answers ≡ true → u.looks_ahead ≡ true → Joins IsKept id v other u (having_back v u) blank
+pub ahead_join : (id : ℕ) (v : View) (other : ℕ) (u : View) → v.answers ≡ true → u.looks_ahead ≡ true → Joins AreLastWords id v other u (having_back v u) blank
 ahead_join id v other u answers looks s r at apart there =
     let w = having_back v u in
     let f = r.views id v at in
@@ -671,7 +671,7 @@ ahead_join id v other u answers looks s r at apart there =
     })
 
 -- the clerk's rights go to the terminal's seat
-pub unites_join : (id : ℕ) (v : View) (other : ℕ) (c : View) → v.asks ≡ true → c.answers ≡ true → c.looks_ahead ≡ false → Joins IsKept id v other c (united v c) blank
+pub unites_join : (id : ℕ) (v : View) (other : ℕ) (c : View) → v.asks ≡ true → c.answers ≡ true → c.looks_ahead ≡ false → Joins AreLastWords id v other c (united v c) blank
 unites_join id v other c asks answers silent s r at apart there =
     let w = united v c in
     let f = r.views id v at in
@@ -697,7 +697,7 @@ unites_join id v other c asks answers silent s r at apart there =
     })
 
 -- the rights of a seat ahead go to the terminal's seat
-pub ahead_unites_join : (id : ℕ) (v : View) (other : ℕ) (u : View) → v.asks ≡ true → u.looks_ahead ≡ true → u.answers ≡ false → Joins IsKept id v other u (united v u) blank
+pub ahead_unites_join : (id : ℕ) (v : View) (other : ℕ) (u : View) → v.asks ≡ true → u.looks_ahead ≡ true → u.answers ≡ false → Joins AreLastWords id v other u (united v u) blank
 ahead_unites_join id v other u asks looks silent s r at apart there =
     let w = united v u in
     let f = r.views id v at in
@@ -722,7 +722,7 @@ ahead_unites_join id v other u asks looks silent s r at apart there =
     })
 
 -- a seat with both rights has all that there is
-pub compares_keep : (slots id : ℕ) (me : M) → me.0.asks ≡ true → me.0.answers ≡ true → Allows IsKept slots id me 0 (λ n. n) (Compared (step slots 0 0 0 none) me)
+pub compares_keep : (slots id : ℕ) (me : M) → me.0.asks ≡ true → me.0.answers ≡ true → Allows AreLastWords slots id me 0 (λ n. n) (Compared (step slots 0 0 0 none) me)
 compares_keep slots id me asks answers s r _ at _ =
     let v = me.0 in
     let l = r.lists in
@@ -743,7 +743,7 @@ compares_keep slots id me asks answers s r _ at _ =
     )
 
 -- a seat with the terminal's rights and a seat ahead's has taken what was asked
-pub compares_ahead_keep : (slots id : ℕ) (me : M) → me.0.asks ≡ true → me.0.looks_ahead ≡ true → Allows IsKept slots id me 0 (λ n. n) (ComparedAhead (step slots 0 0 0 none) me)
+pub compares_ahead_keep : (slots id : ℕ) (me : M) → me.0.asks ≡ true → me.0.looks_ahead ≡ true → Allows AreLastWords slots id me 0 (λ n. n) (ComparedAhead (step slots 0 0 0 none) me)
 compares_ahead_keep slots id me asks looks s r _ at _ =
     let v = me.0 in
     let l = r.lists in
@@ -763,11 +763,11 @@ compares_ahead_keep slots id me asks looks s r _ at _ =
 
 abbrev AheadSo : State (Unit {0}) View → ℕ → View → ℕ → Bool → Type 0
 AheadSo s id v n b =
-    IsKept record { words = set s.words 0 n; homes = s.homes; views = set s.views id (at_clerk v (record { taken = if b then v.clerk.taken ++ n ∷ [] else v.clerk.taken; answered = v.clerk.answered; looks = suc v.clerk.looks; last = n; told = v.clerk.told })) }
+    AreLastWords record { words = set s.words 0 n; homes = s.homes; views = set s.views id (at_clerk v (record { taken = if b then v.clerk.taken ++ n ∷ [] else v.clerk.taken; answered = v.clerk.answered; looks = suc v.clerk.looks; last = n; told = v.clerk.told })) }
     × (b ≡ true → IsAskWord n)
     × (n ≡ last_of (if b then v.clerk.taken ++ n ∷ [] else v.clerk.taken))
 
-ahead_so : (s : State (Unit {0}) View) (r : IsKept s) (id : ℕ) (v : View) → v.looks_ahead ≡ true → v.answers ≡ false → get_elem? s.views id ≡ some v
+ahead_so : (s : State (Unit {0}) View) (r : AreLastWords s) (id : ℕ) (v : View) → v.looks_ahead ≡ true → v.answers ≡ false → get_elem? s.views id ≡ some v
     → (b : Bool) → nat_lt (turn_of (last_of v.clerk.taken)) (turn_of (get_or s.words 0 0)) ≡ b → AheadSo s id v (get_or s.words 0 0) b
 ahead_so s r id v may no_answer at b is =
     let l = r.lists in
@@ -816,7 +816,7 @@ ahead_so s r id v may no_answer at b is =
         subst (λ z. IsAhead asked (taken ++ z ∷ [])) (sym n_is) (IsAhead-take asked taken (omega arith) h (subst (λ z. turn_of (last_of taken) < turn_of z) n_is above))
 
 pub looks_ahead_keep : (slots id : ℕ) (me : M) → me.0.looks_ahead ≡ true → me.0.answers ≡ false
-    → Allows IsKept slots id me 0 (λ n. n) (LookedAhead (step slots 0 0 0 none) me)
+    → Allows AreLastWords slots id me 0 (λ n. n) (LookedAhead (step slots 0 0 0 none) me)
 looks_ahead_keep slots id me may none' s r _ at _ =
     let n : ℕ = get_or s.words 0 0 in
     let so = ahead_so s r id me.0 may none' at (nat_lt (turn_of (last_of me.0.clerk.taken)) (turn_of n)) refl in

@@ -6,7 +6,7 @@ use Rattle.atomic_table.specs.Table.{State}
 use Rattle.lift_desk.specs.declared.view.View.{View}
 use Rattle.lift_desk.specs.declared.view.TerminalView.{TerminalView}
 use Rattle.lift_desk.specs.declared.view.ClerkView.{ClerkView}
-use Rattle.lift_desk.specs.Rule.{IsInOrder, IsAhead, IsKept}
+use Rattle.lift_desk.specs.Rule.{IsInOrder, IsAhead, AreLastWords}
 use Rattle.lift_desk.specs.Steps.{lists_of}
 
 -- The seats i and j, of which one knows u and the other v.
@@ -31,7 +31,7 @@ SeatsAgree s = (i j : ℕ) (u v : View) → get_elem? s.views i ≡ some u → g
 -- this right knows c.
 pub record KnowAtOnce (right : View → Bool) (t : TerminalView) (c : ClerkView) : Type 0 where
   pub table : State (Unit {0}) View
-  pub kept : IsKept table
+  pub kept : AreLastWords table
   pub i : ℕ
   pub j : ℕ
   pub u : View

@@ -73,7 +73,7 @@ stored_at zero v = v.terminal.asked
 stored_at (suc word) v = v.clerk.answered
 
 -- a seat holds none of the table's slots, and has the rights that it had
-pub record KeepsRights (before : View) (after : Me (Unit {0}) View) : Type 0 where
+pub record RightsStay (before : View) (after : Me (Unit {0}) View) : Type 0 where
   pub slots : after.1 ≡ []
   pub rights : rights_of after.0 ≡ rights_of before
 
@@ -81,7 +81,7 @@ pub record KeepsRights (before : View) (after : Me (Unit {0}) View) : Type 0 whe
 -- Only a seat that sees both words may compare them uncounted.
 pub record Loads (word found : ℕ) (before : View) (after : Me (Unit {0}) View) : Type 0 where
   pub may : MayLook word before
-  pub rights : KeepsRights before after
+  pub rights : RightsStay before after
   pub looks : (SeesBoth before × (looks_at word after.0 ≡ looks_at word before))
       ⊎ (looks_at word after.0 ≡ (suc (looks_at word before).0, found))
   pub others : other_looks word after.0 ≡ other_looks word before
@@ -89,7 +89,7 @@ pub record Loads (word found : ℕ) (before : View) (after : Me (Unit {0}) View)
 -- after a store of a word, which counts no look, and is one more word that was stored there
 pub record Stores (word value : ℕ) (before : View) (after : Me (Unit {0}) View) : Type 0 where
   pub may : MayStore word before
-  pub rights : KeepsRights before after
+  pub rights : RightsStay before after
   pub stored : stored_at word after.0 ≡ stored_at word before ++ value ∷ []
   pub asks : ask_looks after.0 ≡ ask_looks before
   pub answers : answer_looks after.0 ≡ answer_looks before

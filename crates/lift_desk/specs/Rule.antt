@@ -146,7 +146,7 @@ pub record ViewFits (who : Holders) (l : Lists) (seat : ℕ) (v : View) : Type 0
   pub noted : v.noted ≢ 0 → Contains l.asked v.noted
 
 -- the two words are the last ask and the last answer
-pub record IsKept (s : State (Unit {0}) View) : Type 0 where
+pub record AreLastWords (s : State (Unit {0}) View) : Type 0 where
   pub holders : Holders
   pub lists : Lists
   pub words : s.words ≡ last_of lists.asked ∷ last_of lists.answered ∷ []

@@ -3,7 +3,7 @@ ghost use Rattle.std.specs.Prelude.{◌≡◌, ◌<◌, ℕ, IfOk, true, false, 
 ghost use mathlib.Core.Option.{none};
 ghost use Rattle.atomic_table.specs.Table.{Allows, Joins, Me, Splits, step};
 ghost use Rattle.lift_desk.specs.declared.view.View.{View};
-ghost use Rattle.lift_desk.specs.Rule.{IsKept, blank, opening_view};
+ghost use Rattle.lift_desk.specs.Rule.{AreLastWords, blank, opening_view};
 ghost use Rattle.lift_desk.specs.Looker.{sits_at, Loads, Stores, IsParted, Joined};
 
 use crate::view::{DeskRule, View};
@@ -76,7 +76,7 @@ impl Looker {
             × (table.now.shared.table_id.words ≡ 2) }
         requires seated { self.old.seated ≡ true }
         requires word { word < 2 }
-        requires keeps { (id : ℕ) → Allows IsKept table.now.shared.table_id.slots id
+        requires keeps { (id : ℕ) → Allows AreLastWords table.now.shared.table_id.slots id
             (self.old.view, []) word (λ n. n)
             (M.then (step table.now.shared.table_id.slots word 0 0 none) (self.old.view, [])) }
         requires counts { (found : ℕ) (after : Me (Unit {0}) View)
@@ -98,7 +98,7 @@ impl Looker {
             × (table.now.shared.table_id.words ≡ 2) }
         requires seated { self.old.seated ≡ true }
         requires word { word < 2 }
-        requires keeps { (id : ℕ) → Allows IsKept table.now.shared.table_id.slots id
+        requires keeps { (id : ℕ) → Allows AreLastWords table.now.shared.table_id.slots id
             (self.old.view, []) word (λ _. value)
             (λ _. M.then (step table.now.shared.table_id.slots word value 0 none)
             (self.old.view, []) value) }
@@ -120,7 +120,7 @@ impl Looker {
             × (table.now.shared.table_id.words ≡ 2) }
         requires seated { self.old.seated ≡ true }
         requires keeps { (id : ℕ)
-            → Splits IsKept id self.old.view (M.left self.old.view) (M.right self.old.view) }
+            → Splits AreLastWords id self.old.view (M.left self.old.view) (M.right self.old.view) }
         requires counts { IsParted self.old.view (M.left self.old.view) (M.right self.old.view) }
         ensures left { self.new ≡ record self.old { view = M.left self.old.view } }
         ensures right { result ≡ record self.old { view = M.right self.old.view } }
@@ -139,7 +139,7 @@ impl Looker {
             × (table.now.shared.table_id.words ≡ 2) }
         requires seated { self.old.seated ≡ true }
         requires other { (other.seated ≡ true) × (other.table ≡ self.old.table) }
-        requires keeps { (id another : ℕ) → Joins IsKept id self.old.view another other.view
+        requires keeps { (id another : ℕ) → Joins AreLastWords id self.old.view another other.view
             (M.both self.old.view other.view) M.spent }
         requires counts { Joined self.old.view other.view (M.both self.old.view other.view) }
         ensures { self.new ≡ record self.old { view = M.both self.old.view other.view } }

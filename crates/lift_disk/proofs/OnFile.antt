@@ -4,10 +4,10 @@ use Rattle.lift_disk.specs.FileCalls.{FileCall}
 use Rattle.lift_disk.specs.Files.{IsMadeDevice, file_below, sector_file_state_of}
 use Rattle.lift_disk.specs.Traced.{IsMadeOf, making_calls}
 use Rattle.lift_disk.specs.FileCalls.{LeadsBy}
-use Rattle.lift_disk.specs.declared.told.ToldFile.{Ghosts as Told}
+use Rattle.lift_disk.specs.declared.listed.ListedFile.{Ghosts as Listed}
 use Rattle.lift_disk.specs.declared.sectors.SectorFile.{SectorFile}
 use Rattle.lift_disk.specs.Trace.{Access}
-use Rattle.lift_disk.specs.Disk.{DiskState, GoesOn, KeepsWrites, LeavesAsBefore}
+use Rattle.lift_disk.specs.Disk.{DiskState, GoesOn, WritesStay, LeavesAsBefore}
 use Rattle.lift_disk.specs.Runs.{Rests, StoresRun}
 use Rattle.lift_disk.specs.Holding.{AtSectors, HoldsTheSame, IsSameFile, IsUntouched, WritesRun, on_file, sectors_in}
 
@@ -33,7 +33,7 @@ module _ (old new : DiskState) (sectors failures failures2 calls calls2 writes w
     failures = more;
     honest = (λ honest. (same.honest.0 honest.0, sym same.size ∙ honest.1), λ honest. (same.honest.1 honest.0, same.size ∙ honest.1));
     inert = (λ no. no, λ no. no);
-    told = λ call later. (λ no. no, λ no. no);
+    armed = λ call later. (λ no. no, λ no. no);
     time = λ honest. let e = (did honest).time honest.0 in record { later = e.later; nothing_else = e.nothing_else; keeps = e.keeps };
   }
 
@@ -44,7 +44,7 @@ module _ (old new : DiskState) (sectors failures failures2 calls calls2 writes w
     kept = λ honest. (did honest).kept honest.0;
   }
 
-  pub file_keeps : (old.is_honest × (old.size ≡ sectors) → KeepsWrites old new) → KeepsWrites before behind
+  pub file_keeps : (old.is_honest × (old.size ≡ sectors) → WritesStay old new) → WritesStay before behind
   file_keeps did = record {
     written = λ honest. (did honest).written honest.0;
     steady = λ honest steady. let s = (did honest).steady honest.0 steady in record { steady = s.steady; same = s.same };
@@ -64,7 +64,7 @@ measured_honest honest old new sectors bytes same told whole is =
     (λ h. same.honest.0 (is.0 h).0, λ h. is.1 (same.honest.1 h, same.size ∙ told h ∙ sym whole))
 
 -- a device on a file that was only asked holds what the file held
-pub measured_held : {F : Type 0} {told : Told F} (holds : F → DiskState) (d : SectorFile F told) (file below : F) → file_below d ≡ below → IsUntouched (holds file) (holds below)
+pub measured_held : {F : Type 0} {listing : Listed F} (holds : F → DiskState) (d : SectorFile F listing) (file below : F) → file_below d ≡ below → IsUntouched (holds file) (holds below)
     → (holds file).is_honest → (sector_file_state_of holds d).size ≡ (holds file).size → HoldsTheSame (holds file) (sector_file_state_of holds d)
 measured_held {F} holds d file below same untouched honest sized =
     let held = subst (λ (f : F). HoldsTheSame (holds file) (holds f)) (sym same) (untouched.held honest) in record {
@@ -82,7 +82,7 @@ pub made_honest : (honest : Type 0) (old new : DiskState) (sectors : ℕ) → se
 made_honest honest old new sectors most same told is =
     (λ h. same.0 (is.0 h).0, λ h. is.1 (same.1 h, told h ∙ sectors_whole sectors most))
 
-pub made_device : {F : Type 0} {told : Told F} (opens : Option F → Type 0) (names : F → Type 0) (gives : F → FileCall → F → Type 0) (holds : F → DiskState) (sectors : ℕ) (made : F) (d : SectorFile F told) → sectors ≤ 4294967295
+pub made_device : {F : Type 0} {listing : Listed F} (opens : Option F → Type 0) (names : F → Type 0) (gives : F → FileCall → F → Type 0) (holds : F → DiskState) (sectors : ℕ) (made : F) (d : SectorFile F listing) → sectors ≤ 4294967295
     → IsMadeOf opens names gives holds sectors made
     → file_below d ≡ made → ((sector_file_state_of holds d).is_honest ↔ ((holds made).is_honest × ((holds made).size ≡ sectors))) → IsMadeDevice opens names gives holds sectors d
 made_device {F} opens names gives holds sectors made d most made_of same is = record {

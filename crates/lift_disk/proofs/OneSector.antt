@@ -39,7 +39,7 @@ module _ (old mid new : DiskState) (sector : ℕ) (opens : Announces sector old 
     failures = omega (arith, goes_on.failures, opens.failures);
     honest = (λ h. opens.honest.0 (goes_on.honest.0 h), λ h. goes_on.honest.1 (opens.honest.1 h));
     inert = (λ h. opens.inert.0 (goes_on.inert.0 h), λ h. goes_on.inert.1 (opens.inert.1 h));
-    told = λ call later. (λ is. (opens.told call).0 ((goes_on.told call later).0 is), λ was. (goes_on.told call later).1 ((opens.told call).1 was));
+    armed = λ call later. (λ is. (opens.armed call).0 ((goes_on.armed call later).0 is), λ was. (goes_on.armed call later).1 ((opens.armed call).1 was));
     time = λ honest.
         let honest2 = opens.honest.1 honest in
         elapses_then old mid new (opens.time honest) (goes_on.time honest2) (leaves.touched honest2) (leaves.loose honest2);

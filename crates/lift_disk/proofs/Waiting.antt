@@ -4,7 +4,7 @@ use Rattle.std.proofs.lemmas.Option.{get_or_from_slice_get, slice_get-get_or}
 use Rattle.std.proofs.Math.ListN.{get_or-append}
 use Rattle.std.proofs.lemmas.List.{length-set}
 use Rattle.lift_disk.specs.Trace.{Access}
-use Rattle.lift_disk.specs.Disk.{DiskState, Image, ChangesWithin, Elapses, GoesOn, SectorIsWritten, ReadsAsWritten, Touches, LeavesAsBefore, IsSteadyAt, KeepsWrites}
+use Rattle.lift_disk.specs.Disk.{DiskState, Image, ChangesWithin, Elapses, GoesOn, SectorIsWritten, ReadsAsWritten, Touches, LeavesAsBefore, IsSteadyAt, WritesStay}
 use Rattle.lift_disk.specs.Runs.{GivesRun, HoldsRun, IsInRun, with_run, Announces, buffered, waiting, Rests, Loosens, run_outside, run_loose, left_with}
 use Rattle.lift_disk.specs.lemmas.History.{set_here}
 use Rattle.lift_disk.specs.lemmas.Moments.{changes_nothing, changes_more, changes_twice, changes_both}
@@ -39,13 +39,13 @@ held_front image sector count run rest long holds i inside =
     ∙ ap Some (sym (get_or-append run rest [] (i - sector) less))
     ∙ sym (slice_get-get_or (run ++ rest) (i - sector) [] (let whole : length (run ++ rest) ≡ length run + length rest = length-append run rest in omega (arith, less, whole)))
 
-pub given_front : (has_given : ℕ → List ℕ → Type 0) (sector count : ℕ) (run rest : List (List ℕ)) → length run ≡ count → GivesRun has_given sector (length run) run → GivesRun has_given sector count (run ++ rest)
-given_front has_given sector count run rest long given i bytes inside is =
+pub given_front : (has_read_bytes : ℕ → List ℕ → Type 0) (sector count : ℕ) (run rest : List (List ℕ)) → length run ≡ count → GivesRun has_read_bytes sector (length run) run → GivesRun has_read_bytes sector count (run ++ rest)
+given_front has_read_bytes sector count run rest long given i bytes inside is =
     let less : i - sector < length run = omega (arith, inside.0, inside.1, long) in
     given i bytes (inside.0, omega (arith, inside.0, less))
     (slice_get-get_or run (i - sector) [] less ∙ ap Some (sym (get_or-append run rest [] (i - sector) less) ∙ get_or_from_slice_get (run ++ rest) (i - sector) bytes [] is))
 
-pub keeps_none : (disk : DiskState) → KeepsWrites disk disk
+pub keeps_none : (disk : DiskState) → WritesStay disk disk
 keeps_none disk = record { written = λ _ i bytes was. was; steady = λ _ steady. record { steady = steady; same = refl } }
 
 -- what waits lies in loose sectors
@@ -124,7 +124,7 @@ get_after [] bytes = refl
 get_after (first ∷ run) bytes = get_after run bytes
 
 module _ (old new : DiskState) (from from2 sector : ℕ) (pending pending2 : List (List ℕ)) (bytes : List ℕ)
-    (opens : Loosens sector (waiting old from pending) (waiting new from2 pending2)) (keeps : KeepsWrites (waiting old from pending) (waiting new from2 pending2))
+    (opens : Loosens sector (waiting old from pending) (waiting new from2 pending2)) (keeps : WritesStay (waiting old from pending) (waiting new from2 pending2))
     (next : from2 + length pending2 ≡ sector) (waits : Waits new from2 pending2) (calls calls2 writes writes2 : ℕ) (trace trace2 : List Access) where
   abbrev more : List (List ℕ)
   more = pending2 ++ bytes ∷ []
@@ -148,7 +148,7 @@ module _ (old new : DiskState) (from from2 sector : ℕ) (pending pending2 : Lis
     failures = omega (arith, same);
     honest = opens.honest;
     inert = (λ h. h, λ h. h);
-    told = λ call later. (λ h. h, λ h. h);
+    armed = λ call later. (λ h. h, λ h. h);
     time = λ honest. let t = opens.time honest in record {
       later = t.later;
       nothing_else = λ since left le was. ⊎_elim (λ long. inl long)
@@ -191,7 +191,7 @@ none_found : (k : ℕ) (bytes : List ℕ) → slice_get no_run k ≡ Some bytes 
 none_found k bytes is = cc is
 
 -- what was written before a sync is read after it
-pub sync_written : (old mid new : DiskState) (from from2 from3 : ℕ) (pending pending2 : List (List ℕ)) → pending2 ≡ [] → KeepsWrites (waiting old from pending) (waiting mid from2 pending2) → (old.is_honest → mid.is_honest) → (mid.is_honest → ReadsAsWritten mid new)
+pub sync_written : (old mid new : DiskState) (from from2 from3 : ℕ) (pending pending2 : List (List ℕ)) → pending2 ≡ [] → WritesStay (waiting old from pending) (waiting mid from2 pending2) → (old.is_honest → mid.is_honest) → (mid.is_honest → ReadsAsWritten mid new)
     → old.is_honest → (i : ℕ) (bytes : List ℕ) → ((from ≤ i) × (slice_get pending (i - from) ≡ Some bytes)) ⊎ (¬ IsInRun from (length pending) i × old.written i bytes) → slice_get (with_run from3 pending2 new.image) i ≡ Some bytes
 sync_written old mid new from from2 from3 pending (first ∷ pending2) none keeps same reads honest i bytes was = absurd (cc none)
 sync_written old mid new from from2 from3 pending [] none keeps same reads honest i bytes was =

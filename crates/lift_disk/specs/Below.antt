@@ -64,12 +64,12 @@ pub record AsksAhead {R : Type 0} (state : R → DiskState)
 -- These bytes are still to be written, or a call of the other one gave them. It has no call for
 -- this read, or one. Also where that fails, the same writes are still to be made.
 pub record GivesBelow {R : Type 0} {runs : RunGhosts R} {disk : Ghosts R} (state : R → DiskState)
-    (has_given : R → ℕ → List ℕ → Type 0)
+    (has_read_bytes : R → ℕ → List ℕ → Type 0)
     (read_run_gives : R → ℕ → List (List ℕ) → Result (Unit {0}) DiskFault → R → Type 0)
     (old : Buffered R runs disk) (sector : ℕ) (bytes : List ℕ)
     (result : Result (Unit {0}) DiskFault) (new : Buffered R runs disk) : Type 0 where
   pub given : OnOk result (IsHeldBack old sector bytes
-      ⊎ ∥ has_given (below new) sector bytes ∥₁)
+      ⊎ ∥ has_read_bytes (below new) sector bytes ∥₁)
   pub asked : (below new ≡ below old)
       ⊎ AsksAhead state read_run_gives (below old) sector result (below new)
   pub held : StaysHeldBack old new

@@ -22,7 +22,7 @@ pub record DiskState : Type 1 where
   pub trace : List Access
   -- it does what the definitions below say
   pub is_honest : Type 0
-  -- It fails only where it was told to or is out of memory, and a failed call changes no byte
+  -- It fails only where it was armed to or is out of memory, and a failed call changes no byte
   -- of the image as read.
   pub is_inert : Type 0
   -- the image as read
@@ -38,7 +38,7 @@ pub record DiskState : Type 1 where
   pub written : ℕ → List ℕ → Type 0
   -- a growth inside the device was refused, now or earlier
   pub is_short : Bool
-  -- of the calls to come, counted as calls is, this one was told to fail
+  -- of the calls to come, counted as calls is, this one was armed to fail
   pub fails_at : ℕ → Type 0
   -- a number that doesn't fall
   pub moment : ℕ
@@ -95,33 +95,33 @@ pub record GoesOn (old new : DiskState) : Type 0 where
   pub failures : old.failures ≤ new.failures
   pub honest : new.is_honest ↔ old.is_honest
   pub inert : new.is_inert ↔ old.is_inert
-  -- what later calls were told stands
-  pub told : (call : ℕ) → new.calls < call → new.fails_at call ↔ old.fails_at call
+  -- which later calls are armed to fail stays so
+  pub armed : (call : ℕ) → new.calls < call → new.fails_at call ↔ old.fails_at call
   pub time : old.is_honest → Elapses old new
 
--- after a run of calls: it is the same device, told the same, and no count has fallen
+-- after a run of calls: it is the same device, armed alike, and no count has fallen
 pub record RunsOn (old new : DiskState) : Type 0 where
   pub size : new.size ≡ old.size
   pub calls : old.calls ≤ new.calls
   pub failures : old.failures ≤ new.failures
   pub honest : new.is_honest ↔ old.is_honest
   pub inert : new.is_inert ↔ old.is_inert
-  pub told : (call : ℕ) → new.calls < call → new.fails_at call ↔ old.fails_at call
+  pub armed : (call : ℕ) → new.calls < call → new.fails_at call ↔ old.fails_at call
 
 -- a fault is answered exactly where the count rose
 pub record HasCause {T E : Type 0} (result : Result T E) (old new : DiskState) : Type 0 where
   pub ok : OnOk result (new.failures ≡ old.failures)
   pub err : OnErr result (old.failures < new.failures)
 
--- An inert device fails this call exactly where it was told to. It takes no memory.
-pub record FailsAsTold {T E : Type 0} (result : Result T E) (old new : DiskState) : Type 0 where
+-- An inert device fails this call exactly where it was armed to. It takes no memory.
+pub record FailsAsArmed {T E : Type 0} (result : Result T E) (old new : DiskState) : Type 0 where
   pub ok : OnOk result (old.is_inert → ¬ old.fails_at (old.calls + 1))
   pub err : OnErr result (old.is_inert → old.fails_at (old.calls + 1))
   pub short : new.is_short ≡ old.is_short
 
--- An inert device fails this call exactly where it was told to, or where a growth was refused in
+-- An inert device fails this call exactly where it was armed to, or where a growth was refused in
 -- it: then it is short from now on.
-pub record FailsAsToldOrShort {T E : Type 0} (result : Result T E)
+pub record FailsAsArmedOrShort {T E : Type 0} (result : Result T E)
     (old new : DiskState) : Type 0 where
   pub ok : OnOk result (old.is_inert → ¬ old.fails_at (old.calls + 1))
   pub same : OnOk result (new.is_short ≡ old.is_short)
@@ -132,9 +132,9 @@ pub record FailsAsToldOrShort {T E : Type 0} (result : Result T E)
 
 -- what an inert device fails such a call for: a read takes no memory
 abbrev pub FailsFor : {T E : Type 0} → Access → Result T E → DiskState → DiskState → Type 0
-FailsFor (Read sector) result old new = FailsAsTold result old new
-FailsFor (Write sector bytes) result old new = FailsAsToldOrShort result old new
-FailsFor Sync result old new = FailsAsToldOrShort result old new
+FailsFor (Read sector) result old new = FailsAsArmed result old new
+FailsFor (Write sector bytes) result old new = FailsAsArmedOrShort result old new
+FailsFor Sync result old new = FailsAsArmedOrShort result old new
 
 -- how many writes such a call is
 abbrev pub writes_in : Access → ℕ
@@ -152,7 +152,7 @@ pub record IsAccess {T E : Type 0} (result : Result T E) (call : Access)
     (old new : DiskState) : Type 0 where
   pub goes_on : GoesOn old new
   pub fault : CountsFault result old new
-  pub told : FailsFor call result old new
+  pub armed : FailsFor call result old new
   pub writes : new.writes ≡ old.writes + writes_in call
   pub recorded : Records result call old.trace new.trace
 
@@ -186,12 +186,12 @@ ReadsAsWritten old new = (i : ℕ) (bytes : List ℕ) → old.written i bytes
     → slice_get new.image i ≡ Some bytes
 
 -- the image of the last sync is the same
-abbrev pub KeepsSynced : DiskState → DiskState → Type 0
-KeepsSynced old new = old.is_honest → new.synced ≡ old.synced
+abbrev pub SyncedStays : DiskState → DiskState → Type 0
+SyncedStays old new = old.is_honest → new.synced ≡ old.synced
 
 -- an inert device reads as before
-abbrev pub KeepsImage : DiskState → DiskState → Type 0
-KeepsImage old new = old.is_honest → old.is_inert → new.image ≡ old.image
+abbrev pub ReadsAsBefore : DiskState → DiskState → Type 0
+ReadsAsBefore old new = old.is_honest → old.is_inert → new.image ≡ old.image
 
 -- an inert device reads as before, with these bytes in the sector
 abbrev pub SetsSector : ℕ → List ℕ → DiskState → DiskState → Type 0
@@ -213,10 +213,10 @@ pub record IsSynced (disk : DiskState) : Type 0 where
 pub record LeavesAsBefore (old new : DiskState) : Type 0 where
   pub touched : old.is_honest → TouchesNothing old new
   pub loose : old.is_honest → StaysLoose old new
-  pub kept : KeepsSynced old new
+  pub kept : SyncedStays old new
 
 -- What was written and has stood since still does, and where no call has failed the same is read.
-pub record KeepsWrites (old new : DiskState) : Type 0 where
+pub record WritesStay (old new : DiskState) : Type 0 where
   pub written : StaysWritten old new
   pub steady : old.is_honest → old.is_steady → IsSteadyAt old.image new
 
@@ -235,7 +235,7 @@ pub record SavesAll (old new : DiskState) : Type 0 where
   pub steady : old.is_steady → IsSteadyAt old.image new
   pub saved : new.synced ≡ new.image
 
--- nothing that is said of the device has changed, but for what it was told
+-- nothing that is said of the device has changed, but for what it was armed to
 pub record IsUnchanged (old new : DiskState) : Type 0 where
   pub size : new.size ≡ old.size
   pub failures : new.failures ≡ old.failures
@@ -253,11 +253,11 @@ pub record IsUnchanged (old new : DiskState) : Type 0 where
   pub moment : new.moment ≡ old.moment
   pub left_since : (t : ℕ) (left : Image) → new.left_since t left ↔ old.left_since t left
 
--- no call to come was told to fail
+-- no call to come was armed to fail
 abbrev pub IsUnarmed : DiskState → Type 0
 IsUnarmed disk = (call : ℕ) → disk.calls < call → ¬ disk.fails_at call
 
--- of the calls to come just these were told to fail
+-- of the calls to come just these were armed to fail
 abbrev pub IsArmedWith : (ℕ → Type 0) → DiskState → Type 0
 IsArmedWith fails disk = (call : ℕ) → disk.calls < call → disk.fails_at call ↔ fails call
 

@@ -1,4 +1,4 @@
--- When the devices that can be told to fail do so. A number of calls left, if it was armed, and how
+-- When the devices that can be armed to fail do so. A number of calls left, if it was armed, and how
 -- many calls were made.
 use Rattle.std.specs.Prelude.{◌≡◌, ◌+◌, ◌-◌, ◌<◌, ◌↔◌, ℕ, Option, Some, None, Bool, IsTrue}
 use Rattle.std.proofs.Common.{arith}
@@ -28,7 +28,7 @@ pub only_last_counts_down : CountsDown OnlyLast
 only_last_counts_down left made call later =
     (λ fails. omega (arith, fails, later), λ fails. omega (arith, fails, later))
 
--- what it was told, if it was
+-- what it was armed to, if it was
 abbrev pub IfArmed : (ℕ → ℕ → ℕ → Type 0) → Option ℕ → ℕ → ℕ → Type 0
 IfArmed fails None made call = ⊥
 IfArmed fails (Some calls) made call = fails calls made call

@@ -78,18 +78,18 @@ in_bytes (SyncSectors ∷ calls) = SyncData ∷ in_bytes calls
 
 -- these calls, but for what reads gave, and for what was dropped after a sync; what a write took is
 -- one piece
-abbrev pub without_given : List FileCall → List FileCall
-without_given [] = []
-without_given (ReadSectors offset run ∷ calls) = ReadSectors offset [] ∷ without_given calls
-without_given (WriteSectors offset run ∷ calls) =
-    WriteSectors offset (joined run ∷ []) ∷ without_given calls
-without_given (SyncData ∷ calls) = SyncData ∷ without_given calls
-without_given (SetLength bytes ∷ calls) = SetLength bytes ∷ without_given calls
-without_given (SyncAll ∷ calls) = SyncAll ∷ without_given calls
-without_given (GetLength bytes ∷ calls) = GetLength bytes ∷ without_given calls
-without_given (DropCached ∷ calls) = without_given calls
-without_given (Lock ∷ calls) = Lock ∷ without_given calls
-without_given (Restrict ∷ calls) = Restrict ∷ without_given calls
+abbrev pub without_bytes : List FileCall → List FileCall
+without_bytes [] = []
+without_bytes (ReadSectors offset run ∷ calls) = ReadSectors offset [] ∷ without_bytes calls
+without_bytes (WriteSectors offset run ∷ calls) =
+    WriteSectors offset (joined run ∷ []) ∷ without_bytes calls
+without_bytes (SyncData ∷ calls) = SyncData ∷ without_bytes calls
+without_bytes (SetLength bytes ∷ calls) = SetLength bytes ∷ without_bytes calls
+without_bytes (SyncAll ∷ calls) = SyncAll ∷ without_bytes calls
+without_bytes (GetLength bytes ∷ calls) = GetLength bytes ∷ without_bytes calls
+without_bytes (DropCached ∷ calls) = without_bytes calls
+without_bytes (Lock ∷ calls) = Lock ∷ without_bytes calls
+without_bytes (Restrict ∷ calls) = Restrict ∷ without_bytes calls
 
 -- Exactly one call of a file, this one: it succeeded, or it failed.
 pub record IsOneCall {F T E : Type 0} (gives fails : F → FileCall → F → Type 0)

@@ -9,35 +9,35 @@ use Rattle.lift_disk.specs.Traced.{making_calls, making_of, traced_calls, failur
 use Rattle.lift_disk.specs.Traced.{IsMadeOf}
 use Rattle.lift_disk.specs.Disk.{DiskState}
 use Rattle.lift_disk.specs.declared.file.FileFault.{FileFault}
-use Rattle.lift_disk.specs.declared.file.FileFault.TheVariants.{Untold, NotAFile, Unopened, Failed}
+use Rattle.lift_disk.specs.declared.file.FileFault.TheVariants.{Unclear, NotAFile, Unopened, Failed}
 use Rattle.lift_disk.specs.declared.sectors.SectorFile.{SectorFile}
-use Rattle.lift_disk.specs.declared.told.ToldFile.{Ghosts as Told}
+use Rattle.lift_disk.specs.declared.listed.ListedFile.{Ghosts as Listed}
 
 -- Its sectors, its counts and its calls, a failed one of which is one of its file, over what its
 -- file holds: it is as honest as that.
-abbrev pub sector_file_state_of : {F : Type 0} {told : Told F} → (holds : F → DiskState)
-    → SectorFile F told → DiskState
+abbrev pub sector_file_state_of : {F : Type 0} {listing : Listed F} → (holds : F → DiskState)
+    → SectorFile F listing → DiskState
 sector_file_state_of holds d = on_file (holds (file_of d.file)) d.sectors (failures_of d.file)
     d.calls.count d.writes.count d.trace.calls
 
 -- how many writes it has had
-abbrev pub writes_of : {F : Type 0} {told : Told F} → SectorFile F told → ℕ
+abbrev pub writes_of : {F : Type 0} {listing : Listed F} → SectorFile F listing → ℕ
 writes_of d = d.writes.count
 
 -- its file
-abbrev pub file_below : {F : Type 0} {told : Told F} → SectorFile F told → F
+abbrev pub file_below : {F : Type 0} {listing : Listed F} → SectorFile F listing → F
 file_below d = file_of d.file
 
 -- the calls of its file by which that was made, before those of the device
-abbrev pub making_below : {F : Type 0} {told : Told F} → SectorFile F told → List FileCall
+abbrev pub making_below : {F : Type 0} {listing : Listed F} → SectorFile F listing → List FileCall
 making_below d = making_of d.file
 
 -- the calls of its file that the device has made, but for those that failed
-abbrev pub calls_below : {F : Type 0} {told : Told F} → SectorFile F told → List FileCall
+abbrev pub calls_below : {F : Type 0} {listing : Listed F} → SectorFile F listing → List FileCall
 calls_below d = traced_calls d.file
 
 -- One of these calls gave these bytes for the sector, by itself or among its neighbours.
-pub record HasGiven (calls : List FileCall) (sector : ℕ) (bytes : List ℕ) : Type 0 where
+pub record HasReadBytes (calls : List FileCall) (sector : ℕ) (bytes : List ℕ) : Type 0 where
   pub before : List FileCall
   pub first : ℕ
   pub run : List (List ℕ)
@@ -54,25 +54,25 @@ AsksForRun old sector run result new =
 
 -- Whether it is known that no call of its file has failed since the last sync that dropped what was
 -- cached. Of a file that was just opened it isn't.
-abbrev pub is_known_steady : {F : Type 0} {told : Told F} → SectorFile F told → Bool
+abbrev pub is_known_steady : {F : Type 0} {listing : Listed F} → SectorFile F listing → Bool
 is_known_steady d = d.is_steady
 
 -- a call that failed leaves that unknown, and another one changes nothing of it
-pub record KeepsKnown {F T E : Type 0} {told : Told F} (result : Result T E)
-    (old new : SectorFile F told) : Type 0 where
+pub record KnownStays {F T E : Type 0} {listing : Listed F} (result : Result T E)
+    (old new : SectorFile F listing) : Type 0 where
   pub ok : OnOk result (is_known_steady new ≡ is_known_steady old)
   pub err : OnErr result (is_known_steady new ≡ false)
 
 -- A read of these sectors from this one on.
-pub record ReadsByCall {F T E : Type 0} {told : Told F} (sector : ℕ) (run : List (List ℕ))
-    (result : Result T E) (old new : SectorFile F told) : Type 0 where
+pub record ReadsByCall {F T E : Type 0} {listing : Listed F} (sector : ℕ) (run : List (List ℕ))
+    (result : Result T E) (old new : SectorFile F listing) : Type 0 where
   pub asked : AsksForRun (calls_below old) sector run result (calls_below new)
-  pub known : KeepsKnown result old new
+  pub known : KnownStays result old new
 
 -- A sync: after it that is known, if it succeeded. Then the calls of the file were one where it was
 -- known before, and else the two by which what is cached is dropped.
-pub record SyncsByCalls {F T E : Type 0} {told : Told F} (result : Result T E)
-    (old new : SectorFile F told) : Type 0 where
+pub record SyncsByCalls {F T E : Type 0} {listing : Listed F} (result : Result T E)
+    (old new : SectorFile F listing) : Type 0 where
   pub made : OnOk result (calls_below new ≡ calls_below old ++ sync_calls (is_known_steady old))
   pub ok : OnOk result (is_known_steady new ≡ true)
   pub err : OnErr result (is_known_steady new ≡ false)
@@ -81,9 +81,9 @@ pub record SyncsByCalls {F T E : Type 0} {told : Told F} (result : Result T E)
 -- its length, before the calls of the device, and the sectors are the whole ones of that length.
 -- The device is honest exactly where that file was when it was opened, and then it holds what that
 -- held.
-pub record IsMeasured {F : Type 0} {told : Told F} (opens : Option F → Type 0)
+pub record IsMeasured {F : Type 0} {listing : Listed F} (opens : Option F → Type 0)
     (gives : F → FileCall → F → Type 0) (holds : F → DiskState) (first : List FileCall)
-    (d : SectorFile F told) : Type 0 where
+    (d : SectorFile F listing) : Type 0 where
   pub file : F
   pub opened : opens (Some file)
   pub bytes : ℕ
@@ -96,9 +96,9 @@ pub record IsMeasured {F : Type 0} {told : Told F} (opens : Option F → Type 0)
 
 -- A device of this many sectors on a file that was made: the device is honest exactly where that
 -- file was when it was opened.
-pub record IsMadeDevice {F : Type 0} {told : Told F} (opens : Option F → Type 0)
+pub record IsMadeDevice {F : Type 0} {listing : Listed F} (opens : Option F → Type 0)
     (names : F → Type 0) (gives : F → FileCall → F → Type 0) (holds : F → DiskState) (sectors : ℕ)
-    (d : SectorFile F told) : Type 0 where
+    (d : SectorFile F listing) : Type 0 where
   pub made : IsMadeOf opens names gives holds sectors (file_below d)
   pub honest : (sector_file_state_of holds d).is_honest ↔ (holds made.file).is_honest
 
@@ -127,7 +127,7 @@ stands_in_the_way stands told = stands told × (told ≡ Some false)
 -- didn't open it; or a file was opened, and failed so.
 abbrev pub IsRefused : {F O : Type 0} → (opener : O) → (stands : Option Bool → Type 0)
     → (opens : Option F → Type 0) → (fails : F → F → Type 0) → FileFault F O → Type 0
-IsRefused opener stands opens fails (Untold error back) = stands None × (back ≡ opener)
+IsRefused opener stands opens fails (Unclear error back) = stands None × (back ≡ opener)
 IsRefused opener stands opens fails (NotAFile back) = stands (Some false) × (back ≡ opener)
 IsRefused opener stands opens fails (Unopened error) = opens None
 IsRefused {F} opener stands opens fails (Failed failed) =

@@ -1,7 +1,7 @@
 -- What a file holds, by its sectors, and what its calls do to that where it is honest.
 use Rattle.std.specs.Prelude.{◌≡◌, ◌↔◌, ◌⊎◌, ◌≤◌, ◌<◌, ◌+◌, ◌*◌, ◌/◌, ℕ, List, [], length, false}
 use Rattle.std.specs.Prelude.{if◌then◌else◌, nat_lt, Result, OnOk, OnErr}
-use Rattle.lift_disk.specs.Disk.{DiskState, Elapses, Image, IsSteadyAt, KeepsWrites, SavesAll}
+use Rattle.lift_disk.specs.Disk.{DiskState, Elapses, Image, IsSteadyAt, WritesStay, SavesAll}
 use Rattle.lift_disk.specs.Runs.{HoldsRun, IsInRun, Rests, RunIsWritten, with_run}
 use Rattle.lift_disk.specs.Trace.{Access}
 
@@ -60,7 +60,7 @@ AtSectors offset count held P =
 -- These sectors were read, from that one on.
 pub record ReadsRun (sector : ℕ) (run : List (List ℕ)) (old new : DiskState) : Type 0 where
   pub rests : Rests old new
-  pub keeps : KeepsWrites old new
+  pub keeps : WritesStay old new
   pub gives : HoldsRun sector (length run) run new.image
 
 -- each of this many sectors from that one on was said to be written
@@ -134,7 +134,7 @@ pub record Syncs {T E : Type 0} (relied : Type 0) (result : Result T E)
 pub record WritesBack {T E : Type 0} (result : Result T E) (old new : DiskState) : Type 0 where
   pub same : IsSameFile old new
   pub rests : old.is_honest → Rests old new
-  pub keeps : OnOk result (old.is_honest → KeepsWrites old new)
+  pub keeps : OnOk result (old.is_honest → WritesStay old new)
 
 -- One sector more is loose, if it is one of the file. It is no call, and nothing else changes.
 pub record OpensSector (sector : ℕ) (old new : DiskState) : Type 0 where

@@ -32,7 +32,7 @@ pub record WasLeft (first : Image) (calls : List Call) (since : ℕ) (left : Ima
   pub synced : slice_get calls at ≡ Some (Sync loose)
   pub within : ChangesWithin (IsFlagged loose) (image_after (take at calls) first) left
 
--- What is said of a device in memory that was told nothing. Its calls by now are counted, and those
+-- What is said of a device in memory that was never armed. Its calls by now are counted, and those
 -- that change what a crash leaves are recorded.
 abbrev pub memory_state : Image → List Call → Image → Image → List Bool → Bool → ℕ → ℕ → ℕ
     → List Access → DiskState

@@ -8,7 +8,7 @@ use Rattle.std.proofs.lemmas.List.{length-set}
 use Rattle.lift_disk.specs.Trace.{Access}
 use Rattle.lift_disk.specs.Trace.Access.{Write}
 use Rattle.lift_disk.specs.Disk.{DiskState, Image, ChangesWithin, Elapses, Touches, TouchesNothing}
-use Rattle.lift_disk.specs.Disk.{StaysLoose, KeepsSynced, IsSteadyAt}
+use Rattle.lift_disk.specs.Disk.{StaysLoose, SyncedStays, IsSteadyAt}
 
 -- one of this many sectors from that one on
 abbrev pub IsInRun : ℕ → ℕ → ℕ → Type 0
@@ -35,8 +35,8 @@ HoldsRun from count run image = (i : ℕ) → IsInRun from count i
 
 -- each of this many sectors from that one on was given with the bytes that it has here
 abbrev pub GivesRun : (ℕ → List ℕ → Type 0) → ℕ → ℕ → List (List ℕ) → Type 0
-GivesRun has_given from count run = (i : ℕ) (bytes : List ℕ) → IsInRun from count i
-    → slice_get run (i - from) ≡ Some bytes → ∥ has_given i bytes ∥₁
+GivesRun has_read_bytes from count run = (i : ℕ) (bytes : List ℕ) → IsInRun from count i
+    → slice_get run (i - from) ≡ Some bytes → ∥ has_read_bytes i bytes ∥₁
 
 -- these sectors are written from that one on, and what was written in others still stands
 pub record RunIsWritten (from : ℕ) (run : List (List ℕ)) (old new : DiskState) : Type 0 where
@@ -60,7 +60,7 @@ pub record Announces (sector : ℕ) (old new : DiskState) : Type 0 where
   pub honest : new.is_honest ↔ old.is_honest
   pub inert : new.is_inert ↔ old.is_inert
   pub short : new.is_short ≡ old.is_short
-  pub told : (call : ℕ) → new.fails_at call ↔ old.fails_at call
+  pub armed : (call : ℕ) → new.fails_at call ↔ old.fails_at call
   pub image : new.image ≡ old.image
   pub synced : new.synced ≡ old.synced
   pub loose : old.is_honest → (i : ℕ) → new.is_loose i ↔ (old.is_loose i ⊎ (i ≡ sector))
@@ -123,7 +123,7 @@ pub record Rests (old new : DiskState) : Type 0 where
   pub time : old.is_honest → Elapses old new
   pub touched : old.is_honest → TouchesNothing old new
   pub loose : old.is_honest → StaysLoose old new
-  pub kept : KeepsSynced old new
+  pub kept : SyncedStays old new
 
 -- One sector more is loose, and nothing but loose sectors has changed.
 pub record Loosens (sector : ℕ) (old new : DiskState) : Type 0 where
@@ -131,7 +131,7 @@ pub record Loosens (sector : ℕ) (old new : DiskState) : Type 0 where
   pub honest : new.is_honest ↔ old.is_honest
   pub time : old.is_honest → Elapses old new
   pub touched : old.is_honest → Touches sector old new
-  pub kept : KeepsSynced old new
+  pub kept : SyncedStays old new
 
 -- the rest of a list after a write to another place
 get_other : {X : Type 0} (xs : List X) (i k : ℕ) (x : X) → k ≢ i

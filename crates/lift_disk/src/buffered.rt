@@ -1,7 +1,7 @@
 //! A device that reads ahead, and holds neighbouring writes back until it makes them as one.
 ghost use Rattle.std.specs.Prelude.{◌≡◌, ◌≤◌, ◌<◌, ◌+◌, [], ℕ, List, length, Some};
 ghost use Rattle.std.specs.Prelude.{slice_get, take, IsTrue, OnOk, OnErr, IfSome, IfNone, ◌↔◌};
-ghost use Rattle.lift_disk.specs.Disk.{CountsFault, IsAccess, KeepsWrites, LeavesAsBefore, MayLeave};
+ghost use Rattle.lift_disk.specs.Disk.{CountsFault, IsAccess, WritesStay, LeavesAsBefore, MayLeave};
 ghost use Rattle.lift_disk.specs.Trace.Access.{Read};
 ghost use Rattle.lift_disk.specs.Holding.{HoldsTheSame};
 ghost use Rattle.lift_disk.specs.Runs.{Announces, GivesRun, HoldsRun, IsInRun};
@@ -35,10 +35,10 @@ fn read_to_front<R: RunDisk>(
     requires inside { sector + count ≤ (R.state device.old).size }
     ensures access { IsAccess result (Read sector) (R.state device.old) (R.state device.new) }
     ensures leaves { LeavesAsBefore (R.state device.old) (R.state device.new) }
-    ensures keeps { OnOk result (KeepsWrites (R.state device.old) (R.state device.new)) }
+    ensures keeps { OnOk result (WritesStay (R.state device.old) (R.state device.new)) }
     ensures gives { OnOk result ((R.state device.old).is_honest
         → HoldsRun sector count room.new (R.state device.new).image) }
-    ensures given { OnOk result (GivesRun (R.has_given device.new) sector count room.new) }
+    ensures given { OnOk result (GivesRun (R.has_read_bytes device.new) sector count room.new) }
     ensures own { R.read_run_gives device.old sector (take count room.new) result device.new }
     ensures long { length (take count room.new) ≡ count }
 {
@@ -67,7 +67,7 @@ pub struct Buffered<R: RunDisk + Drop> {
     ghost count: { ahead_count ≤ 16 },
     ghost read: { (R.state device).is_honest
         → HoldsRun ahead_from ahead_count ahead (R.state device).image },
-    ghost given: { GivesRun (R.has_given device) ahead_from ahead_count ahead },
+    ghost given: { GivesRun (R.has_read_bytes device) ahead_from ahead_count ahead },
 }
 
 impl<R: RunDisk + Drop> Buffered<R> {
@@ -137,7 +137,7 @@ impl<R: RunDisk + Drop> Buffered<R> {
         ensures some { IfSome result (λ bytes. (R.state self.now.device).is_honest
             → slice_get (R.state self.now.device).image sector ≡ Some bytes.now) }
         ensures given { IfSome result (λ bytes.
-            ∥ R.has_given self.now.device sector bytes.now ∥₁) }
+            ∥ R.has_read_bytes self.now.device sector bytes.now ∥₁) }
     {
         if sector < self.ahead_from {
             return None;
@@ -153,7 +153,7 @@ impl<R: RunDisk + Drop> Buffered<R> {
     fn flush(&mut self) -> Result<(), DiskFault>
         ensures rests { Rests (as_written R.state self.old) (as_written R.state self.new) }
         ensures keeps { OnOk result
-            (KeepsWrites (as_written R.state self.old) (as_written R.state self.new)) }
+            (WritesStay (as_written R.state self.old) (as_written R.state self.new)) }
         ensures made { MakesCalls result (run_calls self.old.from self.old.pending.items)
             (R.state self.old.device) (R.state self.new.device) }
         ensures none { self.new.pending.items ≡ [] }
@@ -185,7 +185,7 @@ impl<R: RunDisk + Drop> Buffered<R> {
         requires { sector < (R.state self.old.device).size }
         ensures opens { Loosens sector (as_written R.state self.old) (as_written R.state self.new) }
         ensures keeps { OnOk result
-            (KeepsWrites (as_written R.state self.old) (as_written R.state self.new)) }
+            (WritesStay (as_written R.state self.old) (as_written R.state self.new)) }
         ensures waits { CanWait self.old sector
             → Announces sector (R.state self.old.device) (R.state self.new.device) }
         ensures held { OnOk result (CanWait self.old sector
@@ -215,11 +215,11 @@ impl<R: RunDisk + Drop> Buffered<R> {
         requires { sector < (R.state self.old.device).size }
         ensures rests { Rests (as_written R.state self.old) (as_written R.state self.new) }
         ensures keeps { OnOk result
-            (KeepsWrites (as_written R.state self.old) (as_written R.state self.new)) }
+            (WritesStay (as_written R.state self.old) (as_written R.state self.new)) }
         ensures gives { OnOk result ((R.state self.old.device).is_honest
             → slice_get (R.state self.new.device).image sector ≡ slice_get self.new.ahead 0) }
         ensures given { OnOk result ((bytes : List ℕ) → slice_get self.new.ahead 0 ≡ Some bytes
-            → ∥ R.has_given self.new.device sector bytes ∥₁) }
+            → ∥ R.has_read_bytes self.new.device sector bytes ∥₁) }
         ensures asked { AsksAhead R.state R.read_run_gives self.old.device sector result
             self.new.device }
         ensures pending { (self.new.from ≡ self.old.from) × (self.new.pending ≡ self.old.pending) }
@@ -241,10 +241,10 @@ impl<R: RunDisk + Drop> Buffered<R> {
         requires { sector < (R.state self.old.device).size }
         ensures rests { Rests (as_written R.state self.old) (as_written R.state self.new) }
         ensures keeps { OnOk result
-            (KeepsWrites (as_written R.state self.old) (as_written R.state self.new)) }
+            (WritesStay (as_written R.state self.old) (as_written R.state self.new)) }
         ensures gives { OnOk result ((R.state self.old.device).is_honest
             → slice_get (as_written R.state self.new).image sector ≡ Some buffer.new) }
-        ensures below { GivesBelow R.state R.has_given R.read_run_gives self.old sector buffer.new
+        ensures below { GivesBelow R.state R.has_read_bytes R.read_run_gives self.old sector buffer.new
             result self.new }
         ensures faults { CountsFault result (R.state self.old.device) (R.state self.new.device) }
         ensures counts { (self.new.calls ≡ self.old.calls) × (self.new.writes ≡ self.old.writes) }
@@ -273,7 +273,7 @@ impl<R: RunDisk + Drop> Disk for Buffered<R> {
 
     // the other device has no call, or one: a read of 16 sectors
     ghost read_gives = { λ old sector bytes result new.
-        GivesBelow R.state R.has_given R.read_run_gives old sector bytes result new };
+        GivesBelow R.state R.has_read_bytes R.read_run_gives old sector bytes result new };
 
     // it has no call, or one: a write of all that was held back
     ghost write_gives = { λ old sector bytes result new.

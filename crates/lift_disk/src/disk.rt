@@ -2,7 +2,7 @@
 //! leave.
 ghost use Rattle.std.specs.Prelude.{◌≡◌, ◌<◌, ℕ, OnOk, OnErr, List, Some, Result, slice_get, ⊤};
 ghost use Rattle.lift_disk.specs.Trace.Access.{Read, Write, Sync};
-ghost use Rattle.lift_disk.specs.Disk.{DiskState, IsAccess, KeepsImage, KeepsSynced, KeepsWrites};
+ghost use Rattle.lift_disk.specs.Disk.{DiskState, IsAccess, ReadsAsBefore, SyncedStays, WritesStay};
 ghost use Rattle.lift_disk.specs.Disk.{LeavesAsBefore, SavesAll, StoresSector, Touches};
 ghost use Rattle.lift_disk.specs.Disk.{IsUnchanged, IsArmedWith, IsWhole, CountsNow, LeavesNoOther};
 ghost use Rattle.lift_disk.specs.Disk.{MayLose};
@@ -39,10 +39,10 @@ pub trait Disk {
         requires { sector < (state self.old).size }
         ensures access { IsAccess result (Read sector) (state self.old) (state self.new) }
         ensures leaves { LeavesAsBefore (state self.old) (state self.new) }
-        ensures keeps { OnOk result (KeepsWrites (state self.old) (state self.new)) }
+        ensures keeps { OnOk result (WritesStay (state self.old) (state self.new)) }
         ensures gives { OnOk result ((state self.old).is_honest
             → slice_get (state self.new).image sector ≡ Some buffer.new) }
-        ensures image { KeepsImage (state self.old) (state self.new) }
+        ensures image { ReadsAsBefore (state self.old) (state self.new) }
         ensures own { read_gives self.old sector buffer.new result self.new };
 
     /// Writes a sector. Until a sync succeeds a crash may leave any bytes at all in it, also where
@@ -53,10 +53,10 @@ pub trait Disk {
             (state self.new) }
         ensures touched { (state self.old).is_honest
             → Touches sector (state self.old) (state self.new) }
-        ensures kept { KeepsSynced (state self.old) (state self.new) }
+        ensures kept { SyncedStays (state self.old) (state self.new) }
         ensures stores { OnOk result
             (StoresSector sector bytes.now (state self.old) (state self.new)) }
-        ensures image_err { OnErr result (KeepsImage (state self.old) (state self.new)) }
+        ensures image_err { OnErr result (ReadsAsBefore (state self.old) (state self.new)) }
         ensures own { write_gives self.old sector bytes.now result self.new };
 
     /// Once it succeeds, a crash leaves what is read.
@@ -65,7 +65,7 @@ pub trait Disk {
         ensures saves { OnOk result ((state self.old).is_honest
             → SavesAll (state self.old) (state self.new)) }
         ensures leaves { OnErr result (LeavesAsBefore (state self.old) (state self.new)) }
-        ensures image { KeepsImage (state self.old) (state self.new) }
+        ensures image { ReadsAsBefore (state self.old) (state self.new) }
         ensures own { sync_gives self.old result self.new };
 
     /// The image has as many sectors as the device says.
@@ -81,7 +81,7 @@ pub trait Disk {
     ghost may_lose: { (disk : Self) → MayLose (state disk) };
 }
 
-/// A device that can be told to fail.
+/// A device that can be armed to fail.
 pub trait Arm: Disk {
     /// Armed with this number, when this many calls had been made: whether it fails this call,
     /// counted from the first of all.
@@ -90,7 +90,7 @@ pub trait Arm: Disk {
     /// Tells it again which calls to fail. It changes no image and is no call of the device.
     fn arm(&mut self, calls: u32)
         ensures same { IsUnchanged (Self.state self.old) (Self.state self.new) }
-        ensures told { IsArmedWith (fails_by calls (Self.state self.old).calls) (Self.state self.new) };
+        ensures armed { IsArmedWith (fails_by calls (Self.state self.old).calls) (Self.state self.new) };
 
     /// Whether a growth inside the device was refused, now or earlier.
     fn short(&self) -> bool

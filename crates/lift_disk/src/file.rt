@@ -4,9 +4,9 @@ ghost use Rattle.lift_disk.specs.Holding.{sectors_in};
 ghost use Rattle.lift_disk.specs.FileCalls.FileCall.{Lock};
 
 use crate::buffered::Buffered;
+use crate::listed::ListedFile;
 use crate::opener::FileOpener;
 use crate::sectors::{SECTOR_BYTES, SectorFile};
-use crate::told::ToldFile;
 use crate::traced::TracedFile;
 use std::fs::OpenOptions;
 use std::io;
@@ -23,7 +23,7 @@ pub struct FailedFile<F: Drop> {
 #[derive(Drop)]
 pub enum FileFault<F: Drop, O: Drop> {
     /// The system didn't say what stands there.
-    Untold(io::Error, O),
+    Unclear(io::Error, O),
     /// A folder, a pipe or another thing that is no plain file stands there.
     NotAFile(O),
     /// The system refused to open it.
@@ -47,7 +47,7 @@ pub type FileDisk<F> = SectorFile<F>;
 /// as one.
 pub type BufferedFile<F> = Buffered<SectorFile<F>>;
 
-impl<F: ToldFile + Drop> SectorFile<F> {
+impl<F: ListedFile + Drop> SectorFile<F> {
     ghost use Rattle.lift_disk.specs.Files.{IsMeasured, IsMadeDevice, sector_file_state_of};
     ghost use Rattle.lift_disk.specs.Files.{IsRefused, stands_in_the_way, fails_making};
     ghost use Rattle.lift_disk.specs.Files.{fails_opening};
@@ -57,7 +57,7 @@ impl<F: ToldFile + Drop> SectorFile<F> {
     /// Opens a file that is there, if its lock is free. Its whole sectors count, 4,294,967,295
     /// at most; the end that is less than one doesn't. A pipe or a terminal isn't opened, so that
     /// nothing waits for its other end. A file that was opened and is refused comes back.
-    pub fn open<O: FileOpener<Told = F>>(
+    pub fn open<O: FileOpener<Listed = F>>(
         opener: O,
         path: &str,
     ) -> Result<SectorFile<F>, FileFault<F, O>>
@@ -71,12 +71,12 @@ impl<F: ToldFile + Drop> SectorFile<F> {
         ensures writes { IfOk result (λ disk. (sector_file_state_of F.holds disk).writes ≡ 0) }
         ensures trace { IfOk result (λ disk. (sector_file_state_of F.holds disk).trace ≡ []) }
     {
-        match opener.is_file_told(path) {
+        match opener.is_file_at(path) {
             Ok(true) => {}
             Ok(false) => return Err(FileFault::NotAFile(opener)),
-            Err(error) => return Err(FileFault::Untold(error, opener)),
+            Err(error) => return Err(FileFault::Unclear(error, opener)),
         }
-        let file = match opener.open_told(OpenOptions::new().read(true).write(true), path) {
+        let file = match opener.open_once(OpenOptions::new().read(true).write(true), path) {
             Ok((file, _folder)) => file,
             Err(error) => return Err(FileFault::Unopened(error)),
         };
@@ -87,7 +87,7 @@ impl<F: ToldFile + Drop> SectorFile<F> {
     }
 
     /// The same to be read alone, beside whoever has the lock: what is read may change meanwhile.
-    pub fn open_to_read<O: FileOpener<Told = F>>(
+    pub fn open_to_read<O: FileOpener<Listed = F>>(
         opener: O,
         path: &str,
     ) -> Result<SectorFile<F>, FileFault<F, O>>
@@ -101,12 +101,12 @@ impl<F: ToldFile + Drop> SectorFile<F> {
         ensures writes { IfOk result (λ disk. (sector_file_state_of F.holds disk).writes ≡ 0) }
         ensures trace { IfOk result (λ disk. (sector_file_state_of F.holds disk).trace ≡ []) }
     {
-        match opener.is_file_told(path) {
+        match opener.is_file_at(path) {
             Ok(true) => {}
             Ok(false) => return Err(FileFault::NotAFile(opener)),
-            Err(error) => return Err(FileFault::Untold(error, opener)),
+            Err(error) => return Err(FileFault::Unclear(error, opener)),
         }
-        let file = match opener.open_told(OpenOptions::new().read(true), path) {
+        let file = match opener.open_once(OpenOptions::new().read(true), path) {
             Ok((file, _folder)) => file,
             Err(error) => return Err(FileFault::Unopened(error)),
         };
@@ -120,7 +120,7 @@ impl<F: ToldFile + Drop> SectorFile<F> {
     /// lock is free. Nobody but its owner may have it then. Its sectors are written and its folder
     /// is made safe, so that it has its room and its name. A file that was opened and is refused
     /// comes back.
-    pub fn create<O: FileOpener<Told = F>>(
+    pub fn create<O: FileOpener<Listed = F>>(
         opener: O,
         path: &str,
         sectors: u32,
@@ -138,12 +138,12 @@ impl<F: ToldFile + Drop> SectorFile<F> {
         ensures writes { IfOk result (λ disk. (sector_file_state_of F.holds disk).writes ≡ 0) }
         ensures trace { IfOk result (λ disk. (sector_file_state_of F.holds disk).trace ≡ []) }
     {
-        if let Ok(false) = opener.is_file_told(path) {
+        if let Ok(false) = opener.is_file_at(path) {
             return Err(FileFault::NotAFile(opener));
         }
         let mut how = OpenOptions::new();
         how.read(true).write(true).create(true);
-        let (file, folder) = match opener.open_told(&how, path) {
+        let (file, folder) = match opener.open_once(&how, path) {
             Ok(opened) => opened,
             Err(error) => return Err(FileFault::Unopened(error)),
         };

@@ -128,7 +128,7 @@ impl Disk for MemDisk {
 impl RunDisk for MemDisk {
     ghost use Rattle.lift_disk.specs.Outcomes.{state_of};
 
-    ghost has_given = { λ _ _ _. ⊤ };
+    ghost has_read_bytes = { λ _ _ _. ⊤ };
 
     // it is read at once, also after a failed call
     ghost write_run_gives = { λ old sector run _ new.

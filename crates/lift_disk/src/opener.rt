@@ -2,7 +2,7 @@
 ghost use Rattle.std.specs.Prelude.{◌≡◌, ℕ, List, Option, Some, None, Bool, IfOk, OnErr, OnOk, ⊤};
 ghost use Rattle.std.specs.declared.fs.options.OpenOptions.{OpenOptions as Options};
 
-use crate::told::{OWNER_ALONE, SystemFile, ToldFile};
+use crate::listed::{ListedFile, OWNER_ALONE, SystemFile};
 use std::fs::{File, OpenOptions};
 use std::io::ErrorKind;
 use std::os::unix::fs::{MetadataExt, OpenOptionsExt};
@@ -15,40 +15,40 @@ use std::{fs, io};
 /// A device is proved for each opener, whatever its calls give: so its file is one that was opened by
 /// the options and at the path that a clause names.
 pub trait FileOpener: Drop {
-    type Told: ToldFile + Drop;
+    type Listed: ListedFile + Drop;
 
     /// What makes the folder of the file that was opened safe, once.
     type Folder: Drop;
 
     /// What was given where a file was to be opened by these options at a path.
-    ghost opens: { Self → Options → List ℕ → Option Self.Told → Type 0 };
+    ghost opens: { Self → Options → List ℕ → Option Self.Listed → Type 0 };
 
     /// At this path the folder names this file for good: a power cut doesn't take the name back.
-    ghost names: { Self → List ℕ → Self.Told → Type 0 };
+    ghost names: { Self → List ℕ → Self.Listed → Type 0 };
 
     /// What was answered where it was asked whether a plain file stands at a path, nothing where
     /// that failed.
     ghost stands: { Self → List ℕ → Option Bool → Type 0 };
 
     /// The folder of this path, in which this file was made, couldn't be made safe.
-    ghost unnamed: { Self → List ℕ → Self.Told → Type 0 };
+    ghost unnamed: { Self → List ℕ → Self.Listed → Type 0 };
 
     /// What opened the file of this folder.
     ghost opener_of: { Self.Folder → Self };
 
     /// Whether a plain file is at the path.
-    fn is_file_told(&self, path: &str) -> io::Result<bool>
-        ensures told { IfOk result (λ is_file. stands self.now path.now (Some is_file)) }
+    fn is_file_at(&self, path: &str) -> io::Result<bool>
+        ensures stands { IfOk result (λ is_file. stands self.now path.now (Some is_file)) }
         ensures refused { OnErr result (stands self.now path.now None) };
 
     /// The file at the path, by these options, and its folder.
-    fn open_told(self, how: &OpenOptions, path: &str) -> io::Result<(Self::Told, Self::Folder)>
+    fn open_once(self, how: &OpenOptions, path: &str) -> io::Result<(Self::Listed, Self::Folder)>
         ensures opened { IfOk result (λ given. opens self how.now path.now (Some given.0)) }
         ensures folder { IfOk result (λ given. opener_of given.1 ≡ self) }
         ensures refused { OnErr result (opens self how.now path.now None) };
 
     /// Makes the folder safe in which this file was made.
-    fn sync_folder_told(folder: Self::Folder, path: &str, made: &Self::Told) -> io::Result<()>
+    fn sync_folder(folder: Self::Folder, path: &str, made: &Self::Listed) -> io::Result<()>
         ensures named { OnOk result (names (opener_of folder) path.now made.now) }
         ensures refused { OnErr result (unnamed (opener_of folder) path.now made.now) };
 }
@@ -114,7 +114,7 @@ pub struct SystemFolder<'r> {
 }
 
 impl<'r> FileOpener for SystemOpener<'r> {
-    type Told = SystemFile<File>;
+    type Listed = SystemFile<File>;
 
     type Folder = SystemFolder<'r>;
 
@@ -128,11 +128,11 @@ impl<'r> FileOpener for SystemOpener<'r> {
 
     ghost opener_of = { λ folder. folder.opener };
 
-    fn is_file_told(&self, path: &str) -> io::Result<bool> {
+    fn is_file_at(&self, path: &str) -> io::Result<bool> {
         Ok(fs::metadata(self.rt, path)?.is_file())
     }
 
-    fn open_told(
+    fn open_once(
         self,
         how: &OpenOptions,
         path: &str,
@@ -150,7 +150,7 @@ impl<'r> FileOpener for SystemOpener<'r> {
         Ok((SystemFile::over(file), folder))
     }
 
-    fn sync_folder_told(
+    fn sync_folder(
         folder: SystemFolder<'r>,
         path: &str,
         _made: &SystemFile<File>,

@@ -1,4 +1,4 @@
-//! Rules by which a device that was told to fail does so.
+//! Rules by which a device that was armed to fail does so.
 ghost use Rattle.std.specs.Prelude.{◌↔◌, ◌+◌, ℕ, IsTrue};
 ghost use Rattle.lift_disk.specs.Faults.{AllAfter, CountsDown, OnlyLast};
 ghost use Rattle.lift_disk.specs.Faults.{all_after_counts_down, only_last_counts_down};

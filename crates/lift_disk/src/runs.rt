@@ -1,6 +1,6 @@
 //! Devices that take several neighbouring sectors in one call.
 ghost use Rattle.std.specs.Prelude.{◌≡◌, ◌≤◌, ◌<◌, ◌+◌, ℕ, OnOk, List, length, Result, ⊤};
-ghost use Rattle.lift_disk.specs.Disk.{IsAccess, KeepsWrites, LeavesAsBefore};
+ghost use Rattle.lift_disk.specs.Disk.{IsAccess, WritesStay, LeavesAsBefore};
 ghost use Rattle.lift_disk.specs.Runs.{Announces, GivesRun, HoldsRun, IsInRun, StoresRun, joined};
 ghost use Rattle.lift_disk.specs.Trace.Access.{Read, Write};
 
@@ -11,7 +11,7 @@ pub trait RunDisk: Disk {
     ghost use Rattle.lift_disk.specs.declared.disk.DiskFault.{DiskFault};
 
     /// A call of the device has given these bytes for the sector.
-    ghost has_given: { Self → ℕ → List ℕ → Type 0 };
+    ghost has_read_bytes: { Self → ℕ → List ℕ → Type 0 };
 
     /// What a device says of an announcement beside: of the device before, the sector, and the
     /// device after it.
@@ -31,8 +31,8 @@ pub trait RunDisk: Disk {
     fn announce(&mut self, sector: u32)
         requires { sector < (Self.state self.old).size }
         ensures announced { Announces sector (Self.state self.old) (Self.state self.new) }
-        ensures given { (i : ℕ) (bytes : List ℕ) → ∥ has_given self.old i bytes ∥₁
-            → ∥ has_given self.new i bytes ∥₁ }
+        ensures given { (i : ℕ) (bytes : List ℕ) → ∥ has_read_bytes self.old i bytes ∥₁
+            → ∥ has_read_bytes self.new i bytes ∥₁ }
         ensures own { announce_gives self.old sector self.new };
 
     /// Reads as many sectors as there is room for, from this one on. A failed read leaves the room
@@ -41,10 +41,10 @@ pub trait RunDisk: Disk {
         requires { sector + length run.old ≤ (Self.state self.old).size }
         ensures access { IsAccess result (Read sector) (Self.state self.old) (Self.state self.new) }
         ensures leaves { LeavesAsBefore (Self.state self.old) (Self.state self.new) }
-        ensures keeps { OnOk result (KeepsWrites (Self.state self.old) (Self.state self.new)) }
+        ensures keeps { OnOk result (WritesStay (Self.state self.old) (Self.state self.new)) }
         ensures gives { OnOk result ((Self.state self.old).is_honest
             → HoldsRun sector (length run.new) run.new (Self.state self.new).image) }
-        ensures given { OnOk result (GivesRun (has_given self.new) sector (length run.new) run.new) }
+        ensures given { OnOk result (GivesRun (has_read_bytes self.new) sector (length run.new) run.new) }
         ensures own { read_run_gives self.old sector run.new result self.new };
 
     /// Writes these sectors from that one on, each of which was announced. Until a sync succeeds a

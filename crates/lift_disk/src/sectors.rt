@@ -1,13 +1,13 @@
 //! Sectors on a file, by its calls alone.
 ghost use Rattle.std.specs.Prelude.{◌≡◌, ◌↔◌, ◌*◌, [], ◌∷◌, IsTrue, false};
 ghost use Rattle.std.proofs.Common.{◌∙◌};
-ghost use Rattle.lift_disk.specs.FileCalls.{in_bytes, without_given};
+ghost use Rattle.lift_disk.specs.FileCalls.{in_bytes, without_bytes};
 ghost use Rattle.lift_disk.specs.Blank.{IsUncalledDisk};
 ghost use Rattle.lift_disk.specs.Holding.{IsKnownSteady};
 ghost use Rattle.lift_disk.specs.Traced.{traced_calls, failures_of, making_of};
 
+use crate::listed::ListedFile;
 use crate::runs::RunDisk;
-use crate::told::ToldFile;
 use crate::trace::{Made, ProofTrace};
 use crate::traced::TracedFile;
 use crate::{Disk, DiskFault};
@@ -26,7 +26,7 @@ pub(crate) fn offset_of(sector: u32) -> u64
 /// A device on anything that takes the calls of a file: each of its calls is one of the file's, at
 /// the sector's offset.
 #[derive(Drop)]
-pub struct SectorFile<F: ToldFile + Drop> {
+pub struct SectorFile<F: ListedFile + Drop> {
     file: TracedFile<F>,
     sectors: u32,
     /// It is known that no call has failed since the last sync that dropped what was cached.
@@ -34,12 +34,12 @@ pub struct SectorFile<F: ToldFile + Drop> {
     calls: ProofCount,
     writes: ProofCount,
     trace: ProofTrace,
-    ghost at_offsets: { without_given file.calls.calls ≡ in_bytes trace.calls },
+    ghost at_offsets: { without_bytes file.calls.calls ≡ in_bytes trace.calls },
     ghost steady: { IsTrue is_steady → (F.holds file.file).is_honest
         → (F.holds file.file).size ≡ sectors → IsKnownSteady (F.holds file.file) },
 }
 
-impl<F: ToldFile + Drop> SectorFile<F> {
+impl<F: ListedFile + Drop> SectorFile<F> {
     ghost use Rattle.lift_disk.specs.Files.{sector_file_state_of, file_below, making_below};
     ghost use Rattle.lift_disk.specs.Files.{calls_below, is_known_steady};
     ghost use Rattle.lift_disk.specs.Traced.{file_of};
@@ -70,8 +70,8 @@ impl<F: ToldFile + Drop> SectorFile<F> {
     }
 }
 
-impl<F: ToldFile + Drop> Disk for SectorFile<F> {
-    ghost use Rattle.lift_disk.specs.Files.{KeepsKnown, ReadsByCall, SyncsByCalls};
+impl<F: ListedFile + Drop> Disk for SectorFile<F> {
+    ghost use Rattle.lift_disk.specs.Files.{KnownStays, ReadsByCall, SyncsByCalls};
     ghost use Rattle.lift_disk.specs.Files.{sector_file_state_of};
     ghost use Rattle.lift_disk.specs.Traced.{file_of};
 
@@ -81,7 +81,7 @@ impl<F: ToldFile + Drop> Disk for SectorFile<F> {
     ghost read_gives = { λ old sector bytes result new.
         ReadsByCall sector (bytes ∷ []) result old new };
 
-    ghost write_gives = { λ old _ _ result new. KeepsKnown result old new };
+    ghost write_gives = { λ old _ _ result new. KnownStays result old new };
 
     // what is cached is dropped after a sync, unless it is known that this isn't needed
     ghost sync_gives = { λ old result new. SyncsByCalls result old new };
@@ -119,18 +119,18 @@ impl<F: ToldFile + Drop> Disk for SectorFile<F> {
     }
 }
 
-impl<F: ToldFile + Drop> RunDisk for SectorFile<F> {
-    ghost use Rattle.lift_disk.specs.Files.{HasGiven, KeepsKnown, ReadsByCall, calls_below};
+impl<F: ListedFile + Drop> RunDisk for SectorFile<F> {
+    ghost use Rattle.lift_disk.specs.Files.{HasReadBytes, KnownStays, ReadsByCall, calls_below};
     ghost use Rattle.lift_disk.specs.Files.{is_known_steady};
 
-    ghost has_given = { λ d. HasGiven (calls_below d) };
+    ghost has_read_bytes = { λ d. HasReadBytes (calls_below d) };
 
     ghost announce_gives = { λ old _ new. is_known_steady new ≡ is_known_steady old };
 
     // its file was asked for just these
     ghost read_run_gives = { λ old sector run result new. ReadsByCall sector run result old new };
 
-    ghost write_run_gives = { λ old _ _ result new. KeepsKnown result old new };
+    ghost write_run_gives = { λ old _ _ result new. KnownStays result old new };
 
     fn announce(&mut self, sector: u32) {
         self.file.announce(sector);

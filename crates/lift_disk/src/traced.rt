@@ -11,8 +11,8 @@ ghost use Rattle.lift_disk.specs.FileCalls.FileCall.{GetLength, Lock, Restrict, 
 use crate::DiskFault;
 use crate::file::FailedFile;
 use crate::file_calls::{Called, ProofFileCalls};
+use crate::listed::ListedFile;
 use crate::opener::FileOpener;
-use crate::told::ToldFile;
 use lift_base::ProofCount;
 use std::io;
 
@@ -29,7 +29,7 @@ pub struct TracedFile<F: Drop> {
     failures: ProofCount,
 }
 
-impl<F: ToldFile + Drop> TracedFile<F> {
+impl<F: ListedFile + Drop> TracedFile<F> {
     ghost use Rattle.lift_disk.specs.Noted.{file_call_of};
     ghost use Rattle.lift_disk.specs.Traced.{traced_calls, failures_of, making_of, file_of};
     ghost use Rattle.lift_disk.specs.Traced.{AreTraced, IsMaking, IsOpenedBy, IsTraced};
@@ -56,7 +56,7 @@ impl<F: ToldFile + Drop> TracedFile<F> {
         ensures failed { OnErr result (F.fails (file_of self.old) Lock (file_of self.new)) }
         ensures untouched { IsUntouched (F.holds (file_of self.old)) (F.holds (file_of self.new)) }
     {
-        self.file.lock_told()?;
+        self.file.lock_listed()?;
         self.making = self.making.then(&Called::Lock);
         Ok(())
     }
@@ -67,7 +67,7 @@ impl<F: ToldFile + Drop> TracedFile<F> {
         ensures failed { OnErr result (F.fails (file_of self.old) Restrict (file_of self.new)) }
         ensures untouched { IsUntouched (F.holds (file_of self.old)) (F.holds (file_of self.new)) }
     {
-        self.file.restrict_told()?;
+        self.file.restrict_listed()?;
         self.making = self.making.then(&Called::Restrict);
         Ok(())
     }
@@ -82,7 +82,7 @@ impl<F: ToldFile + Drop> TracedFile<F> {
         ensures size { OnOk result ((F.holds (file_of self.old)).is_honest
             → (F.holds (file_of self.new)).size ≡ sectors_in bytes) }
     {
-        self.file.set_length_told(bytes)?;
+        self.file.set_length_listed(bytes)?;
         self.making = self.making.then(&Called::SetLength(bytes));
         Ok(())
     }
@@ -95,7 +95,7 @@ impl<F: ToldFile + Drop> TracedFile<F> {
             (F.fails (file_of self.old) (WriteSectors offset run.now) (file_of self.new)) }
         ensures same { IsSameFile (F.holds (file_of self.old)) (F.holds (file_of self.new)) }
     {
-        self.file.write_sectors_told(run, offset)?;
+        self.file.write_sectors_listed(run, offset)?;
         self.making = self.making.then(&Called::WriteSectors(offset, run));
         Ok(())
     }
@@ -123,7 +123,7 @@ impl<F: ToldFile + Drop> TracedFile<F> {
         ensures failed { OnErr result (F.fails (file_of self.old) SyncAll (file_of self.new)) }
         ensures same { IsSameFile (F.holds (file_of self.old)) (F.holds (file_of self.new)) }
     {
-        self.file.sync_all_told()?;
+        self.file.sync_all_listed()?;
         self.making = self.making.then(&Called::SyncAll);
         Ok(())
     }
@@ -171,7 +171,7 @@ impl<F: ToldFile + Drop> TracedFile<F> {
 
     /// Asks it for its length. That is listed with the calls that made the file.
     fn measure(&mut self) -> io::Result<u64>
-        ensures told { IfOk result (λ bytes.
+        ensures listed { IfOk result (λ bytes.
             IsMaking F.gives (GetLength bytes ∷ []) self.old self.new) }
         ensures failed { OnErr result ((bytes : ℕ)
             → F.fails (file_of self.old) (GetLength bytes) (file_of self.new)) }
@@ -179,14 +179,14 @@ impl<F: ToldFile + Drop> TracedFile<F> {
         ensures size { IfOk result (λ bytes. (F.holds (file_of self.old)).is_honest
             → (F.holds (file_of self.old)).size ≡ sectors_in bytes) }
     {
-        let bytes = self.file.length_told()?;
+        let bytes = self.file.length_listed()?;
         self.making = self.making.then(&Called::GetLength(bytes));
         Ok(bytes)
     }
 
     /// Takes its lock and then asks it for its length.
     fn lock_and_measure(&mut self) -> io::Result<u64>
-        ensures told { IfOk result (λ bytes.
+        ensures listed { IfOk result (λ bytes.
             IsMaking F.gives (Lock ∷ GetLength bytes ∷ []) self.old self.new) }
         ensures failed { OnErr result ((bytes : ℕ) → FailsIn F.gives F.fails
             (Lock ∷ GetLength bytes ∷ []) (file_of self.old) (file_of self.new)) }
@@ -201,7 +201,7 @@ impl<F: ToldFile + Drop> TracedFile<F> {
     /// A file that was opened to be read and written, once its lock was taken, and its length in
     /// bytes. Where a call fails none is made after it, and the file comes back. It holds what it held.
     pub fn locked(file: F) -> Result<(TracedFile<F>, u64), FailedFile<F>>
-        ensures told { IfOk result (λ opened. IsOpenedBy F.gives F.holds
+        ensures listed { IfOk result (λ opened. IsOpenedBy F.gives F.holds
             (Lock ∷ GetLength opened.1 ∷ []) file opened.1 opened.0) }
         ensures failed { IfErr result (λ failed. (bytes : ℕ)
             → FailsIn F.gives F.fails (Lock ∷ GetLength bytes ∷ []) file failed.file) }
@@ -217,7 +217,7 @@ impl<F: ToldFile + Drop> TracedFile<F> {
 
     /// A file that was opened to be read, and its length in bytes, likewise.
     pub fn measured(file: F) -> Result<(TracedFile<F>, u64), FailedFile<F>>
-        ensures told { IfOk result (λ opened. IsOpenedBy F.gives F.holds
+        ensures listed { IfOk result (λ opened. IsOpenedBy F.gives F.holds
             (GetLength opened.1 ∷ []) file opened.1 opened.0) }
         ensures failed { IfErr result (λ failed. (bytes : ℕ)
             → FailsIn F.gives F.fails (GetLength bytes ∷ []) file failed.file) }
@@ -232,7 +232,7 @@ impl<F: ToldFile + Drop> TracedFile<F> {
     }
 
     /// It, once its folder names it for good, which comes back unless that is so.
-    pub(crate) fn named<O: FileOpener<Told = F>>(
+    pub(crate) fn named<O: FileOpener<Listed = F>>(
         self,
         folder: O::Folder,
         path: &str,
@@ -244,7 +244,7 @@ impl<F: ToldFile + Drop> TracedFile<F> {
         ensures unnamed { IfErr result (λ failed.
             O.unnamed (O.opener_of folder) path.now failed.file) }
     {
-        match O::sync_folder_told(folder, path, &self.file) {
+        match O::sync_folder(folder, path, &self.file) {
             Ok(()) => Ok(self),
             Err(error) => Err(self.failed(error)),
         }
@@ -265,7 +265,7 @@ impl<F: ToldFile + Drop> TracedFile<F> {
         ensures made { MakesCalls result (file_call_of called.now ∷ []) (traced_calls self.old)
             (traced_calls self.new) (failures_of self.old) (failures_of self.new) }
         ensures making { making_of self.new ≡ making_of self.old }
-        ensures told { IsOk result ↔ IsOk outcome }
+        ensures answered { IsOk result ↔ IsOk outcome }
         ensures same { file_of self.new ≡ file_of self.old }
     {
         match outcome {
@@ -288,7 +288,7 @@ impl<F: ToldFile + Drop> TracedFile<F> {
         ensures calls { traced_calls self.new ≡ traced_calls self.old }
         ensures failures { failures_of self.new ≡ failures_of self.old }
     {
-        self.file.announce_told(sector);
+        self.file.announce_listed(sector);
     }
 
     /// Reads as many sectors as there is room for, from this offset on, in one call.
@@ -302,7 +302,7 @@ impl<F: ToldFile + Drop> TracedFile<F> {
         ensures held { Reads result offset run.new (F.holds (file_of self.old))
             (F.holds (file_of self.new)) }
     {
-        let outcome = self.file.read_sectors_told(run, offset);
+        let outcome = self.file.read_sectors_listed(run, offset);
         self.note(outcome, &Called::ReadSectors(offset, run))
     }
 
@@ -313,7 +313,7 @@ impl<F: ToldFile + Drop> TracedFile<F> {
         ensures held { Writes result offset run.now (F.holds (file_of self.old))
             (F.holds (file_of self.new)) }
     {
-        let outcome = self.file.write_sectors_told(run, offset);
+        let outcome = self.file.write_sectors_listed(run, offset);
         self.note(outcome, &Called::WriteSectors(offset, run))
     }
 
@@ -323,7 +323,7 @@ impl<F: ToldFile + Drop> TracedFile<F> {
         ensures held { Syncs (IsKnownSteady (F.holds (file_of self.old))) result
             (F.holds (file_of self.old)) (F.holds (file_of self.new)) }
     {
-        let outcome = self.file.sync_data_told();
+        let outcome = self.file.sync_data_listed();
         self.note(outcome, &Called::SyncData)
     }
 
@@ -333,11 +333,11 @@ impl<F: ToldFile + Drop> TracedFile<F> {
         ensures traced { AreTraced F.gives F.fails result (sync_calls false) self.old self.new }
         ensures held { Syncs ⊤ result (F.holds (file_of self.old)) (F.holds (file_of self.new)) }
     {
-        if self.file.write_back_told().is_err() {
+        if self.file.write_back_listed().is_err() {
             self.failures = ProofCount::next(&self.failures);
             return Err(DiskFault);
         }
-        if self.file.drop_cached_told().is_err() {
+        if self.file.drop_cached_listed().is_err() {
             self.failures = ProofCount::next(&self.failures);
             return Err(DiskFault);
         }

@@ -3,7 +3,7 @@ ghost use Rattle.std.specs.Prelude.{◌≡◌, ◌≤◌, ◌+◌, ◌*◌, ⊤,
 ghost use Rattle.lift_disk.specs.Holding.{sectors_in};
 ghost use Rattle.lift_disk.specs.Traced.{to_be_made};
 
-use lift_disk::{Buffered, Disk, FileFault, FileOpener, MemDisk, RunDisk, SectorFile, ToldFile};
+use lift_disk::{Buffered, Disk, FileFault, FileOpener, ListedFile, MemDisk, RunDisk, SectorFile};
 use lift_memory::Memory;
 use std::alloc::Global;
 use std::io;
@@ -73,7 +73,7 @@ impl MemoryFile {
     }
 }
 
-impl ToldFile for MemoryFile {
+impl ListedFile for MemoryFile {
     ghost use Rattle.lift_file_tests.specs.Held.{held, last_moment, stays_kept};
     ghost use Rattle.std.specs.Prelude.{refl};
     ghost use Rattle.std.proofs.Common.{inl};
@@ -94,21 +94,21 @@ impl ToldFile for MemoryFile {
 
     ghost may_lose = { λ f _. stays_kept f };
 
-    fn lock_told(&mut self) -> io::Result<()> {
+    fn lock_listed(&mut self) -> io::Result<()> {
         Ok(())
     }
 
-    fn restrict_told(&mut self) -> io::Result<()> {
+    fn restrict_listed(&mut self) -> io::Result<()> {
         Ok(())
     }
 
-    fn announce_told(&mut self, sector: u32) {
+    fn announce_listed(&mut self, sector: u32) {
         if sector < self.disk.sectors() {
             self.disk.announce(sector);
         }
     }
 
-    fn read_sectors_told(&mut self, run: &mut [[u8; 512]], offset: u64) -> io::Result<()> {
+    fn read_sectors_listed(&mut self, run: &mut [[u8; 512]], offset: u64) -> io::Result<()> {
         let Some(sector) = self.sector_at(offset, run.len()) else {
             return Err(refused());
         };
@@ -118,7 +118,7 @@ impl ToldFile for MemoryFile {
         }
     }
 
-    fn write_sectors_told(&mut self, run: &[[u8; 512]], offset: u64) -> io::Result<()> {
+    fn write_sectors_listed(&mut self, run: &[[u8; 512]], offset: u64) -> io::Result<()> {
         let Some(sector) = self.sector_at(offset, run.len()) else {
             return Err(refused());
         };
@@ -129,7 +129,7 @@ impl ToldFile for MemoryFile {
         }
     }
 
-    fn sync_data_told(&mut self) -> io::Result<()> {
+    fn sync_data_listed(&mut self) -> io::Result<()> {
         match self.disk.sync() {
             Ok(()) => Ok(()),
             Err(_) => Err(refused()),
@@ -137,18 +137,18 @@ impl ToldFile for MemoryFile {
     }
 
     // what was written is kept until the sync after it
-    fn write_back_told(&mut self) -> io::Result<()> {
+    fn write_back_listed(&mut self) -> io::Result<()> {
         Ok(())
     }
 
-    fn drop_cached_told(&mut self) -> io::Result<()> {
+    fn drop_cached_listed(&mut self) -> io::Result<()> {
         match self.disk.sync() {
             Ok(()) => Ok(()),
             Err(_) => Err(refused()),
         }
     }
 
-    fn set_length_told(&mut self, bytes: u64) -> io::Result<()> {
+    fn set_length_listed(&mut self, bytes: u64) -> io::Result<()> {
         let sectors = whole_sectors(bytes);
         if sectors == self.disk.sectors() {
             return Ok(());
@@ -162,11 +162,11 @@ impl ToldFile for MemoryFile {
         }
     }
 
-    fn sync_all_told(&mut self) -> io::Result<()> {
-        self.sync_data_told()
+    fn sync_all_listed(&mut self) -> io::Result<()> {
+        self.sync_data_listed()
     }
 
-    fn length_told(&mut self) -> io::Result<u64> {
+    fn length_listed(&mut self) -> io::Result<u64> {
         Ok(u64::from(self.disk.sectors()) * 512)
     }
 }
@@ -176,13 +176,13 @@ impl ToldFile for MemoryFile {
 pub fn made<O: FileOpener>(
     opener: O,
     path: &str,
-) -> Result<Buffered<SectorFile<O::Told>>, FileFault<O::Told, O>>
-    ensures honest { IfOk result (λ device. (file : O.Told)
+) -> Result<Buffered<SectorFile<O::Listed>>, FileFault<O::Listed, O>>
+    ensures honest { IfOk result (λ device. (file : O.Listed)
         × O.opens opener to_be_made path.now (Some file)
-        × ((O.Told.holds file).is_honest
-        → (⟦<Buffered<SectorFile<O::Told>> as Disk>⟧.state device).is_honest)) }
+        × ((O.Listed.holds file).is_honest
+        → (⟦<Buffered<SectorFile<O::Listed>> as Disk>⟧.state device).is_honest)) }
     ensures size { IfOk result (λ device.
-        (⟦<Buffered<SectorFile<O::Told>> as Disk>⟧.state device).size ≡ 40) }
+        (⟦<Buffered<SectorFile<O::Listed>> as Disk>⟧.state device).size ≡ 40) }
 {
     match SectorFile::create(opener, path, 40) {
         Ok(device) => Ok(Buffered::over(device)),

@@ -30,7 +30,7 @@ pub struct MemoryFolder {
 impl FileOpener for MemoryOpener {
     ghost use Rattle.lift_file_tests.specs.Held.{held};
 
-    type Told = MemoryFile;
+    type Listed = MemoryFile;
 
     type Folder = MemoryFolder;
 
@@ -45,18 +45,18 @@ impl FileOpener for MemoryOpener {
 
     ghost opener_of = { λ folder. folder.opener };
 
-    fn is_file_told(&self, _path: &str) -> io::Result<bool> {
+    fn is_file_at(&self, _path: &str) -> io::Result<bool> {
         Ok(true)
     }
 
-    fn open_told(self, _how: &OpenOptions, _path: &str) -> io::Result<(MemoryFile, MemoryFolder)> {
+    fn open_once(self, _how: &OpenOptions, _path: &str) -> io::Result<(MemoryFile, MemoryFolder)> {
         match MemoryFile::new(self.alloc, self.sectors) {
             Ok(file) => Ok((file, MemoryFolder { opener: self })),
             Err(_) => Err(io::Error::from(ErrorKind::OutOfMemory)),
         }
     }
 
-    fn sync_folder_told(_folder: MemoryFolder, _path: &str, _made: &MemoryFile) -> io::Result<()> {
+    fn sync_folder(_folder: MemoryFolder, _path: &str, _made: &MemoryFile) -> io::Result<()> {
         Ok(())
     }
 }

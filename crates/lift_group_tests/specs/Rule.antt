@@ -1,4 +1,4 @@
--- When a device fails that can be told to fail once, or from then on.
+-- When a device fails that can be armed to fail once, or from then on.
 use Rattle.std.specs.Prelude.{◌≡◌, ◌+◌, ◌<◌, ◌⊎◌, ℕ}
 use Rattle.std.proofs.Common.{arith}
 use Rattle.lift_disk.specs.Faults.{CountsDown}

@@ -1,4 +1,4 @@
-//! A device in memory that can be told to fail once, or from then on.
+//! A device in memory that can be armed to fail once, or from then on.
 use lift_disk::{Disk, FailingDisk, FaultRule, MemDisk, Outcome};
 
 /// More calls than a run makes.

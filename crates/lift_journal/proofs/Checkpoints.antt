@@ -20,7 +20,7 @@ use Rattle.lift_journal.specs.Layout.{Batch, new_batch, body_size, size_of, used
 use Rattle.lift_journal.specs.Steps.{overwritten, marked, IsInRange}
 use Rattle.lift_journal.specs.Walk.{AreFirstBatches, MayBeginChain, Reaches}
 use Rattle.lift_journal.specs.Checkpoint.{in_batches, batch_count, checkpoint_of, sectors_for}
-use Rattle.lift_journal.specs.Told.{NoneFails}
+use Rattle.lift_journal.specs.Armed.{NoneFails}
 use Rattle.lift_disk.specs.Trace.{Access}
 use Rattle.lift_disk.specs.Trace.Access.{Write}
 use Rattle.lift_journal.specs.Calls.{batch_body, draft_calls, writes_from, MakesPrefix}
@@ -224,7 +224,7 @@ pub record Drafted (old now : DiskState) (start gate count : ℕ) (records : Lis
   pub calls : now.calls ≡ old.calls + used (in_batches count records)
   pub writes : now.writes ≡ old.writes + used (in_batches count records)
   pub failures : now.failures ≡ old.failures
-  pub told : NoneFails old now
+  pub armed : NoneFails old now
   pub trace : now.trace ≡ old.trace ++ draft_calls start 1 (in_batches count records)
   pub touched : LooseWithin (IsInRange start (start + LEAST_HALF)) old → TouchesOnly (IsInRange start (start + LEAST_HALF)) old now
   pub at : gate ≡ start + used (in_batches count records)
@@ -248,7 +248,7 @@ module _ (old now new : DiskState) (start gate count : ℕ) (records : List Reco
       → (now.is_honest → now.is_steady → IsSteadyAt (slice_set (overwritten now.image (gate + 1) body) gate marked) new)
       → IsWhole now
       → Drafted old new start (gate + (length body + 1)) (count + 1) records
-  drafted_more body room size spelled order runs called wrote quiet told exact made touched written whole_now =
+  drafted_more body room size spelled order runs called wrote quiet armed exact made touched written whole_now =
       let batch = batch_at count records in
       let batches = in_batches count records in
       let more : in_batches (count + 1) records ≡ batches ++ batch ∷ [] =
@@ -258,7 +258,7 @@ module _ (old now new : DiskState) (start gate count : ℕ) (records : List Reco
         calls = omega (arith, called, so_far.calls, ap used more, used_more batches batch, size);
         writes = omega (arith, wrote, so_far.writes, ap used more, used_more batches batch, size);
         failures = quiet ∙ so_far.failures;
-        told = passes_then old now new so_far.runs so_far.told told;
+        armed = passes_then old now new so_far.runs so_far.armed armed;
         trace =
             let calls = writes_from (gate + 1) body ++ Write gate marked ∷ [] in
             let done = draft_calls start 1 batches in

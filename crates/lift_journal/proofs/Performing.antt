@@ -21,7 +21,7 @@ pub performs_call : {T E : Type 0} (r : Result T E) (call : Access) (old new : D
 performs_call r call old new access = record {
   runs = runs_call old new access.goes_on;
   cause = cause_of r old new access.fault;
-  told = access_ends r call old new access;
+  armed = access_ends r call old new access;
   made = record {
     calls = always r access.goes_on.calls;
     writes = always r access.writes;
@@ -41,7 +41,7 @@ pub performs_then : {T E U F : Type 0} {x : T} (r : Result U F) (old mid new : D
 performs_then (Ok y) old mid new first second n m w v was is = record {
   runs = runs_then old mid new was.runs is.runs;
   cause = record { ok = is.cause.ok ∙ was.cause.ok; err = tt };
-  told = ends_then old mid new was.runs was.told.ok (Ok y) is.told;
+  armed = ends_then old mid new was.runs was.armed.ok (Ok y) is.armed;
   made = record {
     calls = omega (arith, was.made.calls, is.made.calls);
     writes = omega (arith, was.made.writes, is.made.writes);
@@ -53,7 +53,7 @@ performs_then (Ok y) old mid new first second n m w v was is = record {
 performs_then (Err e) old mid new first second n m w v was is = record {
   runs = runs_then old mid new was.runs is.runs;
   cause = record { ok = tt; err = omega (arith, was.cause.ok, is.cause.err) };
-  told = ends_then old mid new was.runs was.told.ok (Err e) is.told;
+  armed = ends_then old mid new was.runs was.armed.ok (Err e) is.armed;
   made = record {
     calls = tt;
     writes = tt;
@@ -71,7 +71,7 @@ err_performs Q r old new first second n m w v is was calls writes =
     record {
       runs = was.runs;
       cause = record { ok = rw fault.1 tt; err = rw fault.1 was.cause.err };
-      told = err_ends Q r old new is was.told.err;
+      armed = err_ends Q r old new is was.armed.err;
       made = record {
         calls = rw fault.1 tt;
         writes = rw fault.1 tt;
@@ -86,7 +86,7 @@ pub ok_performs : {T E U F : Type 0} {x : T} {y : U} (old new : DiskState) (call
 ok_performs old new calls n w was = record {
   runs = was.runs;
   cause = record { ok = was.cause.ok; err = tt };
-  told = record { ok = was.told.ok; err = tt };
+  armed = record { ok = was.armed.ok; err = tt };
   made = record { calls = was.made.calls; writes = was.made.writes; most_calls = was.made.most_calls; most_writes = was.made.most_writes };
   follows = record { all = was.follows.all; front = tt };
 }
@@ -99,7 +99,7 @@ err_performed Q r old new calls n w is was =
     record {
       runs = was.runs;
       cause = record { ok = rw fault.1 tt; err = rw fault.1 was.cause.err };
-      told = err_ends Q r old new is was.told.err;
+      armed = err_ends Q r old new is was.armed.err;
       made = record { calls = rw fault.1 tt; writes = rw fault.1 tt; most_calls = was.made.most_calls; most_writes = was.made.most_writes };
       follows = err_follows Q r old new calls is was.follows.front;
     }
@@ -112,7 +112,7 @@ module _ {T U E : Type 0} (calls : List Access) (n w : ℕ) (old new : DiskState
     made = record { calls = was.made.calls; writes = was.made.writes; most_calls = was.made.most_calls; most_writes = was.made.most_writes };
     all = was.follows.all;
     front = λ never. absurd (cc never);
-    told = record { ok = was.told.ok; err = tt };
+    armed = record { ok = was.armed.ok; err = tt };
   }
 
   pub device_failed : {e : E} → Performs {T = U} (Err e) calls n w old new → CallsDevice {T = T} (Err Disk) calls n w old new
@@ -121,7 +121,7 @@ module _ {T U E : Type 0} (calls : List Access) (n w : ℕ) (old new : DiskState
     made = record { calls = tt; writes = tt; most_calls = was.made.most_calls; most_writes = was.made.most_writes };
     all = tt;
     front = λ _. was.follows.front;
-    told = record { ok = tt; err = was.told.err };
+    armed = record { ok = tt; err = was.armed.err };
   }
 
   pub device_ok : {x : T} (r : Result U E) → is_err r ≡ false → Performs r calls n w old new → CallsDevice {T = T} (Ok x) calls n w old new

@@ -14,7 +14,7 @@ use Rattle.lift_journal.specs.Opening.{RefusedFor, FixesImage}
 use Rattle.lift_journal.specs.Answers.{RefusesAt}
 use Rattle.lift_journal.specs.RefusedOpening.{RefusedAfter}
 use Rattle.lift_journal.specs.Steps.{ReadsOnly, HasItsCause}
-use Rattle.lift_journal.specs.lemmas.Looking.{cause_told}
+use Rattle.lift_journal.specs.lemmas.Looking.{cause_armed}
 use Rattle.lift_journal.specs.Walk.{AreFirstBatches, MayBeginChain, IsDamagedAt}
 use Rattle.lift_journal.specs.lemmas.Chains.{chain_room, start_high}
 use Rattle.lift_journal.specs.lemmas.Orders.{fall_front, order_front}
@@ -115,7 +115,7 @@ refused_at fault old new only refused settled cause behind = record {
     saved = only.saved;
     cause = refused;
     fixed = settled;
-    told = cause_told fault old new cause;
+    armed = cause_armed fault old new cause;
     good = good_refusal fault old new refused;
   };
   behind = behind;

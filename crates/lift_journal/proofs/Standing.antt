@@ -13,7 +13,7 @@ use Rattle.lift_journal.specs.Journal.{ReadsAs, StandsFor, HasNextPlace, StandsA
 use Rattle.lift_journal.specs.Becomes.{Becomes}
 use Rattle.lift_journal.specs.declared.fault.JournalFault.{JournalFault}
 use Rattle.lift_journal.specs.Opening.{Opens}
-use Rattle.lift_journal.specs.Told.{NoneFails}
+use Rattle.lift_journal.specs.Armed.{NoneFails}
 use Rattle.lift_journal.specs.lemmas.Adding.{held_left}
 use Rattle.lift_journal.specs.lemmas.Unique.{holds_unique, stamp_unique}
 use Rattle.lift_journal.specs.lemmas.Chains.{all_same, used_more}
@@ -119,12 +119,12 @@ joined_parts shape disk honest batches base entries holds stands =
 -- what an opening has found
 pub opens : (old new : DiskState) (shape : Shape) (start gate number : ℕ) → ReadsOnly old new → new.failures ≡ old.failures → NoneFails old new → (old.is_honest → IsSynced new)
     → (old.is_honest → StandsAt shape start gate number new) → Opens old new shape (gate - start)
-opens old new shape start gate number only failures told synced stands = record {
+opens old new shape start gate number only failures armed synced stands = record {
   moments = only.touched.moments;
   runs = only.runs;
   writes = only.writes;
   failures = failures;
-  told = told;
+  armed = armed;
   synced = synced;
   image = only.image;
   saved = only.saved;

@@ -10,7 +10,7 @@ use Rattle.lift_journal.proofs.Following.{all_then, writes-push, writes-take, le
 use Rattle.lift_disk.specs.Disk.{DiskState, Image, GoesOn, RunsOn, Touches, LooseWithin, TouchesOnly, IsSteadyAt, LeavesNoOther, IsWhole}
 use Rattle.lift_disk.specs.lemmas.Moments.{runs_call, runs_then, touches_write, touches_then}
 use Rattle.lift_journal.specs.Steps.{IsInRange}
-use Rattle.lift_journal.specs.Told.{NoneFails}
+use Rattle.lift_journal.specs.Armed.{NoneFails}
 use Rattle.lift_journal.specs.lemmas.Telling.{passes_then}
 
 -- this many of the sectors are written
@@ -19,7 +19,7 @@ pub record Written (old now : DiskState) (first : ℕ) (sectors : Image) (count 
   pub failures : now.failures ≡ old.failures
   pub calls : now.calls ≡ old.calls + count
   pub writes : now.writes ≡ old.writes + count
-  pub told : NoneFails old now
+  pub armed : NoneFails old now
   pub trace : now.trace ≡ old.trace ++ writes_from first (take count sectors)
   pub touched : (low high : ℕ) → low ≤ first → first + length sectors ≤ high → LooseWithin (IsInRange low high) old → TouchesOnly (IsInRange low high) old now
   pub steady : old.is_honest → old.is_steady → IsSteadyAt (paste old.image first sectors count) now
@@ -54,12 +54,12 @@ pub written_more : (old now new : DiskState) (first : ℕ) (sectors : Image) (co
     → first + length sectors ≤ old.size → IsWhole old
     → (now.is_honest → now.is_steady → IsSteadyAt (slice_set now.image (first + count) (get_or sectors count [])) new)
     → Written old new first sectors (count + 1)
-written_more old now new first sectors count so_far within only_now goes_on touched cause wrote told traced room whole steady = record {
+written_more old now new first sectors count so_far within only_now goes_on touched cause wrote armed traced room whole steady = record {
   runs = runs_then old now new so_far.runs (runs_call now new goes_on);
   failures = cause ∙ so_far.failures;
   calls = omega (arith, goes_on.calls, so_far.calls);
   writes = omega (arith, wrote, so_far.writes);
-  told = passes_then old now new so_far.runs so_far.told told;
+  armed = passes_then old now new so_far.runs so_far.armed armed;
   trace = all_then old now new (writes_from first (take count sectors)) (Write (first + count) (get_or sectors count []) ∷ []) so_far.trace traced
       ∙ ap (λ (l : List Access). old.trace ++ l) (sym (writes-next first count sectors within));
   touched = touched_more old now new first sectors count so_far within only_now goes_on touched;

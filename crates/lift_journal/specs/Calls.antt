@@ -9,7 +9,7 @@ use Rattle.lift_journal.specs.declared.fault.JournalFault.{JournalFault}
 use Rattle.lift_journal.specs.declared.fault.JournalFault.TheVariants.{Disk}
 use Rattle.lift_journal.specs.Layout.{Batch, batch_bytes, size_of, used, filled, stamp_bytes}
 use Rattle.lift_journal.specs.Steps.{Makes, marked, unmarked}
-use Rattle.lift_journal.specs.Told.{EndsAtFirstFailure, AnswersAsTold}
+use Rattle.lift_journal.specs.Armed.{EndsAtFirstFailure, AnswersAsArmed}
 
 -- the first sector of a half
 abbrev pub half_start : Bool → ℕ → ℕ
@@ -81,7 +81,7 @@ pub record Performs {T E : Type 0} (result : Result T E) (calls : List Access) (
     (old new : DiskState) : Type 0 where
   pub runs : RunsOn old new
   pub cause : HasCause result old new
-  pub told : EndsAtFirstFailure result old new
+  pub armed : EndsAtFirstFailure result old new
   pub made : Makes result count writes old new
   pub follows : Follows result calls old new
 
@@ -94,7 +94,7 @@ pub record CallsDevice {T : Type 0} (result : Result T JournalFault) (calls : Li
   pub all : OnOk result (new.trace ≡ old.trace ++ calls)
   pub front : IsErrOf result Disk → MakesPrefix calls old new
   -- which of them fails
-  pub told : AnswersAsTold result old new
+  pub armed : AnswersAsArmed result old new
 
 -- from this sector on some were read in a row, each once: this many at most, and none from the end
 -- on

@@ -1,6 +1,6 @@
 pub mod Order
 pub mod Layout
-pub mod Told
+pub mod Armed
 pub mod Steps
 pub mod Calls
 pub mod Failed

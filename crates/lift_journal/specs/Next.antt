@@ -11,7 +11,7 @@ use Rattle.lift_journal.specs.declared.fault.JournalFault.TheVariants.{Disk, Dam
 use Rattle.lift_journal.specs.Layout.{Batch, body_size}
 use Rattle.lift_journal.specs.Calls.{half_start, reads_from, HasRead, HasReadAt}
 use Rattle.lift_journal.specs.Steps.{ReadsOnly}
-use Rattle.lift_journal.specs.Told.{AnswersAsTold}
+use Rattle.lift_journal.specs.Armed.{AnswersAsArmed}
 use Rattle.lift_journal.specs.Journal.{JournalView, CursorView, IsNext}
 
 -- The next of these batches is given, or none at their end, and nothing is reported as damaged.
@@ -42,7 +42,7 @@ pub record MovesCursor {D : Type 0} (old : JournalView D) (from : CursorView) (n
 pub record NextCalls {D : Type 0} (state : D → DiskState) (old : JournalView D) (from : CursorView)
     (new : JournalView D) (result : Result (Option (ArrayVec Record)) JournalFault) : Type 0 where
   pub reads : ReadsOnly (state old.device) (state new.device)
-  pub told : AnswersAsTold result (state old.device) (state new.device)
+  pub armed : AnswersAsArmed result (state old.device) (state new.device)
   pub all : IfOk result (λ found. IfSome found (λ records.
       (state new.device).trace ≡ (state old.device).trace
       ++ reads_from (half_start old.is_in_second_half old.shape.half + from.skipped)

@@ -2,14 +2,14 @@
 use Rattle.std.specs.Prelude.{◌≡◌, ◌⊎◌, ◌<◌, ◌+◌, ◌++◌, ℕ, List}
 use Rattle.lift_base.specs.declared.history.Record.{Record}
 use Rattle.lift_base.specs.declared.history.Shape.{Shape}
-use Rattle.lift_disk.specs.Disk.{DiskState, MayLeave, IsSynced, KeepsImage, LeavesNow, LeavesOnly}
+use Rattle.lift_disk.specs.Disk.{DiskState, MayLeave, IsSynced, ReadsAsBefore, LeavesNow, LeavesOnly}
 use Rattle.lift_disk.specs.Disk.{RunsOn}
 use Rattle.lift_journal.specs.declared.fault.JournalFault.{JournalFault}
 use Rattle.lift_journal.specs.declared.fault.JournalFault.TheVariants.{Disk, NotFormatted, Damaged}
 use Rattle.lift_journal.specs.Layout.{Batch, records_of, Holds, IsStamped, start_of, used}
 use Rattle.lift_journal.specs.Walk.{IsDamagedAt}
 use Rattle.lift_journal.specs.Steps.{SavesAsRead}
-use Rattle.lift_journal.specs.Told.{NoneFails, FailsBy}
+use Rattle.lift_journal.specs.Armed.{NoneFails, FailsBy}
 use Rattle.lift_journal.specs.Journal.{StandsFor}
 
 -- It has opened: this is the shape, and this many sectors of the picked half are used.
@@ -19,10 +19,10 @@ pub record Opens (old new : DiskState) (shape : Shape) (taken : ℕ) : Type 0 wh
   pub runs : RunsOn old new
   pub writes : new.writes ≡ old.writes
   pub failures : new.failures ≡ old.failures
-  pub told : NoneFails old new
+  pub armed : NoneFails old new
   -- at the end every crash leaves one and the same of these images
   pub synced : old.is_honest → IsSynced new
-  pub image : KeepsImage old new
+  pub image : ReadsAsBefore old new
   pub saved : SavesAsRead old new
   pub seen : old.is_honest → MayLeave old new.image
   pub holds : old.is_honest → (batches : List Batch) × LeavesNow new (Holds shape batches)
@@ -62,12 +62,12 @@ pub record Refuses (old new : DiskState) (fault : JournalFault) : Type 0 where
   pub moments : LeavesOnly old new (MayLeave old)
   pub runs : RunsOn old new
   pub writes : new.writes ≡ old.writes
-  pub image : KeepsImage old new
+  pub image : ReadsAsBefore old new
   pub saved : SavesAsRead old new
   pub cause : RefusedFor fault old new
   -- its sync failed, so that no call succeeded; or no crash gives another image any more
   pub fixed : (new.trace ≡ old.trace) ⊎ (old.is_honest → FixesImage old new)
-  pub told : FailsBy fault old new
+  pub armed : FailsBy fault old new
   -- an image that holds batches is refused for a failed call alone
   pub good : old.is_honest → (shape : Shape) (batches : List Batch) → Holds shape batches new.image
       → fault ≡ Disk

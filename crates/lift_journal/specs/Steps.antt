@@ -2,12 +2,12 @@
 use Rattle.std.specs.Prelude.{◌≡◌, ◌⊎◌, ◌<◌, ◌≤◌, ◌+◌, ℕ, List, [], ◌∷◌, ◌++◌, length, take, drop}
 use Rattle.std.specs.Prelude.{Result, OnOk, OnErr, IfErr}
 use Rattle.lift_base.specs.declared.history.Shape.{Shape}
-use Rattle.lift_disk.specs.Disk.{DiskState, Image, IsSynced, KeepsImage, RunsOn, TouchesOnly}
+use Rattle.lift_disk.specs.Disk.{DiskState, Image, IsSynced, ReadsAsBefore, RunsOn, TouchesOnly}
 use Rattle.lift_journal.specs.declared.fault.JournalFault.{JournalFault}
 use Rattle.lift_journal.specs.declared.fault.JournalFault.TheVariants.{Disk}
 use Rattle.lift_journal.specs.Layout.{Batch, filled, Holds, IsBody, size_of, used, start_of}
 use Rattle.lift_journal.specs.Layout.{IsSound}
-use Rattle.lift_journal.specs.Told.{NoneFails, LastFails}
+use Rattle.lift_journal.specs.Armed.{NoneFails, LastFails}
 
 -- these sectors stand in a row from the first one on, and the others are as they were
 abbrev pub overwritten : Image → ℕ → Image → Image
@@ -51,20 +51,20 @@ SavesAsRead old new = old.is_honest → old.is_inert → (new.synced ≡ old.syn
 pub record ReadsOnly (old new : DiskState) : Type 0 where
   pub runs : RunsOn old new
   pub writes : new.writes ≡ old.writes
-  pub image : KeepsImage old new
+  pub image : ReadsAsBefore old new
   pub saved : SavesAsRead old new
   pub touched : TouchesOnly old.is_loose old new
 
 -- and none of them failed, so that what was safe is read as it was
 pub record ReadsWell (old new : DiskState) : Type 0 where
   pub failures : new.failures ≡ old.failures
-  pub told : NoneFails old new
+  pub armed : NoneFails old new
   pub kept : old.is_honest → IsSynced old → IsSyncedAt old.image new
 
 -- the last of the calls failed
 pub record HasFailed (old new : DiskState) : Type 0 where
   pub failures : old.failures < new.failures
-  pub told : LastFails old new
+  pub armed : LastFails old new
 
 -- calls that write nothing and stop at the first that fails
 pub record Looks {T E : Type 0} (result : Result T E) (old new : DiskState) : Type 0 where

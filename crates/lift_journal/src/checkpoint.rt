@@ -13,7 +13,7 @@ ghost use Rattle.lift_journal.specs.Checkpoint.{batch_count, checkpoint_of, sect
 ghost use Rattle.lift_journal.specs.Switch.{IsOtherHalf, HasWritten, IsFailedSwitch};
 ghost use Rattle.lift_journal.specs.Switch.{IsFailedWriting};
 ghost use Rattle.lift_journal.specs.Failed.{Misses};
-ghost use Rattle.lift_journal.specs.Told.{EndsAtFirstFailure};
+ghost use Rattle.lift_journal.specs.Armed.{EndsAtFirstFailure};
 ghost use Rattle.lift_disk.specs.Trace.Access.{Write};
 ghost use Rattle.lift_journal.specs.Calls.{Follows, Performs, writes_from, puts, draft_calls};
 ghost use Rattle.lift_journal.specs.Calls.{checkpoint_calls};
@@ -70,7 +70,7 @@ fn write_open_batch<D: Disk>(disk: &mut D, gate: u32, body: &[[u8; 512]]) -> Res
     ensures cause { HasCause result (D.state disk.old) (D.state disk.new) }
     ensures follows { Follows result (writes_from (gate + 1) body.now ++ Write gate marked ∷ [])
         (D.state disk.old) (D.state disk.new) }
-    ensures told { EndsAtFirstFailure result (D.state disk.old) (D.state disk.new) }
+    ensures armed { EndsAtFirstFailure result (D.state disk.old) (D.state disk.new) }
     ensures touched { (low high : ℕ) → low ≤ gate → gate + 1 + length body.now ≤ high
         → LooseWithin (IsInRange low high) (D.state disk.old)
         → TouchesOnly (IsInRange low high) (D.state disk.old) (D.state disk.new) }

@@ -380,7 +380,7 @@ impl<D: Arm> Journal<D> {
     /// Tells the device again which calls to fail. It changes no image.
     pub fn arm(&mut self, calls: u32)
         ensures same { IsUnchanged (D.state self.old.device) (D.state self.new.device) }
-        ensures told { IsArmedWith (D.fails_by calls (D.state self.old.device).calls)
+        ensures armed { IsArmedWith (D.fails_by calls (D.state self.old.device).calls)
             (D.state self.new.device) }
         ensures rest { (self.new.shape ≡ self.old.shape) × (self.new.used ≡ self.old.used)
             × (self.new.failures_at_opening ≡ self.old.failures_at_opening)

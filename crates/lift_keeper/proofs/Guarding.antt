@@ -25,7 +25,7 @@ use Rattle.lift_base.specs.declared.limits.TheConstants.{MOST_CARS, MOST_TERMINA
 use Rattle.lift_journal.specs.declared.fault.JournalFault.{JournalFault}
 use Rattle.lift_journal.specs.declared.fault.JournalFault.TheVariants.{Disk, Full, Broken}
 use Rattle.lift_journal.specs.Journal.{ReadsAs, StandsFor}
-use Rattle.lift_journal.specs.Told.{NoneFails, LastFails, FailsBy, AnswersAsTold}
+use Rattle.lift_journal.specs.Armed.{NoneFails, LastFails, FailsBy, AnswersAsArmed}
 use Rattle.lift_journal.specs.lemmas.Telling.{passes_then, fault_then}
 use Rattle.lift_journal.specs.Checkpoint.{sectors_for}
 use Rattle.lift_journal.specs.Layout.{Batch, new_batch, records_of, size_of, body_size, used, Holds, HoldsIn, Picks}
@@ -33,7 +33,7 @@ use Rattle.lift_journal.specs.Order.{IsEntry, IsOfBase}
 use Rattle.lift_journal.specs.Failed.{IsFailedAppend, IsFailedCheckpoint}
 use Rattle.lift_keeper.specs.Images.{IsImageOf, IsImageIn, IsInDoubt}
 use Rattle.lift_keeper.specs.Recovery.{entries_of, IsRegisterOf}
-use Rattle.lift_keeper.specs.Writer.{Keeps, Guards, FailsInCheckpoint, FailsInAppend, IsFailedCommit, room_call_count, room_used, room_second}
+use Rattle.lift_keeper.specs.Writer.{HoldsRegister, Guards, FailsInCheckpoint, FailsInAppend, IsFailedCommit, room_call_count, room_used, room_second}
 
 -- the register in the other half, as a checkpoint alone
 abbrev IsFolded : Plan → ℕ → Bool → RegisterState → Image → Type 0
@@ -60,9 +60,9 @@ by_disk_alone (Err f) R which full never made =
     (⊎_elim (λ is. absurd (full (ap (λ (e : JournalFault). Err e) is))) (λ is. absurd (never (ap (λ (e : JournalFault). Err e) is)))) which
 
 -- a call failed
-pub disk_calls : {T : Type 0} (r : Result T JournalFault) (old new : DiskState) → r ≡ Err Disk → AnswersAsTold r old new → old.calls < new.calls
-disk_calls r old new is told =
-    let fails : IfErr r (λ fault. FailsBy fault old new) = told.err in
+pub disk_calls : {T : Type 0} (r : Result T JournalFault) (old new : DiskState) → r ≡ Err Disk → AnswersAsArmed r old new → old.calls < new.calls
+disk_calls r old new is armed =
+    let fails : IfErr r (λ fault. FailsBy fault old new) = armed.err in
     let last : LastFails old new = subst (λ (a : Result _ JournalFault). IfErr a (λ fault. FailsBy fault old new)) is fails in
     last.some
 
@@ -77,12 +77,12 @@ image_from plan shape register base entries image of_building is reads = record 
   is = is;
 }
 
-pub keeps_image : (plan : Plan) (shape : Shape) (is_in_second_half : Bool) (taken : ℕ) (register : RegisterState) (disk : DiskState) → disk.is_honest → Keeps plan shape is_in_second_half taken register disk
+pub keeps_image : (plan : Plan) (shape : Shape) (is_in_second_half : Bool) (taken : ℕ) (register : RegisterState) (disk : DiskState) → disk.is_honest → HoldsRegister plan shape is_in_second_half taken register disk
     → (left : Image) → MayLeave disk left → IsImageOf plan register left
 keeps_image plan shape is_in_second_half taken register disk honest keeps left leaves =
     image_from plan shape register keeps.base keeps.entries left keeps.of_building keeps.is (keeps.stands honest left leaves)
 
-pub keeps_safe : (plan : Plan) (shape : Shape) (is_in_second_half : Bool) (taken : ℕ) (register : RegisterState) (disk : DiskState) → (disk.is_honest → Keeps plan shape is_in_second_half taken register disk) → LeavesNow disk (IsImageOf plan register)
+pub keeps_safe : (plan : Plan) (shape : Shape) (is_in_second_half : Bool) (taken : ℕ) (register : RegisterState) (disk : DiskState) → (disk.is_honest → HoldsRegister plan shape is_in_second_half taken register disk) → LeavesNow disk (IsImageOf plan register)
 keeps_safe plan shape is_in_second_half taken register disk keeps honest left leaves = keeps_image plan shape is_in_second_half taken register disk honest (keeps honest) left leaves
 
 -- an image that holds these batches in this half
@@ -103,11 +103,11 @@ image_in plan shape is_in_second_half taken register batches base entries image 
 }
 
 -- the records of what is kept
-keeps_reads : (plan : Plan) (shape : Shape) (is_in_second_half : Bool) (taken : ℕ) (register : RegisterState) (disk : DiskState) (keeps : Keeps plan shape is_in_second_half taken register disk) → disk.is_honest
+keeps_reads : (plan : Plan) (shape : Shape) (is_in_second_half : Bool) (taken : ℕ) (register : RegisterState) (disk : DiskState) (keeps : HoldsRegister plan shape is_in_second_half taken register disk) → disk.is_honest
     → ReadsAs shape keeps.base keeps.entries disk.image
 keeps_reads plan shape is_in_second_half taken register disk keeps honest = keeps.stands honest disk.image (changes_nothing disk.is_loose disk.image)
 
-pub keeps_placed : (plan : Plan) (shape : Shape) (is_in_second_half : Bool) (taken : ℕ) (register : RegisterState) (disk : DiskState) → (disk.is_honest → Keeps plan shape is_in_second_half taken register disk)
+pub keeps_placed : (plan : Plan) (shape : Shape) (is_in_second_half : Bool) (taken : ℕ) (register : RegisterState) (disk : DiskState) → (disk.is_honest → HoldsRegister plan shape is_in_second_half taken register disk)
     → LeavesNow disk (IsImageIn plan shape.half is_in_second_half taken register)
 keeps_placed plan shape is_in_second_half taken register disk keeps honest left leaves =
     let kept = keeps honest in
@@ -229,7 +229,7 @@ module _ (plan : Plan) (shape : Shape) (is_in_second_half : Bool) (taken : ℕ) 
 
   pub replace_keeps : (new : DiskState) (after : Shape) (second : Bool) (count : ℕ) (checkpoint : List Batch) → (new.is_honest ↔ old.is_honest) → after ≡ shape → LeavesNow new (Holds after checkpoint)
       → StandsFor after (base_records register) [] new → records_of checkpoint ≡ base_records register → LeavesNow new (Picks second) → count ≡ used checkpoint → new.is_honest
-      → Keeps plan after second count register new
+      → HoldsRegister plan after second count register new
   replace_keeps new after second count checkpoint same is holds stands joined picks counts honest_new =
       let keeps = guards.keeps (same.0 honest_new) in
       record {
@@ -299,7 +299,7 @@ module _ (plan : Plan) (shape : Shape) (is_in_second_half : Bool) (taken : ℕ) 
         → ((base entries : List Record) → StandsFor shape base entries old → StandsFor after base (entries ++ records) new)
         → ((batches : List Batch) → LeavesNow old (Holds shape batches) → LeavesNow new (Holds after (batches ++ new_batch records ∷ [])))
         → second ≡ is_in_second_half → LeavesNow new (Picks is_in_second_half) → count ≡ taken + body_size (length records) + 1
-        → new.is_honest → Keeps plan after second count (register_of register batch) new
+        → new.is_honest → HoldsRegister plan after second count (register_of register batch) new
     append_keeps new after second count same is stands holds half picks counts honest_new =
         let keeps = guards.keeps (same.0 honest_new) in
         record {
@@ -356,11 +356,11 @@ pub in_doubt_of : (plan : Plan) (register : RegisterState) (batch : List Entry) 
 in_doubt_of plan register batch old honest left is = inl is
 
 pub guards_then : (plan : Plan) (shape after : Shape) (is_in_second_half second : Bool) (taken count : ℕ) (register : RegisterState) (old new : DiskState) → Guards plan shape is_in_second_half taken register old
-    → (new.is_honest → Keeps plan after second count register new) → Guards plan after second count register new
+    → (new.is_honest → HoldsRegister plan after second count register new) → Guards plan after second count register new
 guards_then plan shape after is_in_second_half second taken count register old new guards keeps = record { lawful = guards.lawful; belongs = guards.belongs; balanced = guards.balanced; keeps = keeps }
 
 -- a call of the journal after one in which none failed
-pub answers_then : {T : Type 0} (r : Result T JournalFault) (old mid new : DiskState) → RunsOn old mid → NoneFails old mid → AnswersAsTold r mid new → AnswersAsTold r old new
+pub answers_then : {T : Type 0} (r : Result T JournalFault) (old mid new : DiskState) → RunsOn old mid → NoneFails old mid → AnswersAsArmed r mid new → AnswersAsArmed r old new
 answers_then (Ok x) old mid new runs first second = record { ok = passes_then old mid new runs first second.ok; err = tt }
 answers_then (Err fault) old mid new runs first second = record { ok = tt; err = fault_then old mid new runs first fault second.err }
 

@@ -29,7 +29,7 @@ use Rattle.lift_keeper.specs.Images.{IsImageOf}
 use Rattle.lift_keeper.specs.Reading.{ReadingState, ReadsBatch, reading_from, GivesAtEnd, GivesNone}
 use Rattle.lift_keeper.specs.Recovery.{RecordFits, with_next, with_all, AllFit, IsFirstMisfit, entries_of, IsRegisterOf}
 use Rattle.lift_keeper.specs.Reopening.{Reopens, ReadsNow, RefusedFor, RefusesReopening}
-use Rattle.lift_keeper.specs.Writer.{Keeps, Guards}
+use Rattle.lift_keeper.specs.Writer.{HoldsRegister, Guards}
 use Rattle.lift_keeper.proofs.Guarding.{keeps_safe, keeps_placed}
 use Rattle.lift_keeper.proofs.Histories.{register_then}
 use Rattle.lift_keeper.proofs.Recoveries.{fit_then, base_fits_all, base_makes_all, MakesRegister}
@@ -71,7 +71,7 @@ module _ (plan : Plan) (old new : DiskState) (shape : Shape) (taken : ℕ) (open
   opening_calls = record {
     runs = opens.runs;
     made = made;
-    told = opens.told;
+    armed = opens.armed;
     image = opens.image;
     saved = opens.saved;
     found = λ honest half second count register is.
@@ -101,14 +101,14 @@ module _ (plan : Plan) (old new : DiskState) (shape : Shape) (taken : ℕ) (open
 
     told_of : (fault : KeeperFault) → GivesNone fault plan shape reading → FailsBy fault old new
     told_of (Journal fault) none = absurd none
-    told_of OtherBuilding none = opens.told
-    told_of (BadEntry place) none = opens.told
+    told_of OtherBuilding none = opens.armed
+    told_of (BadEntry place) none = opens.armed
 
     pub refused_calls : (fault : KeeperFault) → GivesNone fault plan shape reading → RefusedCalls old new fault
     refused_calls fault none = record {
       runs = opens.runs;
       made = stopped fault none;
-      told = told_of fault none;
+      armed = told_of fault none;
       image = opens.image;
       saved = opens.saved;
     }
@@ -118,7 +118,7 @@ pub journal_calls : (old new : DiskState) (fault : JournalFault) → Refuses old
 journal_calls old new fault refuses made = record {
   runs = refuses.runs;
   made = made;
-  told = refuses.told;
+  armed = refuses.armed;
   image = refuses.image;
   saved = refuses.saved;
 }
@@ -160,7 +160,7 @@ module _ (plan : Plan) (old new : DiskState) (shape : Shape) (taken : ℕ) (open
           let found = is_read honest is.base is.entries (subst (λ (s : Shape). ReadsAs s is.base is.entries new.image) (image_shape honest other is) is.reads) in
           is.is.is ∙ sym found.is
 
-      kept : new.is_honest → Keeps plan shape is_in_second_half taken register new
+      kept : new.is_honest → HoldsRegister plan shape is_in_second_half taken register new
       kept honest_new =
           let honest = was honest_new in
           let held = opens.holds honest in

@@ -20,7 +20,7 @@ use Rattle.lift_keeper.specs.declared.fault.KeeperFault.{KeeperFault}
 use Rattle.lift_keeper.specs.declared.fault.KeeperFault.TheVariants.{Journal}
 use Rattle.lift_keeper.specs.Images.{IsImageOf, IsImageIn, IsInDoubt}
 use Rattle.lift_keeper.specs.Reopening.{Reopens, RefusedFor, RefusesReopening}
-use Rattle.lift_keeper.specs.Writer.{Keeps, Guards, IsWriter}
+use Rattle.lift_keeper.specs.Writer.{HoldsRegister, Guards, IsWriter}
 use Rattle.lift_keeper.proofs.Guarding.{keeps_safe, keeps_placed, now_after}
 
 pub not_both : (b : Bool) → b ≡ true → b ≡ false → ⊥
@@ -151,7 +151,7 @@ module _ {D : Type 0} (plan : Plan) (journal : JournalView D) (register : Regist
       no_doubt = writer.no_doubt;
       keeps = λ is honest_new.
           (let keeps = writer.keeps is (same.honest.0 honest_new) in
-          let made : Keeps plan journal.shape journal.is_in_second_half journal.used register new = record {
+          let made : HoldsRegister plan journal.shape journal.is_in_second_half journal.used register new = record {
             of_building = keeps.of_building;
             batches = keeps.batches;
             base = keeps.base;
@@ -163,9 +163,9 @@ module _ {D : Type 0} (plan : Plan) (journal : JournalView D) (register : Regist
             picks = unchanged_leaves disk new (Picks journal.is_in_second_half) same keeps.picks;
             counts = keeps.counts;
           } in
-          subst (λ (s : Shape). Keeps plan s after.is_in_second_half after.used register new) (sym shape)
-          (subst (λ (b : Bool). Keeps plan journal.shape b after.used register new) (sym second)
-          (subst (λ n. Keeps plan journal.shape journal.is_in_second_half n register new) (sym taken) made)));
+          subst (λ (s : Shape). HoldsRegister plan s after.is_in_second_half after.used register new) (sym shape)
+          (subst (λ (b : Bool). HoldsRegister plan journal.shape b after.used register new) (sym second)
+          (subst (λ n. HoldsRegister plan journal.shape journal.is_in_second_half n register new) (sym taken) made)));
       leaves = λ is. unchanged_leaves disk new (IsInDoubt plan register doubt) same (writer.leaves is);
     }
 

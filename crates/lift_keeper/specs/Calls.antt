@@ -3,14 +3,14 @@
 use Rattle.std.specs.Prelude.{◌≡◌, ◌≢◌, ◌++◌, ℕ, Bool, List, Result, Err, IfErr, OnOk}
 use Rattle.lift_base.specs.declared.history.Shape.{Shape}
 use Rattle.lift_building.specs.Plan.{Plan}
-use Rattle.lift_disk.specs.Disk.{DiskState, KeepsImage, RunsOn}
+use Rattle.lift_disk.specs.Disk.{DiskState, ReadsAsBefore, RunsOn}
 use Rattle.lift_register.specs.Register.{RegisterState}
 use Rattle.lift_journal.specs.declared.fault.JournalFault.TheVariants.{Disk}
 use Rattle.lift_journal.specs.RefusedOpening.{RefusedAfter}
 use Rattle.lift_journal.specs.Calls.{opening_of}
 use Rattle.lift_journal.specs.Layout.{Batch, Holds, Picks, used}
 use Rattle.lift_journal.specs.Steps.{Makes, SavesAsRead}
-use Rattle.lift_journal.specs.Told.{NoneFails, LastFails, FailsBy as JournalFailsBy}
+use Rattle.lift_journal.specs.Armed.{NoneFails, LastFails, FailsBy as JournalFailsBy}
 use Rattle.lift_keeper.specs.declared.fault.KeeperFault.{KeeperFault}
 use Rattle.lift_keeper.specs.declared.fault.KeeperFault.TheVariants.{Journal}
 use Rattle.lift_keeper.specs.Images.{IsImageIn}
@@ -66,10 +66,10 @@ pub record OpeningCalls (plan : Plan) (old new : DiskState) (half : ℕ) (is_in_
     (taken : ℕ) : Type 0 where
   pub runs : RunsOn old new
   pub made : new.trace ≡ old.trace ++ opening_of half is_in_second_half taken
-  pub told : NoneFails old new
+  pub armed : NoneFails old new
   -- an inert device reads as before, and what its last sync saved is what was saved before, or what
   -- is read
-  pub image : KeepsImage old new
+  pub image : ReadsAsBefore old new
   pub saved : SavesAsRead old new
   -- no register is anywhere else in the image that is read
   pub found : old.is_honest → (length : ℕ) (second : Bool) (count : ℕ) (register : RegisterState)
@@ -80,8 +80,8 @@ pub record OpeningCalls (plan : Plan) (old new : DiskState) (half : ℕ) (is_in_
 pub record RefusedCalls (old new : DiskState) (fault : KeeperFault) : Type 0 where
   pub runs : RunsOn old new
   pub made : ReadsUntilRefused fault old new
-  pub told : FailsBy fault old new
-  pub image : KeepsImage old new
+  pub armed : FailsBy fault old new
+  pub image : ReadsAsBefore old new
   pub saved : SavesAsRead old new
 
 -- an opening of a writer

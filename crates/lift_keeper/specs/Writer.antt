@@ -35,7 +35,7 @@ pub record WriterView (D : Type 0) : Type 0 where
   pub is_broken : Bool
 
 -- every crash now leaves the same batches in this half, and this is the register of their records
-pub record Keeps (plan : Plan) (shape : Shape) (is_in_second_half : Bool) (taken : ℕ)
+pub record HoldsRegister (plan : Plan) (shape : Shape) (is_in_second_half : Bool) (taken : ℕ)
     (register : RegisterState) (disk : DiskState) : Type 0 where
   pub of_building : shape ≡ shape_of plan shape.half
   pub batches : List Batch
@@ -54,7 +54,7 @@ pub record Guards (plan : Plan) (shape : Shape) (is_in_second_half : Bool) (take
   pub lawful : IsWellFormed register
   pub belongs : BelongsTo plan register
   pub balanced : IsBalanced register
-  pub keeps : disk.is_honest → Keeps plan shape is_in_second_half taken register disk
+  pub keeps : disk.is_honest → HoldsRegister plan shape is_in_second_half taken register disk
 
 -- what is true of every writer
 pub record IsWriter {D : Type 0} (plan : Plan) (journal : JournalView D) (register : RegisterState)
@@ -68,7 +68,7 @@ pub record IsWriter {D : Type 0} (plan : Plan) (journal : JournalView D) (regist
   pub whole : is_broken ≡ false → journal.is_broken ≡ false
   pub no_doubt : is_broken ≡ false → doubt ≡ []
   pub keeps : is_broken ≡ false → disk.is_honest
-      → Keeps plan journal.shape journal.is_in_second_half journal.used register disk
+      → HoldsRegister plan journal.shape journal.is_in_second_half journal.used register disk
   pub leaves : is_broken ≡ true → LeavesNow disk (IsInDoubt plan register doubt)
 
 -- a batch of this many entries has room after this many used sectors of a half

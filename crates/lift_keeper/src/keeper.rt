@@ -18,7 +18,7 @@ use lift_base::{Body, MOST_CARS, MOST_ENTRIES, Number, Reply, Terminal};
 use lift_building::Building;
 use lift_decider::Decider;
 use lift_disk::{Arm, Disk};
-use lift_policy::{Policy, View, decisions_keep};
+use lift_policy::{Policy, View, decisions_preserve};
 use lift_register::Register;
 use lift_stops::Schedule;
 use std::marker::Model;
@@ -161,7 +161,7 @@ impl<'b, D: Disk> Keeper<'b, D> {
         ensures grows { length self.new.state.batch ≤ length self.old.state.batch + 1 }
         ensures writer { self.new.writer ≡ self.old.writer }
     {
-        decisions_keep(policy);
+        decisions_preserve(policy);
         let _safe = self.writer.register();
         self.decider.decide(terminal, number, body, policy)
     }
@@ -247,7 +247,7 @@ impl<'b, D: Arm> Keeper<'b, D> {
     pub fn arm(&mut self, calls: u32)
         ensures same { IsUnchanged (D.state self.old.writer.device)
             (D.state self.new.writer.device) }
-        ensures told { IsArmedWith (D.fails_by calls (D.state self.old.writer.device).calls)
+        ensures armed { IsArmedWith (D.fails_by calls (D.state self.old.writer.device).calls)
             (D.state self.new.writer.device) }
         ensures state { self.new.state ≡ self.old.state }
         ensures writer { self.new.writer

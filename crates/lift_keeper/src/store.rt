@@ -12,9 +12,9 @@ ghost use Rattle.lift_journal.specs.Answers.{BreaksByFault};
 ghost use Rattle.lift_journal.specs.Layout.{body_size};
 ghost use Rattle.lift_journal.specs.Order.{IsEntry};
 ghost use Rattle.lift_journal.specs.Steps.{Makes};
-ghost use Rattle.lift_journal.specs.Told.{AnswersAsTold};
+ghost use Rattle.lift_journal.specs.Armed.{AnswersAsArmed};
 ghost use Rattle.lift_keeper.specs.Images.{IsImageOf, IsInDoubt};
-ghost use Rattle.lift_keeper.specs.Writer.{Keeps, Guards, FailsInCheckpoint, IsFailedCommit};
+ghost use Rattle.lift_keeper.specs.Writer.{HoldsRegister, Guards, FailsInCheckpoint, IsFailedCommit};
 ghost use Rattle.lift_keeper.specs.Writer.{room_call_count};
 ghost use Rattle.lift_keeper.specs.Writer.{room_write_count, room_used, room_second};
 
@@ -41,7 +41,7 @@ fn make_room<D: Disk>(
         → Guards plan journal.old.shape journal.old.is_in_second_half journal.old.used register.now
         (D.state journal.old.device)
         → (D.state journal.new.device).is_honest
-        → Keeps plan journal.new.shape journal.new.is_in_second_half journal.new.used register.now
+        → HoldsRegister plan journal.new.shape journal.new.is_in_second_half journal.new.used register.now
         (D.state journal.new.device)) }
     ensures room { OnOk result (journal.new.used + body_size count + 2 ≤ journal.new.shape.half) }
     ensures used { OnOk result (journal.new.used
@@ -53,7 +53,7 @@ fn make_room<D: Disk>(
         (room_call_count register.now journal.old.used journal.old.shape.half count)
         (room_write_count register.now journal.old.used journal.old.shape.half count)
         (D.state journal.old.device) (D.state journal.new.device) }
-    ensures told { AnswersAsTold result (D.state journal.old.device) (D.state journal.new.device) }
+    ensures armed { AnswersAsArmed result (D.state journal.old.device) (D.state journal.new.device) }
     ensures fails { OnErr result ((plan : Plan)
         → Guards plan journal.old.shape journal.old.is_in_second_half journal.old.used register.now
         (D.state journal.old.device)
@@ -92,7 +92,7 @@ pub fn store<D: Disk>(
         → Guards plan journal.old.shape journal.old.is_in_second_half journal.old.used register.now
         (D.state journal.old.device)
         → (D.state journal.new.device).is_honest
-        → Keeps plan journal.new.shape journal.new.is_in_second_half journal.new.used
+        → HoldsRegister plan journal.new.shape journal.new.is_in_second_half journal.new.used
         (register_of register.now batch) (D.state journal.new.device)) }
     ensures used { OnOk result (journal.new.used
         ≡ room_used register.now journal.old.used journal.old.shape.half (length records.now.items)
@@ -107,7 +107,7 @@ pub fn store<D: Disk>(
         (room_write_count register.now journal.old.used journal.old.shape.half (length records.now.items)
         + (body_size (length records.now.items) + 2))
         (D.state journal.old.device) (D.state journal.new.device) }
-    ensures told { AnswersAsTold result (D.state journal.old.device) (D.state journal.new.device) }
+    ensures armed { AnswersAsArmed result (D.state journal.old.device) (D.state journal.new.device) }
     ensures fails { OnErr result ((plan : Plan) (batch : List EntryValue)
         → records.now.items ≡ map EntryRecord batch → FitFrom plan register.now batch
         → Guards plan journal.old.shape journal.old.is_in_second_half journal.old.used register.now

@@ -205,7 +205,7 @@ impl<'b, D: Arm> Writer<'b, D> {
     /// Tells the device again which calls to fail. It changes no image.
     pub fn arm(&mut self, calls: u32)
         ensures same { IsUnchanged (D.state self.old.device) (D.state self.new.device) }
-        ensures told { IsArmedWith (D.fails_by calls (D.state self.old.device).calls)
+        ensures armed { IsArmedWith (D.fails_by calls (D.state self.old.device).calls)
             (D.state self.new.device) }
         ensures rest { self.new ≡ record self.old { device = self.new.device } }
     {

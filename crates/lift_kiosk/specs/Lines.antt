@@ -73,7 +73,7 @@ abbrev pub IsShortLine : List ℕ → Type 0
 IsShortLine line = length line ≤ 64
 
 -- what is kept of a line: its first 65 bytes, and whether there are more
-pub record Keeps65 (line kept : List ℕ) (longer : Bool) : Type 0 where
+pub record Buffers65 (line kept : List ℕ) (longer : Bool) : Type 0 where
   pub front : kept ≡ take 65 line
   pub more : longer ≡ nat_lt 65 (length line)
 

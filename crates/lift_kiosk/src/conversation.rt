@@ -3,7 +3,7 @@
 ghost use Rattle.std.specs.Prelude.{◌≡◌, ℕ, List, ◌+◌, ◌≤◌, ◌<◌, ◌^◌, OnOk, IfErr, IfSome};
 ghost use Rattle.std.specs.Prelude.{IfNone, Err, None};
 ghost use Rattle.std.specs.Str.Lines.{strip_carriage_return};
-ghost use Rattle.lift_kiosk.specs.Lines.{Keeps65, IsEndWithoutLine};
+ghost use Rattle.lift_kiosk.specs.Lines.{Buffers65, IsEndWithoutLine};
 ghost use Rattle.lift_kiosk.specs.Session.{Means, PortDid, GoesOn, EndsWith, AnswersLine, LastStep};
 ghost use Rattle.lift_kiosk.specs.Session.{Converses, standing_of, last_after, last_opened};
 ghost use Rattle.lift_kiosk.specs.declared.outcome.Outcome.{Outcome as OutcomeValue};
@@ -22,7 +22,7 @@ use std::io::{Read, Write};
 /// What comes of a line.
 fn outcome_of<T: Dialect, P: Port>(line: &Line, port: &mut P, looks: u32) -> Outcome
     requires free { (P.view port.old).pending ≡ None }
-    ensures means { (bytes : List ℕ) → Keeps65 bytes line.now.bytes.items line.now.is_longer
+    ensures means { (bytes : List ℕ) → Buffers65 bytes line.now.bytes.items line.now.is_longer
         → Means T.wants (strip_carriage_return bytes) result }
     ensures did { PortDid looks (P.view port.old) result (P.view port.new) }
     ensures stays { P.place port.new ≡ P.place port.old }

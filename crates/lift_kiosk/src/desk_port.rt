@@ -30,14 +30,14 @@ impl<'d, W: Rest + Drop> Model for DeskPort<'d, W> {
 
     ghost view = { λ p. record { desk = p.desk.now; seat = p.seat; rests = p.rests.count } };
 
-    ghost invariant = { λ p. IsSeatOf p.desk.now p.seat × W.was_told p.way (asks_at p.seat) };
+    ghost invariant = { λ p. IsSeatOf p.desk.now p.seat × W.was_notified p.way (asks_at p.seat) };
 }
 
 impl<'d, W: Rest + Drop> DeskPort<'d, W> {
     /// The port of a seat of this desk, which rests this way.
     pub fn new(desk: &'d Desk, seat: Seat, way: W) -> Self
         requires seated { IsSeatOf desk.now seat }
-        requires told { W.was_told way (asks_at seat) }
+        requires notified { W.was_notified way (asks_at seat) }
         ensures { result ≡ record { desk = desk.now; seat = seat; rests = 0 } }
     {
         DeskPort {

@@ -3,7 +3,7 @@
 ghost use Rattle.std.specs.Prelude.{◌≡◌, ℕ, List, ◌+◌, ◌≤◌, ◌<◌, ◌^◌, [], ◌∷◌, IfOk, Ok, Err, None};
 ghost use Rattle.std.specs.Prelude.{Some, IfSome, IfErr, ◌++◌};
 ghost use Rattle.lift_kiosk.specs.Lines.{Source, GivesBytes, FindsEnd, FailsOnce, GivesLine};
-ghost use Rattle.lift_kiosk.specs.Lines.{GivesPart, Keeps65, source_of};
+ghost use Rattle.lift_kiosk.specs.Lines.{GivesPart, Buffers65, source_of};
 
 use arrayvec::ArrayVec;
 use lift_base::text::{Counted, ReadFault};
@@ -23,7 +23,7 @@ pub struct Line {
 
 impl Line {
     fn new() -> Line
-        ensures { Keeps65 [] result.bytes.items result.is_longer }
+        ensures { Buffers65 [] result.bytes.items result.is_longer }
     {
         Line {
             bytes: ArrayVec::new(),
@@ -32,8 +32,8 @@ impl Line {
     }
 
     fn push(&mut self, byte: u8)
-        ensures { (line : List ℕ) → Keeps65 line self.old.bytes.items self.old.is_longer
-            → Keeps65 (line ++ byte ∷ []) self.new.bytes.items self.new.is_longer }
+        ensures { (line : List ℕ) → Buffers65 line self.old.bytes.items self.old.is_longer
+            → Buffers65 (line ++ byte ∷ []) self.new.bytes.items self.new.is_longer }
     {
         if self.bytes.is_full() {
             self.is_longer = true;
@@ -76,7 +76,7 @@ fn next_byte<R: Read + Drop>(reader: &mut Counted<R>) -> Result<Option<u8>, Read
 /// A line, where its line feed comes within the calls of the reader that are left.
 pub fn read_line<R: Read + Drop>(reader: &mut Counted<R>, left: &mut u32) -> Result<Line, NoLine>
     ensures line { IfOk result (λ found.
-        (line : List ℕ) × Keeps65 line found.bytes.items found.is_longer
+        (line : List ℕ) × Buffers65 line found.bytes.items found.is_longer
         × GivesLine line (source_of R.remaining reader.old) (source_of R.remaining reader.new)) }
     ensures closed { result ≡ Err NoLine.AtEnd → (part : List ℕ) × (mid : Source)
         × GivesPart part (source_of R.remaining reader.old) mid

@@ -3,7 +3,7 @@
 ghost use Rattle.std.specs.Prelude.{◌≡◌, ℕ, List, IfSome, IfNone, ◌<◌, length, map};
 ghost use Rattle.std.specs.Str.Lines.{strip_carriage_return};
 ghost use Rattle.lift_base.specs.Text.{AreWords};
-ghost use Rattle.lift_kiosk.specs.Lines.{AreAscii, IsShortLine, Keeps65};
+ghost use Rattle.lift_kiosk.specs.Lines.{AreAscii, IsShortLine, Buffers65};
 ghost use Rattle.lift_kiosk.specs.declared.dialect.Wanted.{Wanted as WantedValue};
 
 use crate::dialect::{Dialect, Wanted};
@@ -40,9 +40,9 @@ pub fn words_in(line: &[u8]) -> Option<ArrayVec<&str, MOST_WORDS>>
 
 /// What a line asks for; none where it is malformed.
 pub(crate) fn wanted_of<T: Dialect>(line: &Line) -> Option<Wanted>
-    ensures some { (bytes : List ℕ) → Keeps65 bytes line.now.bytes.items line.now.is_longer
+    ensures some { (bytes : List ℕ) → Buffers65 bytes line.now.bytes.items line.now.is_longer
         → IfSome result (λ wanted. T.wants (strip_carriage_return bytes) wanted) }
-    ensures none { (bytes : List ℕ) → Keeps65 bytes line.now.bytes.items line.now.is_longer
+    ensures none { (bytes : List ℕ) → Buffers65 bytes line.now.bytes.items line.now.is_longer
         → IfNone result ((wanted : WantedValue) → T.wants (strip_carriage_return bytes) wanted
         → ⊥) }
 {

@@ -11,12 +11,12 @@ use std::thread;
 /// A way to rest between two looks. It sees no seat, and so can neither ask nor look.
 pub trait Rest {
     /// It was told of so many asks at its port's seat: of each once, after that was stored.
-    ghost was_told: { Self → ℕ → Type 0 };
+    ghost was_notified: { Self → ℕ → Type 0 };
 
     /// One ask more is stored at the seat, which is so now.
     fn asked(&mut self, seat: Snapshot<Seat>)
-        ensures { (before : ℕ) → asks_at seat.value ≡ suc before → was_told self.old before
-            → was_told self.new (suc before) };
+        ensures { (before : ℕ) → asks_at seat.value ≡ suc before → was_notified self.old before
+            → was_notified self.new (suc before) };
 
     /// An answer was heard.
     fn heard(&self, reply: &Reply);
@@ -30,7 +30,7 @@ pub trait Rest {
 pub struct Yield;
 
 impl Rest for Yield {
-    ghost was_told = { λ _ _. Unit {0} };
+    ghost was_notified = { λ _ _. Unit {0} };
 
     fn asked(&mut self, _seat: Snapshot<Seat>) {}
 

@@ -22,7 +22,7 @@ use Rattle.lift_world.specs.declared.event.Answer.{Answer}
 use Rattle.lift_world.specs.declared.event.Taken.{Taken}
 use Rattle.lift_world.specs.World.{asks, is_answer_to}
 use Rattle.lift_world.specs.Next.{answer_of, unknown_to}
-use Rattle.lift_clerk.specs.Answering.{reply_told}
+use Rattle.lift_clerk.specs.Answering.{stored_reply}
 use Rattle.lift_clerk.specs.Visits.{FindsAt}
 use Rattle.lift_clerk.specs.Tied.{command_of}
 use Rattle.lift_clerk.specs.lemmas.Lists.{AreOthers, answers_to, no_asks}
@@ -40,7 +40,7 @@ grown_none v = record { taken = sym (append-nil v.taken); answered = sym (append
 
 -- the answer that is told
 abbrev answer_told : Bool → NotedCommand → Answer
-answer_told is_safe t = record { terminal = t.command.terminal; number = t.command.number; reply = reply_told is_safe t.reply }
+answer_told is_safe t = record { terminal = t.command.terminal; number = t.command.number; reply = stored_reply is_safe t.reply }
 
 -- all of them
 abbrev here : ℕ → List NotedCommand → List Command
@@ -76,7 +76,7 @@ module _ (is_safe : Bool) (j : ℕ) where
       let count : length view.taken ≡ suc (length p.view.answered) = omega (arith, ap length more, length-append p.view.taken (t.note.word ∷ [])) in
       record {
         taken = more ∙ ap (λ (n : ℕ). p.view.taken ++ n ∷ []) finds.reads.1;
-        answered = ap (λ (x : ℕ × ℕ). p.view.answered ++ reply_word x.0 x.1 (reply_told is_safe t.reply) ∷ []) (λ i. (count i, number-taken p t.note.word (ask_of t.command) finds i));
+        answered = ap (λ (x : ℕ × ℕ). p.view.answered ++ reply_word x.0 x.1 (stored_reply is_safe t.reply) ∷ []) (λ i. (count i, number-taken p t.note.word (ask_of t.command) finds i));
       }
 
   finds_own : (t : NotedCommand) (batch : List NotedCommand) (p : ClerkPlace) → t.command.terminal ≡ j → AreOthers j (commands_in batch) → FindsAt p (noted_visit t)

@@ -42,7 +42,7 @@ use Rattle.lift_clerk.specs.lemmas.Tied.{not_both}
 use Rattle.lift_parts.specs.Flusher.{FlusherState, IsFlusher, IsEmptyTurn, IsBatchTurn, AnswersBatch, entries_received}
 use Rattle.lift_parts.specs.Turns.{NoFlush, OneFlush}
 use Rattle.lift_parts.specs.History.{group_after, held_in, GoesOnTo, FlushStands, FlushesStand, TurnsGoOn, SplitsGoOn, JoinedGoOn}
-use Rattle.lift_parts.specs.Past.{flush_events, FlushLeadsOn, FlushesLeadOn, SplitsKeepPasts, JoinedKeepPasts}
+use Rattle.lift_parts.specs.Past.{flush_events, FlushLeadsOn, FlushesLeadOn, SplitsPreservePasts, JoinsPreservePasts}
 use Rattle.lift_parts.specs.Line.{tried}
 use Rattle.lift_parts.specs.lemmas.Received.{entries_between, commits_to, none_received, one_received}
 use Rattle.lift_parts.proofs.Answering.{replies_of, held_is, answers_them}
@@ -64,32 +64,32 @@ abbrev state_with_entries : BatchState → State
 state_with_entries batch = record batch.after { batch = batch.entries }
 
 -- what turns add, before their history
-record Adds {D : Type 0} (f g : FlusherState D) (more : List Entry) (told : List Taken) : Type 0 where
+record Adds {D : Type 0} (f g : FlusherState D) (more : List Entry) (replied : List Taken) : Type 0 where
   kept : List BatchState
   lost : List BatchState
   received : g.end.received ≡ f.end.received ++ (kept ++ lost)
   more_is : more ≡ entries_of_batches kept
-  told_is : told ≡ held_in kept ++ map unknown_to (held_in lost)
+  replied_is : replied ≡ held_in kept ++ map unknown_to (held_in lost)
   was_broken : f.writer.is_broken ≡ true → (kept ≡ []) × (g.writer.is_broken ≡ true)
   is_whole : g.writer.is_broken ≡ false → lost ≡ []
 
-abbrev going : {D : Type 0} (f g : FlusherState D) (base : RegisterState) (safe : List Entry) (given : List Taken) (more : List Entry) (told : List Taken) → Adds f g more told
-    → History base (group_after g) (safe ++ more) (given ++ told) → GoesOnTo f g base safe given
-going f g base safe given more told adds history = record {
+abbrev going : {D : Type 0} (f g : FlusherState D) (base : RegisterState) (safe : List Entry) (given : List Taken) (more : List Entry) (replied : List Taken) → Adds f g more replied
+    → History base (group_after g) (safe ++ more) (given ++ replied) → GoesOnTo f g base safe given
+going f g base safe given more replied adds history = record {
   kept = adds.kept;
   lost = adds.lost;
   received = adds.received;
   was_broken = adds.was_broken;
   is_whole = adds.is_whole;
   more = more;
-  told = told;
+  replied = replied;
   more_is = adds.more_is;
-  told_is = adds.told_is;
+  replied_is = adds.replied_is;
   history = history;
 }
 
-adds_of : {D : Type 0} {f g : FlusherState D} {base : RegisterState} {safe : List Entry} {given : List Taken} (x : GoesOnTo f g base safe given) → Adds f g x.more x.told
-adds_of x = record { kept = x.kept; lost = x.lost; received = x.received; more_is = x.more_is; told_is = x.told_is; was_broken = x.was_broken; is_whole = x.is_whole }
+adds_of : {D : Type 0} {f g : FlusherState D} {base : RegisterState} {safe : List Entry} {given : List Taken} (x : GoesOnTo f g base safe given) → Adds f g x.more x.replied
+adds_of x = record { kept = x.kept; lost = x.lost; received = x.received; more_is = x.more_is; replied_is = x.replied_is; was_broken = x.was_broken; is_whole = x.is_whole }
 
 -- the batch on its way
 on_its_way : (broken : Bool) (batch doubt received : List Entry) → (broken ≡ false → batch ≡ received) → (broken ≡ true → batch ≡ doubt) → batch ≡ (if broken then doubt else received)
@@ -137,12 +137,12 @@ module _ {D : Type 0} (state : D → DiskState) (crashes : CrashesKeep D) (law :
   register = f.writer.register
 
   abbrev Now : List Entry → List Taken → Type 0
-  Now entries told = History base (group_after g) entries told
+  Now entries replied = History base (group_after g) entries replied
 
   -- from its end on
   keeps_after : (answer : Result FlushCounts KeeperFault) → CommitsTo {T = FlushCounts} state f.writer (entries_between f.end g.end) g.end.state.register g.writer answer
-      → (entries : List Entry) (told : List Taken) → Now entries told → LeavesSafe f.writer old → LeavesNow new (KeepsEither D g.writer.plan base entries g.writer.doubt told)
-  keeps_after answer c entries told k leaves = kept_now crashes base (group_after g) entries told k new (leaves_after state f g answer c leaves)
+      → (entries : List Entry) (replied : List Taken) → Now entries replied → LeavesSafe f.writer old → LeavesNow new (KeepsEither D g.writer.plan base entries g.writer.doubt replied)
+  keeps_after answer c entries replied k leaves = kept_now crashes base (group_after g) entries replied k new (leaves_after state f g answer c leaves)
 
   -- a turn that received nothing
   module _ (answer : Result FlushCounts KeeperFault) (e : IsEmptyTurn f g answer) (c : CommitsTo {T = FlushCounts} state f.writer (entries_between f.end g.end) g.end.state.register g.writer answer) where
@@ -180,7 +180,7 @@ module _ {D : Type 0} (state : D → DiskState) (crashes : CrashesKeep D) (law :
       lost = [];
       received = same_received;
       more_is = refl;
-      told_is = refl;
+      replied_is = refl;
       was_broken = λ broken. (refl, ap (λ (x : FlusherState D). x.writer.is_broken) e.same ∙ broken);
       is_whole = λ whole. refl;
     }
@@ -268,7 +268,7 @@ module _ {D : Type 0} (state : D → DiskState) (crashes : CrashesKeep D) (law :
         lost = [];
         received = receives_one;
         more_is = refl;
-        told_is = refl;
+        replied_is = refl;
         was_broken = λ broken. not_both f.writer.is_broken whole broken;
         is_whole = λ still. refl;
       }
@@ -279,7 +279,7 @@ module _ {D : Type 0} (state : D → DiskState) (crashes : CrashesKeep D) (law :
         lost = batch ∷ [];
         received = receives_one;
         more_is = refl;
-        told_is = refl;
+        replied_is = refl;
         was_broken = λ broken. (refl, breaks);
         is_whole = λ still. not_both g.writer.is_broken still breaks;
       }
@@ -454,8 +454,8 @@ entries_both (x ∷ xs) ys = ap (λ (es : List Entry). x.entries ++ es) (entries
 held_both : (xs ys : List BatchState) → held_in (xs ++ ys) ≡ held_in xs ++ held_in ys
 held_both [] ys = refl
 held_both (x ∷ xs) ys =
-    let told : List Taken = with_replies (commands_in x.commands) (replies_in x.commands) in
-    ap (λ (hs : List Taken). told ++ hs) (held_both xs ys) ∙ sym (append_assoc told (held_in xs) (held_in ys))
+    let replied : List Taken = with_replies (commands_in x.commands) (replies_in x.commands) in
+    ap (λ (hs : List Taken). replied ++ hs) (held_both xs ys) ∙ sym (append_assoc replied (held_in xs) (held_in ys))
 
 module _ {D : Type 0} (f m g : FlusherState D) (base : RegisterState) (safe : List Entry) (given : List Taken) where
   adds_both : (a b : List Entry) (u v : List Taken) → Adds f m a u → Adds m g b v → (was : Bool) → m.writer.is_broken ≡ was → Adds f g (a ++ b) (u ++ v)
@@ -468,8 +468,8 @@ module _ {D : Type 0} (f m g : FlusherState D) (base : RegisterState) (safe : Li
         received = y.received ∙ ap (λ (bs : List BatchState). m.end.received ++ (bs ++ y.lost)) none ∙ ap (λ (bs : List BatchState). bs ++ y.lost) x.received
             ∙ append_assoc f.end.received (x.kept ++ x.lost) y.lost ∙ ap (λ (bs : List BatchState). f.end.received ++ bs) (append_assoc x.kept x.lost y.lost);
         more_is = ap (λ (es : List Entry). a ++ es) (y.more_is ∙ ap entries_of_batches none) ∙ append-nil a ∙ x.more_is;
-        told_is = ap (λ (hs : List Taken). u ++ hs) (y.told_is ∙ ap (λ (bs : List BatchState). held_in bs ++ map unknown_to (held_in y.lost)) none)
-            ∙ ap (λ (hs : List Taken). hs ++ map unknown_to (held_in y.lost)) x.told_is ∙ append_assoc (held_in x.kept) (map unknown_to (held_in x.lost)) (map unknown_to (held_in y.lost))
+        replied_is = ap (λ (hs : List Taken). u ++ hs) (y.replied_is ∙ ap (λ (bs : List BatchState). held_in bs ++ map unknown_to (held_in y.lost)) none)
+            ∙ ap (λ (hs : List Taken). hs ++ map unknown_to (held_in y.lost)) x.replied_is ∙ append_assoc (held_in x.kept) (map unknown_to (held_in x.lost)) (map unknown_to (held_in y.lost))
             ∙ ap (λ (hs : List Taken). held_in x.kept ++ hs) (sym (map-append unknown_to (held_in x.lost) (held_in y.lost)) ∙ ap (map unknown_to) (sym (held_both x.lost y.lost)));
         was_broken = λ was. ((x.was_broken was).0, now);
         is_whole = λ whole. not_both g.writer.is_broken whole now;
@@ -483,17 +483,17 @@ module _ {D : Type 0} (f m g : FlusherState D) (base : RegisterState) (safe : Li
         received = y.received ∙ ap (λ (bs : List BatchState). bs ++ (y.kept ++ y.lost)) (x.received ∙ ap (λ (bs : List BatchState). f.end.received ++ bs) kept)
             ∙ append_assoc f.end.received x.kept (y.kept ++ y.lost) ∙ ap (λ (bs : List BatchState). f.end.received ++ bs) (sym (append_assoc x.kept y.kept y.lost));
         more_is = ap (λ (es : List Entry). es ++ b) x.more_is ∙ ap (λ (es : List Entry). entries_of_batches x.kept ++ es) y.more_is ∙ sym (entries_both x.kept y.kept);
-        told_is = ap (λ (hs : List Taken). hs ++ v) (x.told_is ∙ ap (λ (bs : List BatchState). held_in x.kept ++ map unknown_to (held_in bs)) none ∙ append-nil (held_in x.kept))
-            ∙ ap (λ (hs : List Taken). held_in x.kept ++ hs) y.told_is ∙ sym (append_assoc (held_in x.kept) (held_in y.kept) (map unknown_to (held_in y.lost)))
+        replied_is = ap (λ (hs : List Taken). hs ++ v) (x.replied_is ∙ ap (λ (bs : List BatchState). held_in x.kept ++ map unknown_to (held_in bs)) none ∙ append-nil (held_in x.kept))
+            ∙ ap (λ (hs : List Taken). held_in x.kept ++ hs) y.replied_is ∙ sym (append_assoc (held_in x.kept) (held_in y.kept) (map unknown_to (held_in y.lost)))
             ∙ ap (λ (hs : List Taken). hs ++ map unknown_to (held_in y.lost)) (sym (held_both x.kept y.kept));
         was_broken = λ was. not_both m.writer.is_broken whole (x.was_broken was).1;
         is_whole = y.is_whole;
       }
 
-  goes_both : (x : GoesOnTo f m base safe given) → GoesOnTo m g base (safe ++ x.more) (given ++ x.told) → GoesOnTo f g base safe given
-  goes_both x y = going f g base safe given (x.more ++ y.more) (x.told ++ y.told) (adds_both x.more y.more x.told y.told (adds_of x) (adds_of y) m.writer.is_broken refl)
-      (subst (λ (es : List Entry). History base (group_after g) es (given ++ (x.told ++ y.told))) (append_assoc safe x.more y.more)
-      (subst (λ (hs : List Taken). History base (group_after g) ((safe ++ x.more) ++ y.more) hs) (append_assoc given x.told y.told) y.history))
+  goes_both : (x : GoesOnTo f m base safe given) → GoesOnTo m g base (safe ++ x.more) (given ++ x.replied) → GoesOnTo f g base safe given
+  goes_both x y = going f g base safe given (x.more ++ y.more) (x.replied ++ y.replied) (adds_both x.more y.more x.replied y.replied (adds_of x) (adds_of y) m.writer.is_broken refl)
+      (subst (λ (es : List Entry). History base (group_after g) es (given ++ (x.replied ++ y.replied))) (append_assoc safe x.more y.more)
+      (subst (λ (hs : List Taken). History base (group_after g) ((safe ++ x.more) ++ y.more) hs) (append_assoc given x.replied y.replied) y.history))
 
 goes_nowhere : {D : Type 0} (f : FlusherState D) (base : RegisterState) (safe : List Entry) (given : List Taken) → History base (group_after f) safe given → GoesOnTo f f base safe given
 goes_nowhere f base safe given h = going f f base safe given [] []
@@ -502,7 +502,7 @@ goes_nowhere f base safe given h = going f f base safe given [] []
       lost = [];
       received = sym (append-nil f.end.received);
       more_is = refl;
-      told_is = refl;
+      replied_is = refl;
       was_broken = λ broken. (refl, broken);
       is_whole = λ whole. refl;
     })
@@ -513,7 +513,7 @@ module _ {D : Type 0} (state : D → DiskState) (crashes : CrashesKeep D) (law :
   turns_go_on f g first last NoFlush base safe given h = goes_nowhere f base safe given h
   turns_go_on f g first last (OneFlush {g = m} {first = before} {answer = answer} more flush is) base safe given h =
       let x = turns_go_on f m first before more base safe given h in
-      let y = flushes_stand state crashes law m g answer flush base (safe ++ x.more) (given ++ x.told) x.history in
+      let y = flushes_stand state crashes law m g answer flush base (safe ++ x.more) (given ++ x.replied) x.history in
       goes_both f m g base safe given x y.goes_on
 
 -- ---- splits and joins
@@ -549,10 +549,10 @@ splits_go_on clerk f base safe given desk seat writer state h = Rested h (split_
 pub joined_go_on : {D P : Type 0} → JoinedGoOn D P
 joined_go_on clerk f ahead base safe given desk seat writer state h = Rested h (join_rests clerk f desk ahead seat writer state)
 
-pub splits_keep_pasts : {D P : Type 0} → PastsGoOn D → SplitsKeepPasts D P
+pub splits_keep_pasts : {D P : Type 0} → PastsGoOn D → SplitsPreservePasts D P
 splits_keep_pasts {D} past w clerk f terminals safe given desk seat writer state p =
     past.rests w (group_of clerk) (group_after f) terminals safe given p (split_rests clerk f desk seat writer state) (ap (λ (w : WriterView D). w.is_broken) writer)
 
-pub joined_keep_pasts : {D P : Type 0} → PastsGoOn D → JoinedKeepPasts D P
+pub joined_keep_pasts : {D P : Type 0} → PastsGoOn D → JoinsPreservePasts D P
 joined_keep_pasts {D} past w clerk f ahead terminals safe given desk seat writer state p =
     past.rests w (group_after f) (group_of clerk) terminals safe given p (join_rests clerk f desk ahead seat writer state) (ap (λ (w : WriterView D). w.is_broken) writer)

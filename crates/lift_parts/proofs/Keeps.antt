@@ -30,10 +30,10 @@ module _ {D : Type 0} (state : D → DiskState) where
 
   -- and as long as all is that was given at its end
   since : (base : RegisterState) (g h : FlusherState D) (mid : List Entry) (now : List Taken) (answer : Result FlushCounts KeeperFault) → IsFlush state g h answer → (s : FlushStands g h base mid now (state g.writer.device) (state h.writer.device)) → (last : DiskState)
-      → LeavesOnly (state h.writer.device) last (KeepsAll D h.writer.plan base (now ++ s.goes_on.told)) → LeavesOnly (state g.writer.device) last (KeepsAll D g.writer.plan base now)
+      → LeavesOnly (state h.writer.device) last (KeepsAll D h.writer.plan base (now ++ s.goes_on.replied)) → LeavesOnly (state g.writer.device) last (KeepsAll D g.writer.plan base now)
   since base g h mid now answer flush s last keeps = leaves_then (state g.writer.device) (state h.writer.device) last (KeepsAll D g.writer.plan base now) (within base g h mid now s)
-      (leaves_weaker (state h.writer.device) last (KeepsAll D h.writer.plan base (now ++ s.goes_on.told)) (KeepsAll D g.writer.plan base now)
-      (λ honest left kept. keeps_fewer g.writer.plan h.writer.plan base now s.goes_on.told left flush.commits.same.0 kept) keeps)
+      (leaves_weaker (state h.writer.device) last (KeepsAll D h.writer.plan base (now ++ s.goes_on.replied)) (KeepsAll D g.writer.plan base now)
+      (λ honest left kept. keeps_fewer g.writer.plan h.writer.plan base now s.goes_on.replied left flush.commits.same.0 kept) keeps)
 
   -- so the same turns lose nothing until a later device either
   lasting : (base : RegisterState) (until : DiskState) (f : FlusherState D) (safe : List Entry) (given : List Taken) (g : FlusherState D) (mid : List Entry) (now : List Taken) (last : DiskState) → KeepingTurns state base until f safe given g mid now
@@ -52,7 +52,7 @@ module _ {D : Type 0} (state : D → DiskState) where
       let before_it = within base m g k.now_safe k.now_given s in
       record {
         now_safe = k.now_safe ++ s.goes_on.more;
-        now_given = k.now_given ++ s.goes_on.told;
+        now_given = k.now_given ++ s.goes_on.replied;
         turns = OneKept (lasting base (state m.writer.device) f safe given m k.now_safe k.now_given (state g.writer.device) k.turns before_it) flush s before_it;
         history = s.goes_on.history;
         kept = λ leaves. s.now (leaves_on f m first before leaves more);

@@ -17,7 +17,7 @@ use Rattle.lift_clerk.specs.lemmas.Turned.{without_none}
 use Rattle.lift_parts.specs.Batch.{BatchState}
 use Rattle.lift_parts.specs.Allocator.{AllocatorState}
 use Rattle.lift_parts.specs.Flusher.{FlusherState}
-use Rattle.lift_parts.specs.Tie.{sent_as, IsRelayOf, SplitsAreNoEvents, RejoiningsAreNoEvents, FullTurnsAreNoEvents, EmptyTurnsAreNoEvents, SendingsAreNoEvents, TellingsAreNoEvents, TerminalsKeepParts}
+use Rattle.lift_parts.specs.Tie.{sent_as, IsRelayOf, SplitsAreNoEvents, RejoiningsAreNoEvents, FullTurnsAreNoEvents, EmptyTurnsAreNoEvents, SendingsAreNoEvents, TellingsAreNoEvents, TerminalsPreserveParts}
 
 view_ahead : (clerk : List ClerkPlace) (t : ℕ) → (view_at (ahead_from clerk) t).taken ≡ (view_at clerk t).taken
 view_ahead [] t = refl
@@ -82,7 +82,7 @@ tellings {D} {P} w a b f g t m =
     (record { building = m.building; seats = m.seats; waiting = m.waiting; line = m.line; below = m.below; received = m.received; tied = m.tied })
 
 -- nor do terminals change more
-pub terminals_keep_parts : {D P : Type 0} → Laws → TerminalsKeepParts D P
+pub terminals_keep_parts : {D P : Type 0} → Laws → TerminalsPreserveParts D P
 terminals_keep_parts laws w end a f event own e m = record {
   building = (terminals_keep laws w end event own e m.tied).building ∙ sym m.tied.building ∙ m.building;
   seats = m.seats;

@@ -44,7 +44,7 @@ module _ {D P : Type 0} (w : World) (a : AllocatorState P) (f g : FlusherState D
   answers is_safe e = record {
     commands = commands_in batch.commands;
     are = commands_held batch.commands;
-    told_are = told_commands is_safe batch.commands;
+    replied_are = told_commands is_safe batch.commands;
     grows = λ n.
         subst (λ (xs : List Taken). Grows (view_at f.seat n) (view_at g.seat n) (filter (asks n) (commands_in batch.commands)) (filter (is_answer_to n) (map answer_of xs))) (held_is is_safe batch.commands)
         ((answers_them is_safe f.seat g.seat batch.commands below.0 t.apart (subst (λ (b : Bool). AnswersBatch b f.seat batch.commands g.seat) e t.answered)).grows n);

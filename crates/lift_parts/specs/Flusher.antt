@@ -12,7 +12,7 @@ use Rattle.lift_keeper.specs.declared.fault.KeeperFault.{KeeperFault}
 use Rattle.lift_keeper.specs.declared.fault.KeeperFault.TheVariants.{Journal}
 use Rattle.lift_keeper.specs.Writer.{WriterView}
 use Rattle.lift_clerk.specs.declared.answering.DueAnswer.{DueAnswer}
-use Rattle.lift_clerk.specs.Answering.{with_answers, replies_told}
+use Rattle.lift_clerk.specs.Answering.{with_answers, stored_replies}
 use Rattle.lift_clerk.specs.Visits.{Visit, FindsAt}
 use Rattle.lift_parts.specs.declared.taken.NotedCommand.{NotedCommand}
 use Rattle.lift_parts.specs.declared.counts.FlushCounts.{FlushCounts}
@@ -70,7 +70,7 @@ pub record AnswersBatch (is_safe : Bool) (places : List ClerkPlace) (batch : Lis
     (next : List ClerkPlace) : Type 0 where
   pub finds : LooksGive places batch
   pub stored : next ≡ with_answers is_safe (looked_for places batch) (answers_in batch)
-  pub in_range : All IsReply (replies_told is_safe (answers_in batch))
+  pub in_range : All IsReply (stored_replies is_safe (answers_in batch))
 
 -- what was accepted of the batches that were received from one state of an end to another
 abbrev pub entries_received : ReceiveState → ReceiveState → List Entry

@@ -44,10 +44,10 @@ pub record GoesOnTo {D : Type 0} (f g : FlusherState D) (base : RegisterState)
   pub was_broken : f.writer.is_broken ≡ true → (kept ≡ []) × (g.writer.is_broken ≡ true)
   pub is_whole : g.writer.is_broken ≡ false → lost ≡ []
   pub more : List Entry
-  pub told : List Taken
+  pub replied : List Taken
   pub more_is : more ≡ entries_of_batches kept
-  pub told_is : told ≡ held_in kept ++ map unknown_to (held_in lost)
-  pub history : History base (group_after g) (safe ++ more) (given ++ told)
+  pub replied_is : replied ≡ held_in kept ++ map unknown_to (held_in lost)
+  pub history : History base (group_after g) (safe ++ more) (given ++ replied)
 
 -- One turn: the history goes on, and at each moment of the turn it stands, with the batch that was
 -- received, or the one that a fault left in doubt. From its end on a crash leaves what keeps all of
@@ -59,7 +59,7 @@ pub record FlushStands {D : Type 0} (f g : FlusherState D) (base : RegisterState
   pub is : batch ≡ (if f.writer.is_broken then f.writer.doubt else entries_received f.end g.end)
   pub stands : LeavesOnly old new (KeepsEither D f.writer.plan base safe batch given)
   pub now : LeavesSafe f.writer old → LeavesNow new (KeepsEither D g.writer.plan base
-      (safe ++ goes_on.more) g.writer.doubt (given ++ goes_on.told))
+      (safe ++ goes_on.more) g.writer.doubt (given ++ goes_on.replied))
 
 -- Whatever had happened before it: all that was given is kept at each moment, and what the turn gives
 -- from its end on.

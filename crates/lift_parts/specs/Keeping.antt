@@ -27,7 +27,7 @@ pub data KeepingTurns {D : Type 0} (state : D → DiskState) (base : RegisterSta
       → KeepingTurns state base last f safe given g mid now → IsFlush state g h answer
       → (s : FlushStands g h base mid now (state g.writer.device) (state h.writer.device))
       → LeavesOnly (state g.writer.device) last (KeepsAll D g.writer.plan base now)
-      → KeepingTurns state base last f safe given h (mid ++ s.goes_on.more) (now ++ s.goes_on.told)
+      → KeepingTurns state base last f safe given h (mid ++ s.goes_on.more) (now ++ s.goes_on.replied)
 
 -- The turns have come to this flusher. Just these entries are safe now and just these commands were
 -- answered: that is the history of its group. A crash now leaves what keeps them, where one before

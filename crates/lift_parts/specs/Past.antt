@@ -42,7 +42,7 @@ pub record FlushLeadsOn {D : Type 0} (f g : FlusherState D) (answer : Result Flu
   pub letters : List (Option ℕ)
   pub leads : (folds : ℕ) → LeadsToPast w
       (flush_events received (is_ok answer) f.writer.is_broken letters folds) (group_after g)
-      terminals (safe ++ goes_on.more) (given ++ goes_on.told)
+      terminals (safe ++ goes_on.more) (given ++ goes_on.replied)
 
 -- A flusher's turn is a step of its group's past, in each world that it may be in. By the desk's
 -- rule what its seats took is a prefix of what terminals asked.
@@ -54,8 +54,8 @@ FlushesLeadOn D state = (f g : FlusherState D) (answer : Result FlushCounts Keep
     → FlushLeadsOn f g answer w terminals safe given
 
 -- A split of a clerk is no event,
-abbrev pub SplitsKeepPasts : (D P : Type 0) → Type 0
-SplitsKeepPasts D P = (w : World) (clerk : ClerkState D P) (f : FlusherState D)
+abbrev pub SplitsPreservePasts : (D P : Type 0) → Type 0
+SplitsPreservePasts D P = (w : World) (clerk : ClerkState D P) (f : FlusherState D)
     (terminals : Terminals) (safe : List Entry) (given : List Taken)
     → f.desk ≡ clerk.desk → f.seat ≡ clerk.seat → f.writer ≡ clerk.keeper.writer
     → (clerk.keeper.writer.is_broken ≡ false → f.end.state ≡ clerk.keeper.state)
@@ -63,8 +63,8 @@ SplitsKeepPasts D P = (w : World) (clerk : ClerkState D P) (f : FlusherState D)
     → IsPastOf w (group_after f) terminals safe given
 
 -- and nor is a rejoining of its parts.
-abbrev pub JoinedKeepPasts : (D P : Type 0) → Type 0
-JoinedKeepPasts D P = (w : World) (clerk : ClerkState D P) (f : FlusherState D)
+abbrev pub JoinsPreservePasts : (D P : Type 0) → Type 0
+JoinsPreservePasts D P = (w : World) (clerk : ClerkState D P) (f : FlusherState D)
     (ahead : List ClerkPlace) (terminals : Terminals) (safe : List Entry) (given : List Taken)
     → clerk.desk ≡ f.desk → clerk.seat ≡ with_looks_of ahead f.seat
     → clerk.keeper.writer ≡ f.writer → clerk.keeper.state ≡ f.end.state

@@ -121,8 +121,8 @@ pub record IdleTurnsAreNoEvents (D P : Type 0) (choice : Choice) : Type 0 where
   pub nothing : NothingTakenIsNoEvent D P choice
 
 -- It stays so whatever terminals ask and hear.
-abbrev pub TerminalsKeepParts : (D P : Type 0) → Type 0
-TerminalsKeepParts D P = (w end : World) (a : AllocatorState P) (f : FlusherState D) (event : Event)
+abbrev pub TerminalsPreserveParts : (D P : Type 0) → Type 0
+TerminalsPreserveParts D P = (w end : World) (a : AllocatorState P) (f : FlusherState D) (event : Event)
     → IsTrue (is_of_terminals event) → next w event ≡ Some end
     → IsRelayOf w a f → IsRelayOf end a f
 

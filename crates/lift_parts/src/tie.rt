@@ -2,13 +2,13 @@
 
 ghost use Rattle.lift_parts.specs.History.{FlushesStand, TurnsGoOn, SplitsGoOn, JoinedGoOn};
 ghost use Rattle.lift_parts.specs.Tie.{SplitsAreNoEvents, RejoiningsAreNoEvents};
-ghost use Rattle.lift_parts.specs.Tie.{IdleTurnsAreNoEvents, TerminalsKeepParts};
+ghost use Rattle.lift_parts.specs.Tie.{IdleTurnsAreNoEvents, TerminalsPreserveParts};
 ghost use Rattle.lift_parts.specs.Tie.{SendingsAreNoEvents, TellingsAreNoEvents};
 ghost use Rattle.lift_parts.specs.Tie.{QueuedHaveRoom, RuleOrdersAhead, ScansAreAllocations};
 ghost use Rattle.lift_parts.specs.Tie.{FlushesAreFlushes, FailedFlushesAreFailures};
 ghost use Rattle.lift_parts.specs.Tie.{BrokenFlushesAreBroken};
 ghost use Rattle.lift_parts.specs.Keeping.{TurnsKeep};
-ghost use Rattle.lift_parts.specs.Past.{FlushesLeadOn, SplitsKeepPasts, JoinedKeepPasts};
+ghost use Rattle.lift_parts.specs.Past.{FlushesLeadOn, SplitsPreservePasts, JoinsPreservePasts};
 
 use lift_clerk::{histories_are_runs, machine_laws, pasts_go_on};
 use lift_desk::seats_agree;
@@ -37,7 +37,7 @@ pub fn relays_are_the_machines<D: Disk, P: Policy>()
     ensures idle { (policy : P) → IdleTurnsAreNoEvents D P (P.chooses policy) }
     ensures sent { SendingsAreNoEvents D P }
     ensures told { TellingsAreNoEvents D P }
-    ensures terminals { TerminalsKeepParts D P }
+    ensures terminals { TerminalsPreserveParts D P }
     ensures queued { QueuedHaveRoom D P }
     ensures scans { (policy : P) → ScansAreAllocations D P (P.chooses policy) }
     ensures flushes { FlushesAreFlushes D P }
@@ -65,8 +65,8 @@ pub fn flushes_are_steps<D: Disk>()
 pub fn parts_are_clerks<D: Disk, P: Policy>()
     ensures split { SplitsGoOn D P }
     ensures joined { JoinedGoOn D P }
-    ensures split_past { SplitsKeepPasts D P }
-    ensures joined_past { JoinedKeepPasts D P }
+    ensures split_past { SplitsPreservePasts D P }
+    ensures joined_past { JoinsPreservePasts D P }
 {
     pasts_go_on::<D>();
 }

@@ -33,7 +33,7 @@ use Rattle.lift_policy.specs.Terminals.{kiosk_floor}
 use Rattle.lift_policy.specs.View.{position_of}
 use Rattle.lift_policy.specs.Eligible.{Choice}
 use Rattle.lift_policy.specs.Step.{State, Step, Proceeds, Allots, Repeats, is_new, is_same, accepting, with_car_at}
-use Rattle.lift_policy.specs.Laws.{JoinsAtMostOne, IsTypedBody, IsStateIn, TellsKept}
+use Rattle.lift_policy.specs.Laws.{JoinsAtMostOne, IsTypedBody, IsStateIn, TellsLastCommand}
 use Rattle.lift_policy.specs.lemmas.Steps.{NoCause, no_cause, repeated, HasStepped, has_stepped, Proceeded, WasRefused}
 use Rattle.lift_policy.specs.lemmas.Joins.{Step-joins}
 
@@ -141,12 +141,12 @@ Step-keeps plan choice state terminal number body reply next building command ty
     (record { here = is.possible.here; cars = is.cars }) in
     record { possible = record { register = r.lawful; belongs = r.belongs; here = p.here }; balanced = r.balanced; cars = p.cars }
 
-tells_refused : (plan : Plan) (register : RegisterState) (terminal number : ℕ) (body : Body) (reason : _) → TellsKept plan register terminal number body (Refused reason)
+tells_refused : (plan : Plan) (register : RegisterState) (terminal number : ℕ) (body : Body) (reason : _) → TellsLastCommand plan register terminal number body (Refused reason)
 tells_refused plan register terminal number (Call to party) reason = tt
 tells_refused plan register terminal number (Stop floor dir) reason = tt
 tells_refused plan register terminal number (Place floor dir) reason = tt
 
-tells_place : (plan : Plan) (register : RegisterState) (terminal number floor : ℕ) (dir : Dir) (reply : Reply) → TellsKept plan register terminal number (Place floor dir) reply
+tells_place : (plan : Plan) (register : RegisterState) (terminal number floor : ℕ) (dir : Dir) (reply : Reply) → TellsLastCommand plan register terminal number (Place floor dir) reply
 tells_place plan register terminal number floor dir (Car car) = tt
 tells_place plan register terminal number floor dir (Stopped next) = tt
 tells_place plan register terminal number floor dir (Placed next) = tt
@@ -168,14 +168,14 @@ same_dir-is Down Down h = refl
 
 call_tells : (plan : Plan) (choice : Choice) (state next : State) (terminal number to party : ℕ) (reply : Reply) (b : Bool) → terminal < MOST_TERMINALS → BelongsTo plan state.register
     → MatchBool b (Allots plan choice state terminal number to party reply next) (Repeats state terminal number to party reply next)
-    → TellsKept plan next.register terminal number (Call to party) reply
+    → TellsLastCommand plan next.register terminal number (Call to party) reply
 call_tells plan choice state next terminal number to party reply true inside belongs (car, held, chosen, told, is) =
-    subst (λ (r : Reply). TellsKept plan next.register terminal number (Call to party) r) (sym told)
+    subst (λ (r : Reply). TellsLastCommand plan next.register terminal number (Call to party) r) (sym told)
     (ap (λ (s : State). last_of s.register terminal) is
     ∙ last_of-entry state.register (Allot terminal number (kiosk_floor plan terminal) to car party) terminal refl inside)
 call_tells plan choice state next terminal number to party reply false inside belongs (from, car, kept, told, is) =
     let at : from ≡ kiosk_floor plan terminal = (belongs.lasts terminal (record { number = number; content = Letter from to car party }) kept).from_kiosk in
-    subst (λ (r : Reply). TellsKept plan next.register terminal number (Call to party) r) (sym told)
+    subst (λ (r : Reply). TellsLastCommand plan next.register terminal number (Call to party) r) (sym told)
     (ap (λ (s : State). last_of s.register terminal) is ∙ kept ∙ ap (λ (f : ℕ). Some (record { number = number; content = Letter f to car party })) at)
 
 kept_stop : (register : RegisterState) (terminal number floor n : ℕ) (dir : Dir) (content : Content) → last_of register terminal ≡ Some (record { number = n; content = content })
@@ -195,23 +195,23 @@ stop_tells plan state terminal number floor dir false inside none new =
     kept_stop state.register terminal number floor again.last.number dir again.last.content again.found again.number_is again.same
 
 tells : (plan : Plan) (choice : Choice) (state : State) (terminal number : ℕ) (body : Body) (reply : Reply) (next : State) → terminal < MOST_TERMINALS → BelongsTo plan state.register
-    → NoCause plan state terminal number body → Proceeds plan choice state terminal number body reply next → TellsKept plan next.register terminal number body reply
+    → NoCause plan state terminal number body → Proceeds plan choice state terminal number body reply next → TellsLastCommand plan next.register terminal number body reply
 tells plan choice state terminal number (Call to party) reply next inside belongs none h =
     call_tells plan choice state next terminal number to party reply (is_new state terminal number) inside belongs h
 tells plan choice state terminal number (Stop floor dir) reply next inside belongs none h =
-    subst (λ (r : Reply). TellsKept plan next.register terminal number (Stop floor dir) r) (sym h.1)
+    subst (λ (r : Reply). TellsLastCommand plan next.register terminal number (Stop floor dir) r) (sym h.1)
     (ap (λ (s : State). last_of s.register terminal) h.0 ∙ stop_tells plan state terminal number floor dir (is_new state terminal number) inside none refl)
 tells plan choice state terminal number (Place floor dir) reply next inside belongs none h = tells_place plan next.register terminal number floor dir reply
 
 stepped_tells : (plan : Plan) (choice : Choice) (state : State) (terminal number : ℕ) (body : Body) (reply : Reply) (next : State) → terminal < MOST_TERMINALS → BelongsTo plan state.register
-    → HasStepped plan choice state terminal number body reply next → TellsKept plan next.register terminal number body reply
+    → HasStepped plan choice state terminal number body reply next → TellsLastCommand plan next.register terminal number body reply
 stepped_tells plan choice state terminal number body reply next inside belongs (Proceeded none h) =
     tells plan choice state terminal number body reply next inside belongs (no_cause plan state terminal number body none) h
 stepped_tells plan choice state terminal number body reply next inside belongs (WasRefused reason cause told is) =
-    subst (λ (r : Reply). TellsKept plan next.register terminal number body r) (sym told) (tells_refused plan next.register terminal number body reason)
+    subst (λ (r : Reply). TellsLastCommand plan next.register terminal number body r) (sym told) (tells_refused plan next.register terminal number body reason)
 
 -- a `Car` or a `Stopped` tells of what the register then keeps
 pub Step-tells : (plan : Plan) (choice : Choice) (state : State) (terminal number : ℕ) (body : Body) (reply : Reply) (next : State)
-    → terminal < MOST_TERMINALS → BelongsTo plan state.register → Step plan choice state terminal number body reply next → TellsKept plan next.register terminal number body reply
+    → terminal < MOST_TERMINALS → BelongsTo plan state.register → Step plan choice state terminal number body reply next → TellsLastCommand plan next.register terminal number body reply
 Step-tells plan choice state terminal number body reply next inside belongs h =
     stepped_tells plan choice state terminal number body reply next inside belongs (has_stepped plan choice state terminal number body reply next h)

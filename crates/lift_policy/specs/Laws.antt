@@ -78,30 +78,30 @@ pub record IsStateIn (plan : Plan) (state : State) : Type 0 where
   pub cars : length state.positions ≡ MOST_CARS
 
 -- each decision of a building makes such a state of such a state
-abbrev pub StepsKeepStates : Choice → Type 0
-StepsKeepStates choice =
+abbrev pub StepsPreserveStates : Choice → Type 0
+StepsPreserveStates choice =
     (plan : Plan) (state : State) (terminal number : ℕ) (body : Body) (reply : Reply) (next : State)
     → IsBuilding plan → IsTypedCommand terminal number → IsTypedBody body → IsStateIn plan state
     → Step plan choice state terminal number body reply next → IsStateIn plan next
 
 -- a `Car` or a `Stopped`, new or repeated, answers the command that the register keeps as its
 -- terminal's last
-abbrev pub TellsKept : Plan → RegisterState → ℕ → ℕ → Body → Reply → Type 0
-TellsKept plan register terminal number (Call to party) (Car car) =
+abbrev pub TellsLastCommand : Plan → RegisterState → ℕ → ℕ → Body → Reply → Type 0
+TellsLastCommand plan register terminal number (Call to party) (Car car) =
     last_of register terminal
     ≡ Some (record {
       number = number;
       content = Letter (kiosk_floor plan terminal) to car party;
     })
-TellsKept plan register terminal number (Stop floor dir) (Stopped next) =
+TellsLastCommand plan register terminal number (Stop floor dir) (Stopped next) =
     last_of register terminal ≡ Some (record { number = number; content = StoppedAt floor dir })
-TellsKept plan register terminal number _ _ = Unit {0}
+TellsLastCommand plan register terminal number _ _ = Unit {0}
 
 abbrev pub StepsTell : Choice → Type 0
 StepsTell choice = (plan : Plan) (state : State) (terminal number : ℕ) (body : Body) (reply : Reply)
     (next : State)
     → terminal < MOST_TERMINALS → IsStateIn plan state → Step plan choice state terminal number body reply next
-    → TellsKept plan next.register terminal number body reply
+    → TellsLastCommand plan next.register terminal number body reply
 
 -- the rules allow just the decision that is computed
 abbrev pub StepsAreDecisions : Choice → Pick → Type 0

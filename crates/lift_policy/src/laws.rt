@@ -2,16 +2,16 @@
 ghost use Rattle.lift_policy.specs.Choices.{Measure, PicksLeast};
 ghost use Rattle.lift_policy.specs.Decision.{least_pick};
 ghost use Rattle.lift_policy.specs.Laws.{StepsJoinAtMostOne, RefusalsAreFirstCauses, StepsAreKnown};
-ghost use Rattle.lift_policy.specs.Laws.{StepsKeepStates, StepsTell, RunsJoin, StepsAreDecisions};
+ghost use Rattle.lift_policy.specs.Laws.{StepsPreserveStates, StepsTell, RunsJoin, StepsAreDecisions};
 
 use crate::policy::Policy;
 
 /// What every decision keeps, under any policy.
-pub fn decisions_keep<P: Policy>(policy: &P)
+pub fn decisions_preserve<P: Policy>(policy: &P)
     ensures joins { StepsJoinAtMostOne (P.chooses policy.now) }
     ensures refusals { RefusalsAreFirstCauses (P.chooses policy.now) }
     ensures known { StepsAreKnown (P.chooses policy.now) }
-    ensures states { StepsKeepStates (P.chooses policy.now) }
+    ensures states { StepsPreserveStates (P.chooses policy.now) }
     ensures tells { StepsTell (P.chooses policy.now) }
     ensures runs { RunsJoin (P.chooses policy.now) }
 {

@@ -17,7 +17,7 @@ mod waits;
 pub use command::Command;
 pub use dispatching::{Dispatching, GroupPolicy};
 pub use eligible::Eligible;
-pub use laws::{decisions_are_computed, decisions_keep};
+pub use laws::{decisions_are_computed, decisions_preserve};
 pub use policies::{Etd, FewestOpen, Shipped, ShortestWait};
 pub use policy::Policy;
 pub use presence::{CarSet, Presence};

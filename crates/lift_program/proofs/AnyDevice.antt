@@ -52,7 +52,7 @@ module _ {D E : Type 0} (device : E) where
   adds_over k batch (inl doubt) = inl doubt
   adds_over k batch (inr accepts) = inr (accepts_over k batch accepts)
 
-  turn_over : {before after : GroupState D} {fails : Bool} {batch more : List Entry} {told : List Taken} → TurnAdds before after fails batch more told → TurnAdds (group_over device before) (group_over device after) fails batch more told
+  turn_over : {before after : GroupState D} {fails : Bool} {batch more : List Entry} {replied : List Taken} → TurnAdds before after fails batch more replied → TurnAdds (group_over device before) (group_over device after) fails batch more replied
   turn_over {before} {after} (Safe t) = Safe (record {
     desk = t.desk;
     decides = decides_over before.keeper t.decides;

@@ -31,7 +31,7 @@ use Rattle.lift_program.specs.Unwritten.{unwritten_file_of, unwritten_state_of}
 use Rattle.lift_program.specs.declared.unwritten.UnwrittenFile.{UnwrittenFile}
 use Rattle.lift_disk.specs.lemmas.Starts.{holds_then}
 use Rattle.lift_disk.specs.declared.file.FileFault.{FileFault}
-use Rattle.lift_disk.specs.declared.told.ToldFile.{Ghosts as Told}
+use Rattle.lift_disk.specs.declared.listed.ListedFile.{Ghosts as Listed}
 use Rattle.lift_disk.specs.declared.sectors.SectorFile.{SectorFile}
 use Rattle.lift_program.specs.Images.{CommandFiles, IsOpened}
 use Rattle.lift_program.specs.Ends.{IsFileFault, IsMadeWith, IsUnformatted, IsReportOfFailure}
@@ -124,8 +124,8 @@ bytes_refused is_text is_no_text bytes (Err fault) read none is = bytes_refuse i
 
 -- a file that is refused gives no image
 pub has_no_image : {F O : Type 0} (is_refused : FileFault F O → Type 0) (fault : Fault) (given cause : FileFault F O) → cause ≡ given → IsFileFault OfImage fault → IsImageFault given fault → is_refused given → HasNoImage is_refused fault cause
-has_no_image {F} {O} is_refused fault given cause same is told refused =
-    subst (λ (c : FileFault F O). HasNoImage is_refused fault c) (sym same) (record { is_fault = is; told = told; refused = refused })
+has_no_image {F} {O} is_refused fault given cause same is caused refused =
+    subst (λ (c : FileFault F O). HasNoImage is_refused fault c) (sym same) (record { is_fault = is; caused = caused; refused = refused })
 
 -- what is reported of a fault is that of one that it is
 pub report_of : {D : Type 0} (has_failed : Type 0) (fault known : Fault) (left : D) (before after : Option (List ℕ)) → fault ≡ known → IsReportOfFailure {D = D} {F = Unit {0}} {O = Unit {0}} has_failed (Opened known left) before after
@@ -201,7 +201,7 @@ output_report has_failed fault left before after failed unwritten (inl is) = rep
 output_report has_failed fault left before after failed unwritten (inr is) = report_of has_failed fault (Memory tt) left before after is unwritten
 
 -- a file whose writes are refused holds what it would else
-pub unwritten_holds : {F : Type 0} {told : Told F} (holds : F → DiskState) (d : UnwrittenFile F told) → HoldsTheSame (sector_file_state_of holds (unwritten_file_of d)) (unwritten_state_of holds d)
+pub unwritten_holds : {F : Type 0} {listing : Listed F} (holds : F → DiskState) (d : UnwrittenFile F listing) → HoldsTheSame (sector_file_state_of holds (unwritten_file_of d)) (unwritten_state_of holds d)
 unwritten_holds holds d = record {
   size = refl;
   image = refl;
@@ -214,10 +214,10 @@ unwritten_holds holds d = record {
 }
 
 -- an image that was opened, by the file below it
-pub is_opened : {F : Type 0} {told : Told F} (opens : OpenOptions → List ℕ → Option F → Type 0) (gives : F → FileCall → F → Type 0) (holds : F → DiskState) (how : OpenOptions) (first : List FileCall) (image : DiskState) (file below : SectorFile F told) (path : List ℕ) → below ≡ file → image.calls ≡ 0 → image.failures ≡ 0
+pub is_opened : {F : Type 0} {listing : Listed F} (opens : OpenOptions → List ℕ → Option F → Type 0) (gives : F → FileCall → F → Type 0) (holds : F → DiskState) (how : OpenOptions) (first : List FileCall) (image : DiskState) (file below : SectorFile F listing) (path : List ℕ) → below ≡ file → image.calls ≡ 0 → image.failures ≡ 0
     → (sector_file_state_of holds file).calls ≡ 0 → IsMeasured (opens how path) gives holds first file → ((sector_file_state_of holds file).is_honest → image.is_honest) → HoldsTheSame (sector_file_state_of holds file) image → IsOpened opens gives holds how first path image below
-is_opened {F} {told} opens gives holds how first image file below path same uncalled unhurt untouched measured honest held =
-    subst (λ (f : SectorFile F told). IsOpened opens gives holds how first path image f) (sym same) (record {
+is_opened {F} {listing} opens gives holds how first image file below path same uncalled unhurt untouched measured honest held =
+    subst (λ (f : SectorFile F listing). IsOpened opens gives holds how first path image f) (sym same) (record {
       uncalled = uncalled;
       unhurt = unhurt;
       untouched = untouched;

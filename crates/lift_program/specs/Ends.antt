@@ -75,21 +75,21 @@ line_of (OtherWords unused) = Some (usage_text ++ 10 ∷ [])
 line_of end = line_for (reported end)
 
 -- whether what a serving has failed for was reported at once: that its device failed
-abbrev pub is_told_at_once : Option Fault → Bool
-is_told_at_once (Some (Journal fault)) = true
-is_told_at_once _ = false
+abbrev pub is_reported_at_once : Option Fault → Bool
+is_reported_at_once (Some (Journal fault)) = true
+is_reported_at_once _ = false
 
 -- whether the line was written before the end, while the building was served
-abbrev pub was_told : {M S V F O : Type 0} → End M S V F O → Bool
-was_told (Served (Ok serving)) = is_told_at_once serving.fault
-was_told end = false
+abbrev pub was_reported : {M S V F O : Type 0} → End M S V F O → Bool
+was_reported (Served (Ok serving)) = is_reported_at_once serving.fault
+was_reported end = false
 
 -- the line that is written before the end, and the one at it: none where it was written before
 abbrev pub line_at_once : {M S V F O : Type 0} → End M S V F O → Option (List ℕ)
-line_at_once end = cond (was_told end) (line_of end) None
+line_at_once end = cond (was_reported end) (line_of end) None
 
 abbrev pub line_at_end : {M S V F O : Type 0} → End M S V F O → Option (List ℕ)
-line_at_end end = cond (was_told end) None (line_of end)
+line_at_end end = cond (was_reported end) None (line_of end)
 
 -- This line was written, if there is one, or a prefix of it and then the writer failed; and nothing
 -- else.
@@ -99,9 +99,9 @@ TellsLine contents None old new = new ≡ old
 TellsLine contents (Some line) old new = IsWrittenOrFailed contents old new line
 
 -- that a device failed was reported
-abbrev pub IsFailureTold : {E : Type 0} → (contents : E → Option (List ℕ))
+abbrev pub IsFailureReported : {E : Type 0} → (contents : E → Option (List ℕ))
     → (old new : OutputState E) → Type 0
-IsFailureTold contents old new =
+IsFailureReported contents old new =
     IsWrittenOrFailed contents old new (fault_text (Journal (OfJournal Disk)) ++ 10 ∷ [])
 
 -- an end of a command over these files

@@ -16,7 +16,7 @@ use Rattle.lift_disk.specs.declared.file.FileFault.{FileFault}
 use Rattle.lift_disk.specs.declared.disk.Disk.{Ghosts}
 use Rattle.lift_disk.specs.declared.runs.RunDisk.{Ghosts as RunGhosts}
 use Rattle.lift_disk.specs.declared.sectors.SectorFile.{SectorFile}
-use Rattle.lift_disk.specs.declared.told.ToldFile.{Ghosts as Told}
+use Rattle.lift_disk.specs.declared.listed.ListedFile.{Ghosts as Listed}
 use Rattle.lift_program.specs.Unwritten.{unwritten_file_of}
 use Rattle.lift_program.specs.declared.unwritten.UnwrittenFile.{UnwrittenFile}
 
@@ -81,11 +81,11 @@ IsTextRead {R} opens remaining text =
 -- calls asked for its length, which gives its sectors; no other call was made of it or of its file,
 -- and none has failed. Where the file that was opened is honest, so is the image, and it holds what
 -- that held: so what a crash might have left of it before, a crash leaves now.
-pub record IsOpened {F : Type 0} {told : Told F}
+pub record IsOpened {F : Type 0} {listing : Listed F}
     (opens : OpenOptions → List ℕ → Option F → Type 0) (gives : F → FileCall → F → Type 0)
     (holds : F → DiskState) (how : OpenOptions) (first : List FileCall)
     (path : List ℕ) (image : DiskState)
-    (file : SectorFile F told) : Type 0 where
+    (file : SectorFile F listing) : Type 0 where
   pub uncalled : image.calls ≡ 0
   pub unhurt : image.failures ≡ 0
   pub untouched : (sector_file_state_of holds file).calls ≡ 0
@@ -96,10 +96,10 @@ pub record IsOpened {F : Type 0} {told : Told F}
 -- An image of so many sectors was made at this path: its file was opened there to be made, it has its
 -- room, its folder names it for good, and no call of the image was made. It is honest where the file
 -- is that was opened.
-pub record IsJustMade {F : Type 0} {told : Told F}
+pub record IsJustMade {F : Type 0} {listing : Listed F}
     (opens : OpenOptions → List ℕ → Option F → Type 0) (names : List ℕ → F → Type 0)
     (gives : F → FileCall → F → Type 0) (holds : F → DiskState) (path : List ℕ) (sectors : ℕ)
-    (image : SectorFile F told) : Type 0 where
+    (image : SectorFile F listing) : Type 0 where
   pub made : IsMadeDevice (opens to_be_made path) (names path) gives holds sectors image
   pub uncalled : (sector_file_state_of holds image).calls ≡ 0
 
@@ -111,16 +111,16 @@ pub record IsOnlyRead (file : DiskState) : Type 0 where
 -- the devices over files of this type: what opens the file, what it answers of a path, what it
 -- opens and names, what a call of such a file leads to, what it holds, and what is said of the
 -- devices
-abbrev pub image_files : {F O : Type 0} {told : Told F} {runs : RunGhosts (SectorFile F told)}
-    {disk : Ghosts (SectorFile F told)} {shown_runs : RunGhosts (UnwrittenFile F told)}
-    {shown_disk : Ghosts (UnwrittenFile F told)}
+abbrev pub image_files : {F O : Type 0} {listing : Listed F} {runs : RunGhosts (SectorFile F listing)}
+    {disk : Ghosts (SectorFile F listing)} {shown_runs : RunGhosts (UnwrittenFile F listing)}
+    {shown_disk : Ghosts (UnwrittenFile F listing)}
     → (opener : O) → (stands : List ℕ → Option Bool → Type 0)
     → (opens : OpenOptions → List ℕ → Option F → Type 0)
     → (names unnamed : List ℕ → F → Type 0)
     → (gives fails : F → FileCall → F → Type 0) → (holds : F → DiskState)
-    → (Buffered (SectorFile F told) runs disk → DiskState)
-    → (Buffered (UnwrittenFile F told) shown_runs shown_disk → DiskState) → ImageFiles
-image_files {F} {O} {told} {runs} {disk} {shown_runs} {shown_disk} opener stands opens names unnamed
+    → (Buffered (SectorFile F listing) runs disk → DiskState)
+    → (Buffered (UnwrittenFile F listing) shown_runs shown_disk → DiskState) → ImageFiles
+image_files {F} {O} {listing} {runs} {disk} {shown_runs} {shown_disk} opener stands opens names unnamed
     gives fails holds served shown = record {
       File = F;
       Opener = O;
@@ -132,17 +132,17 @@ image_files {F} {O} {told} {runs} {disk} {shown_runs} {shown_disk} opener stands
           (fails_opening gives fails holds (Lock ∷ []));
       is_unshown = λ path.
           IsRefused opener (stands path) (opens to_be_read path) (fails_opening gives fails holds []);
-      Made = SectorFile F told;
+      Made = SectorFile F listing;
       made_state = sector_file_state_of holds;
       is_just_made = IsJustMade opens names gives holds;
-      Served = Buffered (SectorFile F told) runs disk;
+      Served = Buffered (SectorFile F listing) runs disk;
       served_state = served;
       is_to_be_served = λ path d.
           IsOpened opens gives holds to_be_used (Lock ∷ []) path (served d) (below d);
       held = holds;
       found = λ path d is. is.measured.file;
       stays = λ path d is honest. (is.honest honest, is.held honest);
-      Shown = Buffered (UnwrittenFile F told) shown_runs shown_disk;
+      Shown = Buffered (UnwrittenFile F listing) shown_runs shown_disk;
       shown_state = shown;
       is_to_be_shown = λ path d.
           IsOpened opens gives holds to_be_read [] path (shown d) (unwritten_file_of (below d));

@@ -65,7 +65,7 @@ pub record IsServedOver {D : Type 0} (state : D → DiskState) (a : AllocatorSta
   pub is_left : g.writer.device ≡ serving.left
   pub ran : HaveServed IsServedBy state a b f g serving.end.fault
   pub keeps : ServingKeeps state f g
-  pub told : serving.fault ≡ served_fault g.writer.is_broken serving.end.fault
+  pub reported : serving.fault ≡ served_fault g.writer.is_broken serving.end.fault
   pub reports : IsReportOf terms serving.end
 
 -- All that this takes was had, and the building was served. Every letter is kept over power cuts: of the

@@ -13,7 +13,7 @@ use Rattle.lift_building.specs.Plan.{Plan}
 use Rattle.lift_building.specs.declared.fault.BuildingFault.{BuildingFault}
 use Rattle.lift_disk.specs.Disk.{DiskState, LeavesOnly, MayLeave}
 use Rattle.lift_disk.specs.declared.file.FileFault.{FileFault}
-use Rattle.lift_disk.specs.declared.file.FileFault.TheVariants.{Untold, NotAFile, Unopened, Failed}
+use Rattle.lift_disk.specs.declared.file.FileFault.TheVariants.{Unclear, NotAFile, Unopened, Failed}
 use Rattle.lift_program.specs.Images.{CommandFiles, ImageFiles, IsTextRead}
 use Rattle.lift_decider.specs.Decider.{starting}
 use Rattle.lift_keeper.specs.Keeper.{KeeperView}
@@ -152,7 +152,7 @@ IsRefusedBySystem role refuses fault = (error : Error) × refuses error
 
 -- what a refused image comes to
 abbrev pub IsImageFault : {F O : Type 0} → FileFault F O → Fault → Type 0
-IsImageFault (Untold error opener) fault = IsSystemFault OfImage error fault
+IsImageFault (Unclear error opener) fault = IsSystemFault OfImage error fault
 IsImageFault (NotAFile opener) fault = fault ≡ File OfImage
 IsImageFault (Unopened error) fault = IsSystemFault OfImage error fault
 IsImageFault (Failed failed) fault = IsSystemFault OfImage failed.error fault
@@ -161,7 +161,7 @@ IsImageFault (Failed failed) fault = IsSystemFault OfImage failed.error fault
 pub record HasNoImage {F O : Type 0} (is_refused : FileFault F O → Type 0) (fault : Fault)
     (cause : FileFault F O) : Type 0 where
   pub is_fault : (fault ≡ File OfImage) ⊎ (fault ≡ Memory tt)
-  pub told : IsImageFault cause fault
+  pub caused : IsImageFault cause fault
   pub refused : is_refused cause
 
 -- the fault that a command over an image has failed for

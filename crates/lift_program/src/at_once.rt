@@ -1,6 +1,6 @@
 //! The line of a device that fails, written when it does.
 
-ghost use Rattle.lift_program.specs.Ends.{IsFailureTold};
+ghost use Rattle.lift_program.specs.Ends.{IsFailureReported};
 
 use crate::fault::Fault;
 use lift_base::text::Watched;
@@ -21,9 +21,9 @@ pub struct AtOnce<E: Write + Drop> {
 }
 
 impl<E: Write + Drop> Witness for AtOnce<E> {
-    ghost use Rattle.lift_program.specs.Ends.{IsFailureTold};
+    ghost use Rattle.lift_program.specs.Ends.{IsFailureReported};
 
-    ghost hears = { λ old new. IsFailureTold E.contents old.errors new.errors };
+    ghost is_notified = { λ old new. IsFailureReported E.contents old.errors new.errors };
 
     fn has_failed(&mut self, _failed: Failed) {
         FAILED.tell(&mut self.errors);

@@ -64,7 +64,7 @@ impl<M, S, V, F: Drop, O: Drop> End<M, S, V, F, O> {
     /// Writes the line of a fault, or of other words: but that a device failed while it was served
     /// was reported when it did. Where it can't be written, only the status says so.
     pub fn tell<E: Write + Drop>(&self, errors: &mut Watched<E>)
-        ensures told { IfSome (line_at_end self.now)
+        ensures line { IfSome (line_at_end self.now)
             (IsWrittenOrFailed E.contents errors.old errors.new) }
         ensures quiet { line_at_end self.now ≡ None → errors.new ≡ errors.old }
     {

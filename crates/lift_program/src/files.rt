@@ -57,7 +57,7 @@ pub fn building_in<B: TextOpener>(opener: B, alloc: Global, path: &str) -> Resul
 pub fn image_to_show<I: FileOpener>(
     opener: I,
     path: &str,
-) -> Result<ShownImage<I::Told>, (Fault, Leftover<FileFault<I::Told, I>>)>
+) -> Result<ShownImage<I::Listed>, (Fault, Leftover<FileFault<I::Listed, I>>)>
     ensures opened { IfOk result ((⟦<I as ImageView>⟧.image opener).is_to_be_shown path.now) }
     ensures no_image { IfErr result (λ no. HasNoImage
         ((⟦<I as ImageView>⟧.image opener).is_unshown path.now) no.0 no.1) }

@@ -5,7 +5,7 @@ ghost use Rattle.lift_program.specs.Ends.{IsMadeWith, IsUnmade};
 
 use crate::fault::Fault;
 use crate::files::building_in;
-use crate::given::ready::ForServing;
+use crate::invocation::ready::ForServing;
 use crate::leftover::{Failure, Leftover};
 use crate::opening::{FilesView, Listens, Openers, TextOpener};
 use crate::refused::refused;
@@ -25,7 +25,7 @@ pub(crate) fn format<B: TextOpener, I: FileOpener, L: Listens>(
     image: &str,
     building: &str,
     half: u32,
-) -> Result<Leftover<SectorFile<I::Told>>, Failure<SectorFile<I::Told>, I::Told, I>>
+) -> Result<Leftover<SectorFile<I::Listed>>, Failure<SectorFile<I::Listed>, I::Listed, I>>
     requires least { LEAST_HALF ≤ half }
     requires most { half ≤ 1000000 }
     ensures made { IfOk result

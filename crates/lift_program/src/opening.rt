@@ -137,8 +137,8 @@ pub trait ImageView {
 
 impl<I: FileOpener> ImageView for I {
     ghost image = { λ opener. image_files opener (I.stands opener) (I.opens opener) (I.names opener)
-        (I.unnamed opener) I.Told.gives I.Told.fails I.Told.holds
-        ⟦<BufferedFile<I::Told> as Disk>⟧.state ⟦<ShownImage<I::Told> as Disk>⟧.state };
+        (I.unnamed opener) I.Listed.gives I.Listed.fails I.Listed.holds
+        ⟦<BufferedFile<I::Listed> as Disk>⟧.state ⟦<ShownImage<I::Listed> as Disk>⟧.state };
 }
 
 /// How they see what a command opens by.

@@ -97,7 +97,7 @@ pub(crate) fn refused_in(end: &ServingEnd) -> Option<Fault>
 }
 
 /// What a refused call on a file in this role comes to.
-fn told(role: Role, error: &io::Error) -> Fault
+fn fault_of_call(role: Role, error: &io::Error) -> Fault
     ensures memory { error_kind error.now ≡ ErrorKind.OutOfMemory → result ≡ Fault.Memory tt }
     ensures file { error_kind error.now ≢ ErrorKind.OutOfMemory → result ≡ Fault.File role }
 {
@@ -108,15 +108,15 @@ fn told(role: Role, error: &io::Error) -> Fault
 }
 
 /// What is answered of a file that can't be an image.
-fn told_as<F: Drop, O: Drop>(cause: &FileFault<F, O>) -> Fault
+fn image_fault<F: Drop, O: Drop>(cause: &FileFault<F, O>) -> Fault
     ensures file { IsFileFault OfImage result }
-    ensures told { IsImageFault cause.now result }
+    ensures caused { IsImageFault cause.now result }
 {
     match cause {
-        FileFault::Untold(error, _) => told(Role::Image, error),
+        FileFault::Unclear(error, _) => fault_of_call(Role::Image, error),
         FileFault::NotAFile(_) => Fault::File(Role::Image),
-        FileFault::Unopened(error) => told(Role::Image, error),
-        FileFault::Failed(failed) => told(Role::Image, &failed.error),
+        FileFault::Unopened(error) => fault_of_call(Role::Image, error),
+        FileFault::Failed(failed) => fault_of_call(Role::Image, &failed.error),
     }
 }
 
@@ -125,10 +125,10 @@ pub(crate) fn refused<F: Drop, O: Drop>(
     cause: FileFault<F, O>,
 ) -> (Fault, Leftover<FileFault<F, O>>)
     ensures fault { IsFileFault OfImage result.0 }
-    ensures told { IsImageFault cause result.0 }
+    ensures caused { IsImageFault cause result.0 }
     ensures same { result.1 ≡ cause }
 {
-    (told_as(&cause), Leftover::new(cause))
+    (image_fault(&cause), Leftover::new(cause))
 }
 
 /// The file of a building, of which nothing was read.
@@ -138,12 +138,12 @@ pub(crate) fn text_in<B: TextOpener>(opener: B, path: &str) -> Result<OpenedText
     ensures refused { result ≡ Err (Fault.File OfBuilding) → IsTextRefused (B.opens opener path.now) }
     ensures fault { IfErr result (IsFileFault OfBuilding) }
     // Memory is the fault just where the system said so.
-    ensures told { IfErr result
+    ensures caused { IfErr result
         (IsRefusedBySystem OfBuilding (λ error. B.opens opener path.now (Err error))) }
 {
     match opener.open_text(path) {
         Ok(text) => Ok(OpenedText::new(text)),
-        Err(error) => Err(told(Role::Building, &error)),
+        Err(error) => Err(fault_of_call(Role::Building, &error)),
     }
 }
 
@@ -154,12 +154,12 @@ pub(crate) fn pass_on<W: Outflow>(writer: &mut W) -> Result<(), Fault>
     ensures bytes { Keeps (W.contents writer.old) (W.contents writer.new) }
     ensures fault { IfErr result (IsFileFault Output) }
     // Memory is the fault just where the system said so.
-    ensures told { IfErr result
+    ensures caused { IfErr result
         (IsRefusedBySystem Output (λ error. W.refuses writer.old error writer.new)) }
 {
     match writer.flush_once() {
         Ok(()) => Ok(()),
-        Err(error) => Err(told(Role::Output, &error)),
+        Err(error) => Err(fault_of_call(Role::Output, &error)),
     }
 }
 
@@ -189,7 +189,7 @@ pub(crate) fn matches_of<'a, S: AsStr>(
 
 /// Why the words weren't given: for want of memory, or since one of them is no text. Nothing that
 /// opens a file or a socket was made yet.
-pub fn not_given<E: Write + Drop>(
+pub fn no_words<E: Write + Drop>(
     error: io::Error,
     errors: &mut Watched<E>,
 ) -> End<(), (), (), (), ()>

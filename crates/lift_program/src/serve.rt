@@ -2,7 +2,7 @@
 
 ghost use Rattle.std.specs.Prelude.{◌≡◌, None, cond, IfOk, IfErr, OnErr};
 ghost use Rattle.std.specs.Io.KnownBytes.{Appends};
-ghost use Rattle.lift_program.specs.Ends.{IsEndFor, IsReportOfFailure, TellsLine, is_told_at_once};
+ghost use Rattle.lift_program.specs.Ends.{IsEndFor, IsReportOfFailure, TellsLine, is_reported_at_once};
 ghost use Rattle.lift_program.specs.Ends.{line_for, serving_text};
 ghost use Rattle.lift_program.specs.Faults.{served_fault};
 ghost use Rattle.lift_program.specs.Output.{IsFlushed, WriterHasFailed};
@@ -11,8 +11,8 @@ ghost use Rattle.lift_program.specs.declared.words.Request.TheVariants.{Serve};
 
 use crate::at_once::{AtOnce, FAILED};
 use crate::fault::Fault;
-use crate::given::ToServe;
-use crate::given::ready::keeping::left_served;
+use crate::invocation::ToServe;
+use crate::invocation::ready::keeping::left_served;
 use crate::leftover::{Failure, Leftover};
 use crate::opening::{FilesView, Listens, Openers, TextOpener};
 use crate::output::Outflow;
@@ -67,7 +67,7 @@ pub(crate) fn serve<
     writer: &mut W,
     errors: Watched<E>,
 ) -> (
-    Result<Serving<BufferedFile<I::Told>>, Failure<BufferedFile<I::Told>, I::Told, I>>,
+    Result<Serving<BufferedFile<I::Listed>>, Failure<BufferedFile<I::Listed>, I::Listed, I>>,
     Watched<E>,
 )
     ensures end { IsEndFor (⟦<Openers<B, I, L> as FilesView>⟧.view asked.entry.openers)
@@ -81,7 +81,7 @@ pub(crate) fn serve<
         (W.contents writer.new)) }
     // and the line of a device that failed before the end, and no other.
     ensures at_once { IfOk result.0 (λ serving.
-        TellsLine E.contents (cond (is_told_at_once serving.fault) (line_for serving.fault) None)
+        TellsLine E.contents (cond (is_reported_at_once serving.fault) (line_for serving.fault) None)
         errors result.1) }
     ensures quiet { OnErr result.0 (result.1 ≡ errors) }
 {
@@ -91,8 +91,8 @@ pub(crate) fn serve<
         Ok(ready) => ready,
         Err(failure) => return (Err(failure), errors),
     };
-    let told = AtOnce { errors };
-    let (served, end) = lift_serve::serve(rt, alloc, group, told);
+    let reporter = AtOnce { errors };
+    let (served, end) = lift_serve::serve(rt, alloc, group, reporter);
     let Parts {
         allocator: _,
         flusher,

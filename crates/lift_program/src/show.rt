@@ -11,8 +11,8 @@ ghost use Rattle.lift_program.specs.declared.fault.Role.TheVariants.{Output};
 
 use crate::fault::Fault;
 use crate::files::{building_in, image_to_show};
-use crate::given::ready::ForServing;
-use crate::given::ready::keeping::left_by;
+use crate::invocation::ready::ForServing;
+use crate::invocation::ready::keeping::left_by;
 use crate::leftover::{Failure, Leftover};
 use crate::opening::{FilesView, Listens, Openers, TextOpener};
 use crate::output::{Outflow, write_out};
@@ -54,7 +54,7 @@ pub(crate) fn show<B: TextOpener, I: FileOpener, L: Listens, W: Outflow>(
     image: &str,
     building: &str,
     writer: &mut W,
-) -> Result<Leftover<ShownImage<I::Told>>, Failure<ShownImage<I::Told>, I::Told, I>>
+) -> Result<Leftover<ShownImage<I::Listed>>, Failure<ShownImage<I::Listed>, I::Listed, I>>
     ensures shown { IfOk result (λ disk. IsShown (⟦<Openers<B, I, L> as FilesView>⟧.view openers)
         image.now building.now disk (W.contents writer.old) (W.contents writer.new)) }
     ensures flushed { OnOk result (IsFlushed W.gives W.flushes writer.old writer.new) }

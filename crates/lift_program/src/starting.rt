@@ -6,7 +6,7 @@ ghost use Rattle.lift_program.specs.Ends.{KeepsIfServed, TellsLine, line_of, unc
 ghost use Rattle.lift_program.specs.Output.{IsFlushed, WriterHasFailed};
 
 use crate::end::{End, EndBy};
-use crate::given::Given;
+use crate::invocation::Invocation;
 use crate::leftover::Leftover;
 use crate::opening::{FilesView, Listens, Openers, TextOpener};
 use crate::output::Outflow;
@@ -40,32 +40,32 @@ pub fn start<
     E: Write + Drop,
 >(
     rt: &F,
-    given: Given<'_, B, I, L, S, R, E>,
+    invocation: Invocation<'_, B, I, L, S, R, E>,
     alloc: Global,
     writer: &mut W,
     errors: Watched<E>,
-) -> (EndBy<I, I::Told>, Watched<E>, Leftover<Counted<R>>)
+) -> (EndBy<I, I::Listed>, Watched<E>, Leftover<Counted<R>>)
     // It did what the words ask for, and nothing else.
-    ensures end { IsEndOf (⟦<Openers<B, I, L> as FilesView>⟧.view given.entry.openers)
-        (map S.text given.entry.words.now) (W.contents writer.old) (W.contents writer.new) result.0 }
+    ensures end { IsEndOf (⟦<Openers<B, I, L> as FilesView>⟧.view invocation.entry.openers)
+        (map S.text invocation.entry.words.now) (W.contents writer.old) (W.contents writer.new) result.0 }
     // A group that was served has kept every letter over power cuts, if its file is an honest device.
-    ensures keeps { KeepsIfServed (⟦<Openers<B, I, L> as FilesView>⟧.view given.entry.openers)
-        (map S.text given.entry.words.now) result.0 }
+    ensures keeps { KeepsIfServed (⟦<Openers<B, I, L> as FilesView>⟧.view invocation.entry.openers)
+        (map S.text invocation.entry.words.now) result.0 }
     // What was written is its report, passed on where all was done; one that failed over an image has
     // written nothing, or the output has failed.
     ensures output { IsOutputOf (IsFlushed W.gives W.flushes writer.old writer.new)
-        (WriterHasFailed W.gives W.flushes writer.old writer.new) (R.remaining given.entry.reader)
-        (map S.text given.entry.words.now) result.0 (W.contents writer.old) (W.contents writer.new) }
+        (WriterHasFailed W.gives W.flushes writer.old writer.new) (R.remaining invocation.entry.reader)
+        (map S.text invocation.entry.words.now) result.0 (W.contents writer.old) (W.contents writer.new) }
     // Of every reader and writer: what the output took of a script is the report of the bytes that came
     // of the input, or a prefix of it.
     ensures script { IsScriptEnd W.sent W.contents W.gives W.flushes [] result.2.came writer.old
         writer.new result.0 }
     // Only a script is read, as far as its end says.
-    ensures input { IsInputLeft R.remaining result.0 (uncalled given.entry.reader) result.2 }
+    ensures input { IsInputLeft R.remaining result.0 (uncalled invocation.entry.reader) result.2 }
     // Its line was written, and nothing else.
     ensures line { TellsLine E.contents (line_of result.0) errors result.1 }
 {
-    let (input, outcome) = given.prepare(alloc, writer);
+    let (input, outcome) = invocation.prepare(alloc, writer);
     let (end, mut errors) = match outcome {
         Ok(asked) => {
             let (outcome, errors) = serve(rt, asked, alloc, writer, errors);

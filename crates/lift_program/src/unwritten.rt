@@ -4,11 +4,11 @@ ghost use Rattle.std.proofs.Common.{◌∙◌};
 ghost use Rattle.lift_disk.specs.Files.{file_below, sector_file_state_of, writes_of};
 
 use lift_base::ProofCount;
-use lift_disk::{Buffered, Disk, DiskFault, RunDisk, SectorFile, ToldFile};
+use lift_disk::{Buffered, Disk, DiskFault, ListedFile, RunDisk, SectorFile};
 
 /// A file that is never written: a write of it fails, and is no call of the file.
 #[derive(Drop)]
-pub struct UnwrittenFile<F: ToldFile + Drop> {
+pub struct UnwrittenFile<F: ListedFile + Drop> {
     file: SectorFile<F>,
     refused: ProofCount,
     ghost unwritten: { writes_of file ≡ 0 },
@@ -17,7 +17,7 @@ pub struct UnwrittenFile<F: ToldFile + Drop> {
 /// The file of a journal that is shown. It is read 16 sectors at once, and never written.
 pub type ShownImage<F> = Buffered<UnwrittenFile<F>>;
 
-impl<F: ToldFile + Drop> UnwrittenFile<F> {
+impl<F: ListedFile + Drop> UnwrittenFile<F> {
     ghost use Rattle.lift_program.specs.Unwritten.{unwritten_file_of, unwritten_state_of};
 
     /// A device over a file of which no call was a write. It makes no call of it.
@@ -34,7 +34,7 @@ impl<F: ToldFile + Drop> UnwrittenFile<F> {
     }
 }
 
-impl<F: ToldFile + Drop> Disk for UnwrittenFile<F> {
+impl<F: ListedFile + Drop> Disk for UnwrittenFile<F> {
     ghost use Rattle.lift_program.specs.Unwritten.{unwritten_file_of, unwritten_state_of};
 
     ghost state = { λ d. unwritten_state_of F.holds d };
@@ -66,11 +66,11 @@ impl<F: ToldFile + Drop> Disk for UnwrittenFile<F> {
     }
 }
 
-impl<F: ToldFile + Drop> RunDisk for UnwrittenFile<F> {
-    ghost use Rattle.lift_disk.specs.Files.{AsksForRun, HasGiven, calls_below};
+impl<F: ListedFile + Drop> RunDisk for UnwrittenFile<F> {
+    ghost use Rattle.lift_disk.specs.Files.{AsksForRun, HasReadBytes, calls_below};
     ghost use Rattle.lift_program.specs.Unwritten.{unwritten_file_of};
 
-    ghost has_given = { λ d. HasGiven (calls_below (unwritten_file_of d)) };
+    ghost has_read_bytes = { λ d. HasReadBytes (calls_below (unwritten_file_of d)) };
 
     // the file was asked for just these
     ghost read_run_gives = { λ old sector run result new.

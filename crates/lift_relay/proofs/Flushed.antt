@@ -18,7 +18,7 @@ use Rattle.lift_keeper.specs.Commits.{Commits}
 use Rattle.lift_keeper.specs.Writer.{WriterView}
 use Rattle.lift_keeper.specs.lemmas.Committed.{whole_before}
 use Rattle.lift_clerk.specs.declared.answering.DueAnswer.{DueAnswer}
-use Rattle.lift_clerk.specs.Answering.{AreOwed, terminals_in, reply_told, replies_told, with_answers}
+use Rattle.lift_clerk.specs.Answering.{AreOwed, terminals_in, stored_reply, stored_replies, with_answers}
 use Rattle.lift_clerk.specs.TakenAndAnswered.{AreApart, ask_of}
 use Rattle.lift_clerk.specs.lemmas.Lists.{AreOthers}
 use Rattle.lift_clerk.specs.Visits.{Visit, FindsAt}
@@ -126,7 +126,7 @@ module _ (desk : List TableId) (is_safe : Bool) (j : ℕ) where
       let now : get_or (turns_with turns t) j 0 ≡ turn_of t.note.word =
       subst (λ (k : ℕ). get_or (turns_with turns t) k 0 ≡ turn_of t.note.word) at (get_or-set_same turns t.command.terminal (turn_of t.note.word) 0 noted.0.counted) in
       let after = turns_else (turns_with turns t) batch j others in (
-        (λ owes. omega (arith, ap length more, length-append p.view.taken (t.note.word ∷ []), length-append p.view.answered (reply_word (length view.taken) (number_of (last_of view.taken)) (reply_told is_safe t.reply) ∷ []))),
+        (λ owes. omega (arith, ap length more, length-append p.view.taken (t.note.word ∷ []), length-append p.view.answered (reply_word (length view.taken) (number_of (last_of view.taken)) (stored_reply is_safe t.reply) ∷ []))),
         omega arith,
       )
 
@@ -167,13 +167,13 @@ module _ {D : Type 0} (state : D → DiskState) (s old : SettlerState D) (view :
 
   pub settles : (answer : Result FlushCounts KeeperFault) (writer : WriterView D) (next : List ClerkPlace) → Commits state s.writer batch.entries writer answer
       → (old.writer.is_broken ≡ false → (batch.building ≡ old.writer.plan) × (batch.before.register ≡ old.writer.register)) → AllAnsweredBy old.seat batch.turns → AreNoted batch.desk batch.turns batch.commands → IsDecided batch
-      → next ≡ with_answers (is_ok answer) seat answers → All IsReply (replies_told (is_ok answer) answers) → IsClerkOf s.desk next
+      → next ≡ with_answers (is_ok answer) seat answers → All IsReply (stored_replies (is_ok answer) answers) → IsClerkOf s.desk next
       → ((counts : FlushCounts) → answer ≡ Ok counts → (counts.batches ≡ 1) × (counts.answers ≡ length answers)) → SettlesBatch state old batch (record { desk = s.desk; seat = next; writer = writer }) answer
   settles answer writer next c onto all noted decided stored in_range seated counts =
       let answered : AnswersBatch (is_ok answer) s.seat batch.commands next = record {
         finds = finds;
         stored = stored ∙ (λ i. with_answers (is_ok answer) (seats i) (due i));
-        in_range = subst (λ (l : List DueAnswer). All IsReply (replies_told (is_ok answer) l)) due in_range;
+        in_range = subst (λ (l : List DueAnswer). All IsReply (stored_replies (is_ok answer) l)) due in_range;
       } in
       let many_answers = ap length due ∙ length-map batch.commands (λ (t : NotedCommand). record { terminal = t.command.terminal; reply = t.reply }) in
       let was = sym view in

@@ -11,7 +11,7 @@ use Rattle.lift_policy.specs.Step.{State}
 use Rattle.lift_parts.specs.Batch.{BatchState, next_turns}
 use Rattle.lift_relay.specs.declared.line.EndView.{EndView}
 use Rattle.lift_parts.specs.Line.{most_batches, Begins, IsNextBatch}
-use Rattle.lift_relay.specs.Rule.{opening, opening_view, begun_with, sending, receiving, with_both_passes, told_both, spent_pass, LineLists, EndFits, IsLineInOrder, IsLineKept, Opened, Sent, Received, SentAllBut, ReceivedBefore, HoldsUnreceived}
+use Rattle.lift_relay.specs.Rule.{opening, opening_view, begun_with, sending, receiving, with_both_passes, told_both, spent_pass, LineLists, EndFits, IsLineInOrder, IsLineSound, Opened, Sent, Received, SentAllBut, ReceivedBefore, HoldsUnreceived}
 use Rattle.lift_parts.specs.Line.{BatchesGoOn}
 
 off : {A : Type 0} → false ≡ true → A
@@ -45,14 +45,14 @@ alone_at items views id v is at = here id (subst (λ l. get_elem? l id ≡ some 
     here (suc n) e = absurd (some-ne-none v (sym e))
 
 -- where a pass tells that the line has begun, it is in order
-ordered : (items : List BatchState) (views : List EndView) (id : ℕ) (v : EndView) → v.begun ≡ true → IsLineKept items views → get_elem? views id ≡ some v → IsLineInOrder items views
+ordered : (items : List BatchState) (views : List EndView) (id : ℕ) (v : EndView) → v.begun ≡ true → IsLineSound items views → get_elem? views id ≡ some v → IsLineInOrder items views
 ordered items views id v begun (inl is) at = off (sym (ap (λ (u : EndView). u.begun) (alone_at items views id v is at).1) ∙ begun)
 ordered items views id v begun (inr o) at = o
 
 set_only : (views : List EndView) (u w : EndView) (id : ℕ) → id ≡ 0 → views ≡ u ∷ [] → set views id w ≡ w ∷ []
 set_only views u w id first is = ap (λ (p : ℕ × List EndView). set p.1 p.0 w) (λ i. (first i, is i))
 
-pub names : (n id : ℕ) (v : EndView) (batch : BatchState) → v ≡ opening_view → Pushes IsLineKept n id v batch (Opened v batch)
+pub names : (n id : ℕ) (v : EndView) (batch : BatchState) → v ≡ opening_view → Pushes IsLineSound n id v batch (Opened v batch)
 names n id v batch first items views few h at =
     ⊎_elim
     (λ is.
@@ -76,7 +76,7 @@ one : (batch : BatchState) (lists : LineLists) → EndFits lists 0 (begun_with b
 one batch lists mine zero u e = subst (EndFits lists 0) (some-injective (begun_with batch) u e) mine
 one batch lists mine (suc pass) u e = absurd (some-ne-none u (sym e))
 
-pub starts : (id : ℕ) (v : EndView) (first : BatchState) → v ≡ opening (first ∷ []) → Pops IsLineKept id v (Opened v)
+pub starts : (id : ℕ) (v : EndView) (first : BatchState) → v ≡ opening (first ∷ []) → Pops IsLineSound id v (Opened v)
 starts id v first is batch items views h at =
     ⊎_elim
     (λ only.
@@ -121,7 +121,7 @@ begun first batch w v push (inr pop) = pop.begins ∙ ap begun_with (head_of bat
 longer : (first whole : List BatchState) (batch : BatchState) → Begins first whole → Begins first (whole ++ batch ∷ [])
 longer first whole batch b = (b.0 ++ batch ∷ [], ap (λ l. l ++ batch ∷ []) b.1 ∙ append_assoc first b.0 (batch ∷ []))
 
-pub sends : (n id : ℕ) (v : EndView) (batch : BatchState) → n ≡ MOST_BATCHES → v.begun ≡ true → v.sends ≡ true → length v.sent < most_batches → IsNextBatch v.building v.desk v.ahead v.turns_ahead batch → Pushes IsLineKept n id v batch (Sent v batch)
+pub sends : (n id : ℕ) (v : EndView) (batch : BatchState) → n ≡ MOST_BATCHES → v.begun ≡ true → v.sends ≡ true → length v.sent < most_batches → IsNextBatch v.building v.desk v.ahead v.turns_ahead batch → Pushes IsLineSound n id v batch (Sent v batch)
 sends n id v batch four begun may room next items views few kept at =
     let h = ordered items views id v begun kept at in
     let l = h.lists in
@@ -167,7 +167,7 @@ sends n id v batch four begun may room next items views few kept at =
       },
     )
 
-pub receives : (id : ℕ) (v : EndView) → v.begun ≡ true → v.receives ≡ true → Pops IsLineKept id v (Received v)
+pub receives : (id : ℕ) (v : EndView) → v.begun ≡ true → v.receives ≡ true → Pops IsLineSound id v (Received v)
 receives id v begun may batch items views kept at =
     let h = ordered (batch ∷ items) views id v begun kept at in
     let l = h.lists in
@@ -213,20 +213,20 @@ receives id v begun may batch items views kept at =
       },
     )
 
-pub sender_learns : (id : ℕ) (v : EndView) → v.begun ≡ true → v.sends ≡ true → Learns IsLineKept id v (SentAllBut v)
+pub sender_learns : (id : ℕ) (v : EndView) → v.begun ≡ true → v.sends ≡ true → Learns IsLineSound id v (SentAllBut v)
 sender_learns id v begun may items views kept at =
     let h = ordered items views id v begun kept at in
     let a = (h.fits id v at).sends may in
     record { received = h.lists.received; all = a.1 ∙ h.in_order; later = a.2 }
 
-pub receiver_learns : (id : ℕ) (v : EndView) → v.begun ≡ true → v.receives ≡ true → Learns IsLineKept id v (ReceivedBefore v)
+pub receiver_learns : (id : ℕ) (v : EndView) → v.begun ≡ true → v.receives ≡ true → Learns IsLineSound id v (ReceivedBefore v)
 receiver_learns id v begun may items views kept at =
     let h = ordered items views id v begun kept at in
     let a = (h.fits id v at).receives may in
     record { sent = h.lists.sent; all = h.in_order ∙ ap (λ x. x ++ items) (sym a.1); later = a.2 }
 
 -- the pass with both rights leaves one to a new pass
-pub ends : (id : ℕ) (v : EndView) → v.begun ≡ true → v.sends ≡ true → v.receives ≡ true → Forks IsLineKept id v (sending v) (receiving v)
+pub ends : (id : ℕ) (v : EndView) → v.begun ≡ true → v.sends ≡ true → v.receives ≡ true → Forks IsLineSound id v (sending v) (receiving v)
 ends id v begun may takes items views kept at =
     let h = ordered items views id v begun kept at in
     let l = h.lists in
@@ -267,7 +267,7 @@ in_one v w gone known = record (with_both_passes v w) { gone = gone; known = kno
 -- the sending pass takes in the receiving one, and knows what both know, of what left the line and of what came into it as much as is true
 merges : (id other : ℕ) (v w : EndView) (gone known : List BatchState) → v.begun ≡ true → v.sends ≡ true → w.receives ≡ true
     → ((l : LineLists) → v.sent ≡ l.sent → Begins v.gone l.received → w.received ≡ l.received → Begins w.known l.sent → Begins gone l.received × Begins known l.sent)
-    → Merges IsLineKept id v other w (in_one v w gone known) spent_pass
+    → Merges IsLineSound id v other w (in_one v w gone known) spent_pass
 merges id other v w gone known begun may takes so items views kept at apart at_other =
     let h = ordered items views id v begun kept at in
     let l = h.lists in
@@ -301,16 +301,16 @@ merges id other v w gone known begun may takes so items views kept at apart at_o
       fits = fit_set next vs other spent_pass (record { begun = refl; sends = λ p. off p; receives = λ p. off p }) (λ j u off_other e. now j u e off_other);
     })
 
-pub joins : (id : ℕ) (v : EndView) (other : ℕ) (w : EndView) → v.begun ≡ true → v.sends ≡ true → w.receives ≡ true → Merges IsLineKept id v other w (with_both_passes v w) spent_pass
+pub joins : (id : ℕ) (v : EndView) (other : ℕ) (w : EndView) → v.begun ≡ true → v.sends ≡ true → w.receives ≡ true → Merges IsLineSound id v other w (with_both_passes v w) spent_pass
 joins id v other w begun may takes = merges id other v w v.gone w.known begun may takes (λ l sent left received came. (left, came))
 
 all_of : (xs ys : List BatchState) → xs ≡ ys → Begins xs ys
 all_of xs ys is = ([], sym is ∙ sym (append-nil xs))
 
-pub tells : (id : ℕ) (v : EndView) (other : ℕ) (w : EndView) → v.begun ≡ true → v.sends ≡ true → w.receives ≡ true → Merges IsLineKept id v other w (told_both v w) spent_pass
+pub tells : (id : ℕ) (v : EndView) (other : ℕ) (w : EndView) → v.begun ≡ true → v.sends ≡ true → w.receives ≡ true → Merges IsLineSound id v other w (told_both v w) spent_pass
 tells id v other w begun may takes = merges id other v w w.received v.sent begun may takes (λ l sent left received came. (all_of w.received l.received received, all_of v.sent l.sent sent))
 
-pub both_learn : (id : ℕ) (v : EndView) → v.begun ≡ true → v.sends ≡ true → v.receives ≡ true → Learns IsLineKept id v (HoldsUnreceived v)
+pub both_learn : (id : ℕ) (v : EndView) → v.begun ≡ true → v.sends ≡ true → v.receives ≡ true → Learns IsLineSound id v (HoldsUnreceived v)
 both_learn id v begun may takes items views kept at =
     let h = ordered items views id v begun kept at in
     let a = (h.fits id v at).sends may in

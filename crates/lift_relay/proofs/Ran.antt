@@ -16,7 +16,7 @@ use Rattle.lift_parts.specs.Flusher.{FlusherState}
 use Rattle.lift_parts.specs.declared.counts.FlushCounts.{FlushCounts}
 use Rattle.lift_parts.specs.Turns.{AllocatorTurns, FlusherTurns, IsFlush, NoMore, NoFlush, OneFlush, first_of}
 use Rattle.lift_parts.specs.Parts.{AreOfOne}
-use Rattle.lift_relay.specs.Pair.{HaveRun, IsRun, AreSameParts, TurnsKeepParts}
+use Rattle.lift_relay.specs.Pair.{HaveRun, IsRun, AreSameParts, TurnsPreserveParts}
 use Rattle.lift_clerk.specs.History.{History}
 use Rattle.lift_parts.specs.History.{GoesOnTo, TurnsGoOn, group_after}
 use Rattle.lift_parts.specs.lemmas.Paired.{turns_joined, flushes_joined, same_allocator, same_flusher, still_of_one, faults_broken}
@@ -42,7 +42,7 @@ not_spawn : (first : Option KeeperFault) → fault_of first ≡ Some (Spawn tt) 
 not_spawn None is = cc
 not_spawn (Some e) is = cc
 
-pub turns_keep : {D P : Type 0} (choice : Choice) (state : D → DiskState) → TurnsKeepParts D P state choice
+pub turns_keep : {D P : Type 0} (choice : Choice) (state : D → DiskState) → TurnsPreserveParts D P state choice
 turns_keep choice state a b f g before last turns flushes one =
     let allocator = same_allocator choice a b turns in
     let flusher = same_flusher state f g before last flushes in
@@ -61,7 +61,7 @@ module _ {D P : Type 0} (choice : Choice) (state : D → DiskState) (a b : Alloc
   broken_of (inl refused) of is = absurd (let none = refused.0 in cc)
   broken_of (inr run) of is = faults_broken state f g None run.0.first run.0.flusher (λ e none. absurd (cc)) of (keeper_of run.0.first of (sym run.0.is_first ∙ is))
 
-  pub stay_of : TurnsKeepParts D P state choice → IsRun choice state a b f g fault → AreOfOne a f → AreSameParts a b f g
+  pub stay_of : TurnsPreserveParts D P state choice → IsRun choice state a b f g fault → AreOfOne a f → AreSameParts a b f g
   stay_of law (inl refused) one =
       subst (λ (p : AllocatorState P × FlusherState D). AreSameParts a p.0 f p.1) (λ i. (sym refused.1.0 i, sym refused.1.1 i)) (law a a f f None None NoMore NoFlush one)
   stay_of law (inr run) one = law a b f g None run.0.first run.0.allocator run.0.flusher one

@@ -8,7 +8,7 @@ pub mod BatchInside
 pub mod Scanner
 pub mod ScannerInside
 pub mod AllocatorInside
-pub mod Heard
+pub mod Notified
 pub mod Settler
 pub mod SettlerInside
 pub mod FlusherInside

@@ -36,8 +36,8 @@ pub record AreSameParts {D P : Type 0} (a b : AllocatorState P) (f g : FlusherSt
   pub of_one : AreOfOne b g
 
 -- whatever turns parts of one have had, they stay the same parts
-abbrev pub TurnsKeepParts : (D P : Type 0) → (D → DiskState) → Choice → Type 0
-TurnsKeepParts D P state choice = (a b : AllocatorState P) (f g : FlusherState D)
+abbrev pub TurnsPreserveParts : (D P : Type 0) → (D → DiskState) → Choice → Type 0
+TurnsPreserveParts D P state choice = (a b : AllocatorState P) (f g : FlusherState D)
     (before last : Option KeeperFault) → AllocatorTurns choice a b
     → FlusherTurns state f before g last → AreOfOne a f → AreSameParts a b f g
 

@@ -114,8 +114,8 @@ pub record IsLineInOrder (items : List BatchState) (views : List EndView) : Type
   pub four : length items ≤ MOST_BATCHES
 
 -- the line is in order, or hasn't begun, and then one pass has pushed all that is there
-abbrev pub IsLineKept : List BatchState → List EndView → Type 0
-IsLineKept items views = (views ≡ opening items ∷ []) ⊎ IsLineInOrder items views
+abbrev pub IsLineSound : List BatchState → List EndView → Type 0
+IsLineSound items views = (views ≡ opening items ∷ []) ⊎ IsLineInOrder items views
 
 -- a batch is popped, and the line begins with it
 pub record Begun (v : EndView) (batch : BatchState) (w : EndView) : Type 0 where

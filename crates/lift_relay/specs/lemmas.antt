@@ -1,1 +1,1 @@
-pub mod Heard
+pub mod Notified

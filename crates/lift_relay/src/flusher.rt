@@ -11,13 +11,13 @@ ghost use Rattle.lift_parts.specs.Parts.{AreOfOne};
 ghost use Rattle.lift_parts.specs.Flusher.{IsFlusher, AllAnsweredBy, IsBatchTurn};
 ghost use Rattle.lift_parts.specs.Turns.{IsFlush};
 ghost use Rattle.lift_parts.specs.History.{FlushKeeps};
-ghost use Rattle.lift_relay.specs.Heard.{FailureHeard};
+ghost use Rattle.lift_relay.specs.Notified.{FailureNotified};
 
 use crate::allocator::Allocator;
 use crate::line::ReceiveEnd;
 use crate::relay::Key;
 use crate::settling::Settler;
-use crate::witness::{HeardBy, Witness};
+use crate::witness::{Notifies, Witness};
 use lift_clerk::Clerk;
 use lift_desk::{ClerkSeat, Desk, Lender, Seat};
 use lift_disk::Disk;
@@ -199,14 +199,14 @@ impl<'d, 'b, D: Disk, K> Flusher<'d, 'b, D, K> {
         witness: &mut V,
     ) -> Result<FlushCounts, KeeperFault>
     where
-        K: HeardBy<V>,
+        K: Notifies<V>,
         // What it received, committed and answered, and the calls of the device that this took.
         ensures turn { IsFlush D.state self.old self.new result }
         // A batch that it was told of, it receives.
         ensures finds { length self.old.end.received < length self.old.end.known
             → (batch : BatchState) × IsBatchTurn self.old self.new batch result }
         // Where the device failed first, the witness was notified, once.
-        ensures heard { FailureHeard V.hears
+        ensures notified { FailureNotified V.is_notified
             self.old.writer.is_broken self.new.writer.is_broken witness.old witness.new }
         // Whatever had happened before, all that was given is kept at each moment, and what the turn
         // gives from its end on.

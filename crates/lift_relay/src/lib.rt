@@ -31,5 +31,5 @@ pub use pair::{RunFault, run};
 pub use refused::{BothRun, NoThread};
 pub use relay::{Key, rejoin, split, split_for, tell};
 pub use settling::Settler;
-pub use tie::{turn_flusher_once, turns_keep_parts};
-pub use witness::{Failed, HeardBy, Witness};
+pub use tie::{turn_flusher_once, turns_preserve_parts};
+pub use witness::{Failed, Notifies, Witness};

@@ -43,9 +43,9 @@ pub struct EndView {
 
 // What holds of the line between the two parts: batches come in the order in which they were sent.
 impl Protocol<Batch, EndView> for EndView {
-    ghost use Rattle.lift_relay.specs.Rule.{IsLineKept, opening_view};
+    ghost use Rattle.lift_relay.specs.Rule.{IsLineSound, opening_view};
 
-    ghost holds = { IsLineKept };
+    ghost holds = { IsLineSound };
 
     ghost first = { opening_view };
 }

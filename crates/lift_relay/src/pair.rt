@@ -10,7 +10,7 @@ ghost use Rattle.lift_parts.specs.Queued.{Queued};
 ghost use Rattle.lift_parts.specs.Parts.{AreOfOne};
 ghost use Rattle.lift_parts.specs.Turns.{AllocatorTurns, FlusherTurns, IsSending};
 ghost use Rattle.lift_relay.specs.Pair.{ComesFrom, IsRun, HaveRun, AreSameParts};
-ghost use Rattle.lift_relay.specs.Heard.{FailureHeard};
+ghost use Rattle.lift_relay.specs.Notified.{FailureNotified};
 ghost use Rattle.lift_clerk.specs.History.{History};
 ghost use Rattle.lift_parts.specs.History.{GoesOnTo, group_after};
 
@@ -19,8 +19,8 @@ use crate::flusher::Flusher;
 use crate::gate::{AskingAllocator, Gate, GatedAllocator};
 use crate::places::with_both;
 use crate::refused::{NoThread, spawn};
-use crate::tie::turns_keep_parts;
-use crate::witness::{HeardBy, Witness};
+use crate::tie::turns_preserve_parts;
+use crate::witness::{Notifies, Witness};
 use lift_disk::Disk;
 use lift_keeper::KeeperFault;
 use lift_parts::flushes_are_steps;
@@ -83,7 +83,7 @@ fn tell_of_flusher<R: Wait, G: Gate, D: Disk, K>(
 }
 
 /// Turns while the gate goes on. The first fault, if there was one.
-fn flush<R: Wait, G: Gate, D: Disk, K: HeardBy<V>, V: Witness>(
+fn flush<R: Wait, G: Gate, D: Disk, K: Notifies<V>, V: Witness>(
     rt: &R,
     flusher: &mut Flusher<'_, '_, D, K>,
     gate: &G,
@@ -92,7 +92,7 @@ fn flush<R: Wait, G: Gate, D: Disk, K: HeardBy<V>, V: Witness>(
     // A run that never returns has told it too.
     requires told { G.knows_both_run gate.now }
     ensures turns { FlusherTurns D.state flusher.old None flusher.new result }
-    ensures heard { FailureHeard V.hears
+    ensures notified { FailureNotified V.is_notified
         flusher.old.writer.is_broken flusher.new.writer.is_broken witness.old witness.new }
     ensures closed { G.closed gate.now }
 {
@@ -110,7 +110,7 @@ fn flush<R: Wait, G: Gate, D: Disk, K: HeardBy<V>, V: Witness>(
 
 /// Sends the batch in hand and receives all that was sent, by turns of the flusher. Tells the first
 /// fault of all turns, of which one may be there already.
-fn drain<'d, 'b, R: Wait, D: Disk, P: Policy + Drop, K: HeardBy<V>, V: Witness>(
+fn drain<'d, 'b, R: Wait, D: Disk, P: Policy + Drop, K: Notifies<V>, V: Witness>(
     rt: &R,
     mut allocator: GatedAllocator<'d, 'b, P>,
     flusher: &mut Flusher<'_, '_, D, K>,
@@ -123,7 +123,7 @@ fn drain<'d, 'b, R: Wait, D: Disk, P: Policy + Drop, K: HeardBy<V>, V: Witness>(
     ensures flusher { (last : Option KeeperFault)
         × FlusherTurns D.state flusher.old first flusher.new last
         × (result.1 ≡ option_map (λ (fault : KeeperFault). RunFault.Keeper fault) last) }
-    ensures heard { FailureHeard V.hears
+    ensures notified { FailureNotified V.is_notified
         flusher.old.writer.is_broken flusher.new.writer.is_broken witness.old witness.new }
     // It takes nothing.
     ensures sends { IsSending allocator.entry.allocator result.0 }
@@ -169,12 +169,12 @@ where
     G: Gate + Sync,
     D: Disk + Drop,
     P: Policy + Drop + Send,
-    K: HeardBy<V> + Drop,
+    K: Notifies<V> + Drop,
     V: Witness + Drop,
     ensures same { result.1.1.0.ghost_name ≡ witness.entry.ghost_name }
     ensures ran { IsRun (P.chooses allocator.entry.policy) D.state allocator.entry result.1.0
         flusher.entry result.0 result.1.1.1 }
-    ensures heard { FailureHeard V.hears flusher.entry.writer.is_broken
+    ensures notified { FailureNotified V.is_notified flusher.entry.writer.is_broken
         result.0.writer.is_broken witness.entry.now result.1.1.0.now }
     ensures closed { result.1.1.1 ≢ Some (RunFault.Spawn tt) → G.closed gate.now }
 {
@@ -187,7 +187,7 @@ where
             ensures same { result.1.1.0.ghost_name ≡ witness.entry.ghost_name }
             ensures ran { IsRun (P.chooses allocator.entry.policy) D.state allocator.entry
                 result.1.0 flusher.entry result.0 result.1.1.1 }
-            ensures heard { FailureHeard V.hears flusher.entry.writer.is_broken
+            ensures notified { FailureNotified V.is_notified flusher.entry.writer.is_broken
                 result.0.writer.is_broken witness.entry.now result.1.1.0.now }
             ensures closed { result.1.1.1 ≢ Some (RunFault.Spawn tt) → G.closed gate.entry.now }
         {
@@ -256,7 +256,7 @@ where
     G: Gate + Sync,
     D: Disk + Drop,
     P: Policy + Drop + Send,
-    K: HeardBy<V> + Drop,
+    K: Notifies<V> + Drop,
     V: Witness + Drop,
     requires of_one { AreOfOne allocator.old flusher.old }
     ensures refused { result ≡ Some (RunFault.Spawn tt)
@@ -266,7 +266,7 @@ where
         flusher.new result }
     // The witness was notified that the device failed, once, where it did first in the run; else it
     // is as it was.
-    ensures heard { FailureHeard V.hears
+    ensures notified { FailureNotified V.is_notified
         flusher.old.writer.is_broken flusher.new.writer.is_broken witness.old witness.new }
     // It ends only once the gate has said not to go on, or where no thread could be made.
     ensures closed { result ≢ Some (RunFault.Spawn tt) → G.closed gate.now }
@@ -286,7 +286,7 @@ where
         → GoesOnTo flusher.old flusher.new base safe given }
 {
     flushes_are_steps::<D>();
-    turns_keep_parts::<D, P>();
+    turns_preserve_parts::<D, P>();
     let (witness, fault) = with_both(
         allocator,
         flusher,
@@ -298,7 +298,7 @@ where
             ensures same { result.1.1.0.ghost_name ≡ given.entry.1.ghost_name }
             ensures ran { IsRun (P.chooses given.entry.0.policy) D.state given.entry.0 result.1.0
                 flusher.entry result.0 result.1.1.1 }
-            ensures heard { FailureHeard V.hears flusher.entry.writer.is_broken
+            ensures notified { FailureNotified V.is_notified flusher.entry.writer.is_broken
                 result.0.writer.is_broken given.entry.1.now result.1.1.0.now }
             ensures closed { result.1.1.1 ≢ Some (RunFault.Spawn tt) → G.closed gate.entry.now }
         {

@@ -20,7 +20,7 @@ use crate::basis::Basis;
 use crate::batch::Batch;
 use crate::flusher::Flusher;
 use crate::line::new_line;
-use crate::witness::{HeardBy, Witness};
+use crate::witness::{Notifies, Witness};
 use arrayvec::ArrayVec;
 use lift_clerk::Clerk;
 use lift_disk::Disk;
@@ -38,7 +38,7 @@ pub struct Key {
 }
 
 /// Who turns such parts by hand notifies whom they like.
-impl<V: Witness> HeardBy<V> for Key {}
+impl<V: Witness> Notifies<V> for Key {}
 
 /// A clerk's work in two parts, with a line of four batches between them. A broken clerk may be
 /// split; its batch in doubt stays so. Where memory ran out the clerk comes back as it was.

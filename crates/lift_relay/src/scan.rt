@@ -14,7 +14,7 @@ use lift_clerk::{DeskScan, scan_desk};
 use lift_decider::Decider;
 use lift_desk::{Desk, TakeSeat};
 use lift_parts::NotedCommand;
-use lift_policy::{Command, Policy, decisions_keep};
+use lift_policy::{Command, Policy, decisions_preserve};
 
 /// What an allocator scans with: its seats, what it decides on, and the policy that names cars.
 #[derive(Drop)]
@@ -32,7 +32,7 @@ impl<'b, P: Policy + Drop> DeskScan<NotedCommand> for AheadParts<'b, P> {
     // (each turn looks at each terminal)
     #[inline(always)]
     fn visit(&mut self, desk: &Desk, terminal: Terminal) -> Option<NotedCommand> {
-        decisions_keep(&self.policy);
+        decisions_preserve(&self.policy);
         let ask = desk.take(&mut self.seat, terminal)?;
         let note = desk.note(&mut self.seat, terminal);
         let reply = self
@@ -70,7 +70,7 @@ impl<'b, P: Policy + Drop> AheadParts<'b, P> {
         ensures apart { AreApart (commands_in result.items) }
         ensures policy { self.new.policy ≡ self.old.policy }
     {
-        decisions_keep(&self.policy);
+        decisions_preserve(&self.policy);
         let _shown = self.decider.register();
         let mut taken = ArrayVec::new();
         scan_desk(desk, self, &mut taken);

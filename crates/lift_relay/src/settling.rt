@@ -9,11 +9,11 @@ ghost use Rattle.lift_keeper.specs.Prelude.{Commits, CommitCalls};
 ghost use Rattle.lift_clerk.specs.TakenAndAnswered.{AreApart};
 ghost use Rattle.lift_parts.specs.Batch.{commands_in};
 ghost use Rattle.lift_parts.specs.Flusher.{AllAnsweredBy, LooksGive, answers_in, looked_for};
-ghost use Rattle.lift_relay.specs.Heard.{FailureHeard};
+ghost use Rattle.lift_relay.specs.Notified.{FailureNotified};
 ghost use Rattle.lift_relay.specs.Settler.{AreDue, SettlesBatch};
 
 use crate::batch::Batch;
-use crate::witness::{HeardBy, Witness, tell_of};
+use crate::witness::{Notifies, Witness, tell_of};
 use arrayvec::ArrayVec;
 use lift_base::{MOST_ENTRIES, Terminal};
 use lift_clerk::{AnsweringSeat, Clerk, DueAnswer};
@@ -120,7 +120,7 @@ impl<'d, 'b, D: Disk, K> Settler<'d, 'b, D, K> {
         witness: &mut V,
     ) -> Result<FlushCounts, KeeperFault>
     where
-        K: HeardBy<V>,
+        K: Notifies<V>,
         requires at_desk { batch.desk ≡ self.old.desk }
         requires next { self.old.writer.is_broken ≡ false
             → (batch.building ≡ self.old.writer.plan)
@@ -129,7 +129,7 @@ impl<'d, 'b, D: Disk, K> Settler<'d, 'b, D, K> {
         ensures settles { SettlesBatch D.state self.old batch self.new result }
         ensures calls { CommitCalls
             D.state self.old.writer (length batch.entries) self.new.writer result }
-        ensures heard { FailureHeard V.hears
+        ensures notified { FailureNotified V.is_notified
             self.old.writer.is_broken self.new.writer.is_broken witness.old witness.new }
     {
         let was_broken = self.writer.is_broken();

@@ -12,11 +12,11 @@ ghost use Rattle.lift_parts.specs.Tie.{Flushes, FlushFails, FlushesBroken};
 ghost use Rattle.lift_parts.specs.Turns.{IsFlush};
 ghost use Rattle.lift_parts.specs.History.{group_after};
 ghost use Rattle.lift_parts.specs.Past.{FlushLeadsOn};
-ghost use Rattle.lift_relay.specs.Heard.{FailureHeard};
-ghost use Rattle.lift_relay.specs.Pair.{TurnsKeepParts};
+ghost use Rattle.lift_relay.specs.Notified.{FailureNotified};
+ghost use Rattle.lift_relay.specs.Pair.{TurnsPreserveParts};
 
 use crate::flusher::Flusher;
-use crate::witness::{HeardBy, Witness};
+use crate::witness::{Notifies, Witness};
 use lift_disk::Disk;
 use lift_journal::JournalFault;
 use lift_keeper::KeeperFault;
@@ -25,14 +25,14 @@ use lift_policy::Policy;
 use std::sync::Wait;
 
 /// One turn of the flusher, with what it gives for the machine's turns.
-pub fn turn_flusher_once<R: Wait, D: Disk, K: HeardBy<V>, V: Witness>(
+pub fn turn_flusher_once<R: Wait, D: Disk, K: Notifies<V>, V: Witness>(
     rt: &R,
     flusher: &mut Flusher<'_, '_, D, K>,
     witness: &mut V,
 ) -> Result<FlushCounts, KeeperFault>
     // The turn of which a run tells.
     ensures turns { IsFlush D.state flusher.old flusher.new result }
-    ensures heard { FailureHeard V.hears
+    ensures notified { FailureNotified V.is_notified
         flusher.old.writer.is_broken flusher.new.writer.is_broken witness.old witness.new }
     ensures flushes { IfOk result (λ counts. IsEmptyTurn flusher.old flusher.new (Ok counts)
         ⊎ ((batch : BatchState) × Flushes flusher.old flusher.new batch counts)) }
@@ -53,6 +53,6 @@ pub fn turn_flusher_once<R: Wait, D: Disk, K: HeardBy<V>, V: Witness>(
 
 /// Whatever turns both parts have had, each is where it was and works for what it did. So parts that
 /// come of one split still do: they can be joined, told or run.
-pub fn turns_keep_parts<D: Disk, P: Policy>()
-    ensures { (policy : P) → TurnsKeepParts D P D.state (P.chooses policy) }
+pub fn turns_preserve_parts<D: Disk, P: Policy>()
+    ensures { (policy : P) → TurnsPreserveParts D P D.state (P.chooses policy) }
 {}

@@ -1,6 +1,6 @@
 //! Who is notified that the device fails, when it does.
 
-ghost use Rattle.lift_relay.specs.Heard.{FailureHeard};
+ghost use Rattle.lift_relay.specs.Notified.{FailureNotified};
 
 /// Evidence that a device has just failed, as it hadn't since it was last opened. Only this file
 /// makes one, in which no call waits: so whoever waits with a witness has none to notify it by.
@@ -12,17 +12,17 @@ pub struct Failed {
 /// Is notified when a device fails, in the very call in which it does.
 pub trait Witness {
     // It was notified.
-    ghost hears: { Self → Self → Type 0 } = { λ _ _. Unit {0} };
+    ghost is_notified: { Self → Self → Type 0 } = { λ _ _. Unit {0} };
 
     /// A call of the device has just failed, as none had before since it was last opened. So a device
     /// that stays broken is reported once.
     fn has_failed(&mut self, failed: Failed)
-        ensures { hears self.old self.new };
+        ensures { is_notified self.old self.new };
 }
 
 /// Whom those notify who have a clerk or its parts for this key. Who is generic in both knows of no
 /// other: so whatever it waits for, no device fails there that this one isn't notified of.
-pub trait HeardBy<V: Witness> {}
+pub trait Notifies<V: Witness> {}
 
 // Takes no notice.
 impl Witness for () {
@@ -31,7 +31,7 @@ impl Witness for () {
 
 /// Notifies the witness where the writer is broken now, as it wasn't before.
 pub(crate) fn tell_of<V: Witness>(witness: &mut V, was_broken: bool, is_broken: bool)
-    ensures { FailureHeard V.hears was_broken is_broken witness.old witness.new }
+    ensures { FailureNotified V.is_notified was_broken is_broken witness.old witness.new }
 {
     if is_broken && !was_broken {
         witness.has_failed(Failed { made: () });

@@ -106,7 +106,7 @@ arms plan g calls old new None armed stands is = (
   ap (λ (c : ScriptClerk). c.keeper.writer.used) armed.rest ∙ stands.2,
   ap (λ (c : ScriptClerk). c.keeper.writer.is_in_second_half) armed.rest ∙ stands.3,
   record {
-    told = λ call past. subst (λ n. (device_of new).fails_at call ↔ n + calls < call) (sym armed.unchanged.calls) (armed.told call past);
+    armed = λ call past. subst (λ n. (device_of new).fails_at call ↔ n + calls < call) (sym armed.unchanged.calls) (armed.armed call past);
     short = armed.unchanged.short ∙ stands.4.short;
   },
 )

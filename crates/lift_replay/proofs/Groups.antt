@@ -12,7 +12,7 @@ use Rattle.lift_disk.specs.declared.outcome.Outcome.{Outcome}
 use Rattle.lift_disk.specs.declared.outcome.Outcome.TheVariants.{Keep, Lose, Fill}
 use Rattle.lift_journal.specs.Checkpoint.{sectors_for}
 use Rattle.lift_journal.specs.Layout.{body_size}
-use Rattle.lift_journal.specs.Told.{NoneFails, LastFails}
+use Rattle.lift_journal.specs.Armed.{NoneFails, LastFails}
 use Rattle.lift_register.specs.Base.{base_records}
 use Rattle.lift_desk.specs.Steps.{with_taking, with_told_answers, with_told_asks}
 use mathlib.Core.List.{IsPrefix}
@@ -31,7 +31,7 @@ use Rattle.lift_clerk.specs.declared.counts.Counts.{Counts}
 use Rattle.lift_clerk.specs.Turn.{IsTurn, IsFailedTurn, IsBrokenTurn, without_batch}
 use Rattle.lift_clerk.specs.lemmas.Visiting.{length-served}
 use Rattle.lift_clerk.specs.Visits.{Visit, LooksAndAnswers, commands_of as commands_at}
-use Rattle.lift_replay.specs.Group.{Asking, asking_at, ScriptGroup, FailedBatch, Found, half, waiting_from, waiting_commands, having_heard, heard_replies_text, state_by, replies_by, state_to_decide_on, state_decided, calls_for, after_turn, after_failure, fault_told, turned, turn_told, is_past, folded, with_room, with_batch, in_folding, in_append, room_for, found_after_cut}
+use Rattle.lift_replay.specs.Group.{Asking, asking_at, ScriptGroup, FailedBatch, Found, half, waiting_from, waiting_commands, having_heard, heard_replies_text, state_by, replies_by, state_to_decide_on, state_decided, calls_for, after_turn, after_failure, failed_turn_report, turned, turn_report, is_past, folded, with_room, with_batch, in_folding, in_append, room_for, found_after_cut}
 use Rattle.lift_replay.specs.Report.{turn_text, fault_text}
 use Rattle.lift_replay.specs.Terminals.{AllHear, AreTold, BothTold, seat_at, told_seat, waiting_count}
 use Rattle.lift_replay.specs.Told.{ScriptClerk, OutcomeTells, TurnTells, HasCommitted, HasFailedCommit, device_of}
@@ -223,22 +223,22 @@ passes_all (Some left) need old new inert fused calls none = elim (leb_tells nee
   | inr above ↦ absurd (
       let past = above.1 in
       let call : old.calls < old.calls + left + 1 = omega arith in
-      none.told inert (old.calls + left + 1) call (omega (arith, calls, past)) ((fused.told (old.calls + left + 1) call).1 (omega arith)))
+      none.armed inert (old.calls + left + 1) call (omega (arith, calls, past)) ((fused.armed (old.calls + left + 1) call).1 (omega arith)))
 ]
 
 -- the fuse after it
 pub fused_on : (passing : Option ℕ) (need : ℕ) (old new : DiskState) → passes passing need ≡ true → IsFused passing old → new.calls ≡ old.calls + need → NoneFails old new
     → ((call : ℕ) → new.calls < call → new.fails_at call ↔ old.fails_at call) → IsFused (option_map (λ left. left - need) passing) new
 fused_on None need old new ok fused calls none keeps = record {
-  told = λ call past. ((λ f. (fused.told call (omega (arith, past, calls))).0 ((keeps call past).0 f)), (λ f. absurd f));
+  armed = λ call past. ((λ f. (fused.armed call (omega (arith, past, calls))).0 ((keeps call past).0 f)), (λ f. absurd f));
   short = none.short ∙ fused.short;
 }
 fused_on (Some left) need old new ok fused calls none keeps =
     let fits = le_of need left ok in
     record {
-      told = λ call past. (
-        (λ f. let at : old.calls + left < call = (fused.told call (omega (arith, past, calls))).0 ((keeps call past).0 f) in omega (arith, at, calls, fits)),
-        (λ at. (keeps call past).1 ((fused.told call (omega (arith, past, calls))).1 (omega (arith, at, calls, fits)))),
+      armed = λ call past. (
+        (λ f. let at : old.calls + left < call = (fused.armed call (omega (arith, past, calls))).0 ((keeps call past).0 f) in omega (arith, at, calls, fits)),
+        (λ at. (keeps call past).1 ((fused.armed call (omega (arith, past, calls))).1 (omega (arith, at, calls, fits)))),
       );
       short = none.short ∙ fused.short;
     }
@@ -255,13 +255,13 @@ stops_at passing need old new inert fused long most last = last_call passing fus
   where
     last_call : (p : Option ℕ) → IsFused p old → old.fails_at new.calls × (new.is_short ≡ old.is_short) ⊎ ¬ old.fails_at new.calls × (new.is_short ≡ true) → FailsAtFuse p need old new
     last_call p f (inr short) = absurd (false≢true (sym long ∙ short.1))
-    last_call None f (inl fails) = absurd ((f.told new.calls last.some).0 fails.0)
+    last_call None f (inl fails) = absurd ((f.armed new.calls last.some).0 fails.0)
     last_call (Some left) f (inl fails) =
-        let past : old.calls + left < new.calls = (f.told new.calls last.some).0 fails.0 in
+        let past : old.calls + left < new.calls = (f.armed new.calls last.some).0 fails.0 in
         let call : old.calls < old.calls + left + 1 = omega arith in
         let here : new.calls ≡ old.calls + suc left = elim (leb_tells new.calls (old.calls + left + 1)) [
           | inl below ↦ (let le = below.1 in omega (arith, le, past))
-          | inr above ↦ absurd (last.before inert (old.calls + left + 1) call (let lt = above.1 in omega (arith, lt)) ((f.told (old.calls + left + 1) call).1 (omega arith)))
+          | inr above ↦ absurd (last.before inert (old.calls + left + 1) call (let lt = above.1 in omega (arith, lt)) ((f.armed (old.calls + left + 1) call).1 (omega arith)))
         ] in
         record { failed = beyond need left (omega (arith, past, most)); calls = here; most = omega (arith, here, most) }
 
@@ -282,11 +282,11 @@ module _ (computed : StepsAreDecisions IsEtdChoice etd_pick) (plan : Plan) (g : 
   same_keeper = ap (λ (c : ScriptClerk). c.keeper) outcome.rest
 
   abbrev Result : Option FailedBatch → Type 0
-  Result s = (text ≡ turn_told s plan g) × IsKeeperOf plan (turned s plan g) now.keeper × AreInStep (turned s plan g).terminals after new.seat
+  Result s = (text ≡ turn_report s plan g) × IsKeeperOf plan (turned s plan g) now.keeper × AreInStep (turned s plan g).terminals after new.seat
 
   -- by whether the commit is made
   abbrev By : Bool → List ℕ
-  By b = if b then turn_text (length (waiting_commands g)) (length (state_decided plan g).batch) ++ heard_replies_text (waiting_commands g) (replies_by plan (state_to_decide_on g) (waiting_commands g)) else fault_told g 1
+  By b = if b then turn_text (length (waiting_commands g)) (length (state_decided plan g).batch) ++ heard_replies_text (waiting_commands g) (replies_by plan (state_to_decide_on g) (waiting_commands g)) else failed_turn_report g 1
 
   abbrev Made : Bool → ScriptGroup
   Made b = if b then after_turn g (state_decided plan g) else after_failure g (state_decided plan g)
@@ -394,7 +394,7 @@ module _ (computed : StepsAreDecisions IsEtdChoice etd_pick) (plan : Plan) (g : 
   by_turn (inr (inl (turn, stop, head, none))) = commit_failed g.failed shows.keeper.stands turn stop head none
   by_turn (inr (inr (broken, turn, head, none))) = was_broken g.failed shows.keeper.stands broken turn head none refl
 
-  pub turn_shows : (text ≡ turn_told g.failed plan g) × Shows plan (turned g.failed plan g) new after
+  pub turn_shows : (text ≡ turn_report g.failed plan g) × Shows plan (turned g.failed plan g) new after
   turn_shows =
       let result = by_turn outcome.tells in (
         result.0,

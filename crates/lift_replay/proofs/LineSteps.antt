@@ -34,7 +34,7 @@ use Rattle.lift_replay.specs.Report.{told_text, bad_text, cut_text}
 use Rattle.lift_replay.specs.Query.{shown_text}
 use Rattle.lift_replay.specs.declared.query.Query.{Query}
 use Rattle.lift_replay.specs.Terminals.{no_seat, seat_at, told_seat, having_asked}
-use Rattle.lift_replay.specs.Told.{ScriptClerk, Asks, HasAsked, KeepsKeeper, ScriptRests, device_of}
+use Rattle.lift_replay.specs.Told.{ScriptClerk, Asks, HasAsked, KeeperStays, ScriptRests, device_of}
 use Rattle.lift_replay.specs.Shows.{WaitsFor, IsInStep, AreInStep, Stands, IsKeeperOf, Shows}
 use Rattle.lift_replay.proofs.InStep.{waits_not, waits_so}
 use Rattle.lift_policy.specs.declared.command.Command.{Command}
@@ -161,7 +161,7 @@ module _ (computed : StepsAreDecisions IsEtdChoice etd_pick) (plan : Plan) (g : 
   rests : ScriptRests old new seats after → Shows plan g new after
   rests is = subst (λ c. Shows plan g c after) (sym is.clerk) (subst (Shows plan g old) (sym is.terminals) shows)
 
-  asks_so : (c : Command) (told : List ℕ) → c.terminal < MOST_CARS + length plan.kiosks → Asks seats after old.seat new.seat c.terminal c.number c.body told → KeepsKeeper old new
+  asks_so : (c : Command) (told : List ℕ) → c.terminal < MOST_CARS + length plan.kiosks → Asks seats after old.seat new.seat c.terminal c.number c.body told → KeeperStays old new
       → (told ≡ ask_text (asking_at g.terminals c.terminal) c) × Shows plan (after_asking g c) new after
   asks_so c told below asks keeps =
       let result = asks_shows g.terminals seats after old.seat new.seat c.terminal c.number c.body shows.terminals (omega (arith, below, count, shows.terminals.seat_count)) told asks in

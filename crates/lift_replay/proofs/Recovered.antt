@@ -11,7 +11,7 @@ use Rattle.lift_desk.specs.Rule.{no_asks, no_answers}
 use Rattle.lift_desk.specs.Seats.{TerminalSeat, seats_from, clerk_of, view_at, placed_at}
 use Rattle.lift_decider.specs.Decider.{starting}
 use Rattle.lift_journal.specs.Layout.{Batch, Holds, IsChain, Picks, records_of, used, start_of}
-use Rattle.lift_journal.specs.Told.{LastFails}
+use Rattle.lift_journal.specs.Armed.{LastFails}
 use Rattle.lift_journal.specs.declared.fault.JournalFault.TheVariants.{Disk}
 use Rattle.lift_keeper.specs.declared.fault.KeeperFault.{KeeperFault}
 use Rattle.lift_keeper.specs.declared.fault.KeeperFault.TheVariants.{Journal}
@@ -39,7 +39,7 @@ use Rattle.lift_register.specs.Register.{RegisterState, cars, terminals}
 pub found_reads : (plan : Plan) (found : Found) (image : Image) → IsFound plan found image → IsImageOf plan found.register image
 found_reads plan found image is = is.found
 
--- a device in memory that was not told to fail does not
+-- a device in memory that was not armed to fail does not
 pub never_fails : (old new : DiskState) → old.is_inert → IsUnarmed old → new.is_short ≡ false → LastFails old new → ⊥
 never_fails old new inert unarmed long last = elim (last.last inert) [
   | inl fails ↦ unarmed new.calls last.some fails.0
@@ -52,7 +52,7 @@ pub never_refused : (plan : Plan) (old new : FusedDisk) (fault : KeeperFault) �
     → RefusedCalls (fuse_state_of old) (fuse_state_of new) fault → ⊥
 never_refused plan old new fault unarmed (register, reads) refuses calls =
     let of_disk : fault ≡ Journal Disk = refuses.good tt register (subst (IsImageOf plan register) (sym (calls.image tt tt)) reads) in
-    never_fails (fuse_state_of old) (fuse_state_of new) tt unarmed refl (subst (λ f. FailsBy f (fuse_state_of old) (fuse_state_of new)) of_disk calls.told)
+    never_fails (fuse_state_of old) (fuse_state_of new) tt unarmed refl (subst (λ f. FailsBy f (fuse_state_of old) (fuse_state_of new)) of_disk calls.armed)
 
 pub left_unchanged : (outcome : Outcome) (old new : DiskState) (left : Image) → IsUnchanged old new → IsLeftBy outcome new left → IsLeftBy outcome old left
 left_unchanged Keep old new left same is = is ∙ same.image
@@ -93,7 +93,7 @@ kept_of plan f disk keeper found opens calls image unarmed state of_plan whole =
         state ∙ ap starting (sym same),
         sym is.2,
         sym is.1,
-        record { told = λ call past. ((λ fails. unarmed call past fails), (λ fails. absurd fails)); short = refl },
+        record { armed = λ call past. ((λ fails. unarmed call past fails), (λ fails. absurd fails)); short = refl },
       );
     }
 

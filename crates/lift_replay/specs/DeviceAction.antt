@@ -32,7 +32,7 @@ AreReadAsAction words None = (action : DeviceAction) → AskToDo words action �
 
 -- The device of the clerk is armed to fail every call after this many, and nothing else changes.
 pub record IsArmed (calls : ℕ) (old new : ScriptClerk) : Type 0 where
-  pub told : IsArmedWith (AllAfter calls (fuse_state_of old.keeper.writer.device).calls)
+  pub armed : IsArmedWith (AllAfter calls (fuse_state_of old.keeper.writer.device).calls)
       (fuse_state_of new.keeper.writer.device)
   pub unchanged : IsUnchanged (fuse_state_of old.keeper.writer.device)
       (fuse_state_of new.keeper.writer.device)

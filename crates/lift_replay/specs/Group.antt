@@ -174,20 +174,20 @@ abbrev pub is_made : Plan → ScriptGroup → Bool
 is_made plan g = option_map_or (nat_le (calls_for g (state_decided plan g))) g.passing true
 
 -- a turn that failed with this fault: each command is answered Unknown
-abbrev pub fault_told : ScriptGroup → (fault : ℕ) → List ℕ
-fault_told g fault =
+abbrev pub failed_turn_report : ScriptGroup → (fault : ℕ) → List ℕ
+failed_turn_report g fault =
     fault_text (codes "turn") fault
     ++ heard_replies_text (waiting_commands g) (unknowns (waiting_commands g))
 
 -- a turn, and one while something has failed
-abbrev pub turn_told : Option FailedBatch → Plan → ScriptGroup → List ℕ
-turn_told None plan g =
+abbrev pub turn_report : Option FailedBatch → Plan → ScriptGroup → List ℕ
+turn_report None plan g =
     if is_made plan g
     then turn_text (length (waiting_commands g)) (length (state_decided plan g).batch)
     ++ heard_replies_text (waiting_commands g)
     (replies_by plan (state_to_decide_on g) (waiting_commands g))
-    else fault_told g 1
-turn_told (Some failed) plan g = fault_told g 5
+    else failed_turn_report g 1
+turn_report (Some failed) plan g = failed_turn_report g 5
 
 abbrev pub turned : Option FailedBatch → Plan → ScriptGroup → ScriptGroup
 turned None plan g =

@@ -14,18 +14,18 @@ use Rattle.lift_replay.specs.declared.lines.Verdict.TheVariants.{Bad}
 use Rattle.lift_replay.specs.Ask.{asked_command}
 use Rattle.lift_replay.specs.DeviceAction.{DoesToDevice, cut_by, action_text, after_action}
 use Rattle.lift_replay.specs.Grammar.{Spells, IsSkipped, IsKnown}
-use Rattle.lift_replay.specs.Group.{ScriptGroup, asking_at, ask_text, after_asking, turn_told}
+use Rattle.lift_replay.specs.Group.{ScriptGroup, asking_at, ask_text, after_asking, turn_report}
 use Rattle.lift_replay.specs.Group.{turned, state_to_decide_on}
 use Rattle.lift_replay.specs.Query.{shown_text}
 use Rattle.lift_replay.specs.Report.{bad_text}
 use Rattle.lift_replay.specs.Script.{IsBadLine}
-use Rattle.lift_replay.specs.Told.{ScriptClerk, Asks, KeepsKeeper, OutcomeTells, ScriptRests}
+use Rattle.lift_replay.specs.Told.{ScriptClerk, Asks, KeeperStays, OutcomeTells, ScriptRests}
 
 -- a terminal asks this command
 abbrev pub CommandTells : (old new : ScriptClerk) → (seats after : List TerminalSeat) → Command
     → List ℕ → Type 0
 CommandTells old new seats after c text =
-    Asks seats after old.seat new.seat c.terminal c.number c.body text × KeepsKeeper old new
+    Asks seats after old.seat new.seat c.terminal c.number c.body text × KeeperStays old new
 
 -- what a line reports in a building, to a clerk and terminals, and how it leaves them
 abbrev pub Tells : Plan → (old new : ScriptClerk) → (seats after : List TerminalSeat) → ScriptLine
@@ -81,7 +81,7 @@ LineTells plan old new seats after line number end text =
 abbrev pub line_text : Plan → ScriptGroup → ScriptLine → List ℕ
 line_text plan g (Ask ask) =
     ask_text (asking_at g.terminals (asked_command ask).terminal) (asked_command ask)
-line_text plan g Turn = turn_told g.failed plan g
+line_text plan g Turn = turn_report g.failed plan g
 line_text plan g (Show query) =
     shown_text (is_some g.failed) plan (view_of (state_to_decide_on g)) query
 line_text plan g (Device action) = action_text g action

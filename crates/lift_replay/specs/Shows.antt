@@ -52,7 +52,7 @@ IsFound plan found image = IsImageIn plan half found.is_in_second_half found.use
 
 -- of the calls to come just those after this many fail, and no growth was refused
 pub record IsFused (passing : Option ℕ) (disk : DiskState) : Type 0 where
-  pub told : IsArmedWith (IfArmed AllAfter passing disk.calls) disk
+  pub armed : IsArmedWith (IfArmed AllAfter passing disk.calls) disk
   pub short : disk.is_short ≡ false
 
 -- what each cut leaves

@@ -9,7 +9,7 @@ use Rattle.lift_policy.specs.declared.policies.Etd.{Etd}
 use Rattle.lift_desk.specs.Seats.{TerminalSeat, ClerkPlace, Waits, view_at, clerk_with}
 use Rattle.lift_desk.specs.Spelled.{IsAsk}
 use Rattle.lift_desk.specs.Steps.{with_told_asks}
-use Rattle.lift_journal.specs.Told.{NoneFails, LastFails}
+use Rattle.lift_journal.specs.Armed.{NoneFails, LastFails}
 use Rattle.lift_keeper.specs.Writer.{IsFailedCommit, commit_call_count, commit_used, commit_second}
 use Rattle.lift_clerk.specs.Clerk.{ClerkState}
 use Rattle.lift_clerk.specs.Turn.{IsTurn, IsFailedTurn, IsBrokenTurn}
@@ -49,8 +49,8 @@ Asks seats after places known terminal number body text =
     × HasAsked seats after places known terminal number body × (text ≡ [])))
 
 -- but for the clerk's seats nothing of it has changed
-abbrev pub KeepsKeeper : (old new : ScriptClerk) → Type 0
-KeepsKeeper old new = new ≡ record old { seat = new.seat }
+abbrev pub KeeperStays : (old new : ScriptClerk) → Type 0
+KeeperStays old new = new ≡ record old { seat = new.seat }
 
 -- what is said of the device of a clerk
 abbrev pub device_of : ScriptClerk → DiskState
@@ -99,7 +99,7 @@ TurnTells old new taken text =
     × (text ≡ fault_text (codes "turn") 5) × (taken ≡ None)))
 
 -- what a turn leaves as it was
-pub record KeepsPlace (old new : ScriptClerk) : Type 0 where
+pub record PlaceStays (old new : ScriptClerk) : Type 0 where
   pub plan : new.keeper.writer.plan ≡ old.keeper.writer.plan
   pub half : new.keeper.writer.half ≡ old.keeper.writer.half
   pub fuse : (call : ℕ) → (device_of new).calls < call → (device_of new).fails_at call
@@ -115,9 +115,9 @@ pub record OutcomeTells (old new : ScriptClerk) (seats after : List TerminalSeat
   pub head : List ℕ
   pub heard : List ℕ
   pub tells : TurnTells old turned taken head
-  pub place : KeepsPlace old turned
+  pub place : PlaceStays old turned
   pub knows : AreTold taken seats told turned.seat new.seat
-  pub rest : KeepsKeeper turned new
+  pub rest : KeeperStays turned new
   pub hear : AllHear told after heard
   pub shown : text ≡ head ++ heard
 

@@ -6,7 +6,7 @@ ghost use Rattle.lift_replay.specs.Grammar.{IsKnown};
 ghost use Rattle.lift_desk.specs.Seats.{IsClerkOf};
 ghost use Rattle.lift_replay.specs.DeviceAction.{DoesToDevice};
 ghost use Rattle.lift_replay.specs.Lines.{Tells, LineTells, end_of};
-ghost use Rattle.lift_replay.specs.Told.{Asks, KeepsKeeper, KeepsPlace, TurnTells, OutcomeTells};
+ghost use Rattle.lift_replay.specs.Told.{Asks, KeeperStays, PlaceStays, TurnTells, OutcomeTells};
 ghost use Rattle.lift_replay.specs.declared.line.ScriptLine.TheVariants.{Device};
 ghost use Rattle.lift_replay.specs.declared.device_action.DeviceAction.{DeviceAction};
 
@@ -46,12 +46,12 @@ fn push_ask(
     body: Body,
 ) -> Result<(), NoMemory>
     requires { terminal < length station.old.terminals.seats.items }
-    ensures asks { OnOk result ((told : List ℕ)
+    ensures asks { OnOk result ((added : List ℕ)
         × Asks station.old.terminals.seats.items station.new.terminals.seats.items
-        station.old.clerk.seat station.new.clerk.seat terminal number body told
-        × (string_bytes report.new ≡ string_bytes report.old ++ told)) }
+        station.old.clerk.seat station.new.clerk.seat terminal number body added
+        × (string_bytes report.new ≡ string_bytes report.old ++ added)) }
     ensures building { station.new.building ≡ station.old.building }
-    ensures clerk { KeepsKeeper station.old.clerk station.new.clerk }
+    ensures clerk { KeeperStays station.old.clerk station.new.clerk }
 {
     match station.terminals.ask(terminal, number, body) {
         Ok(()) => {
@@ -70,12 +70,12 @@ fn push_taken(
     report: &mut String,
     clerk: &mut Clerk<'_, '_, FuseDisk, Etd>,
 ) -> Result<Option<usize>, NoMemory>
-    ensures tells { IfOk result (λ taken. (told : List ℕ)
-        × TurnTells clerk.old clerk.new taken told
-        × (string_bytes report.new ≡ string_bytes report.old ++ told)) }
+    ensures tells { IfOk result (λ taken. (added : List ℕ)
+        × TurnTells clerk.old clerk.new taken added
+        × (string_bytes report.new ≡ string_bytes report.old ++ added)) }
     ensures desk { clerk.new.desk ≡ clerk.old.desk }
     ensures plan { clerk.new.keeper.writer.plan ≡ clerk.old.keeper.writer.plan }
-    ensures place { KeepsPlace clerk.old clerk.new }
+    ensures place { PlaceStays clerk.old clerk.new }
     ensures seated { IsClerkOf clerk.new.desk clerk.new.seat }
 {
     match clerk.turn() {
@@ -92,10 +92,10 @@ fn push_taken(
 
 /// One turn, and then what each terminal hears.
 fn push_turn_of(report: &mut String, station: &mut Station) -> Result<(), NoMemory>
-    ensures outcome { OnOk result ((told : List ℕ)
+    ensures outcome { OnOk result ((added : List ℕ)
         × OutcomeTells station.old.clerk station.new.clerk station.old.terminals.seats.items
-        station.new.terminals.seats.items told
-        × (string_bytes report.new ≡ string_bytes report.old ++ told)) }
+        station.new.terminals.seats.items added
+        × (string_bytes report.new ≡ string_bytes report.old ++ added)) }
     ensures building { station.new.building ≡ station.old.building }
 {
     let taken = push_taken(report, &mut station.clerk)?;
@@ -113,10 +113,10 @@ fn carry_out(
     line: &ScriptLine,
 ) -> Result<Option<End>, NoMemory>
     requires known { IsKnown station.old.building.now line.now }
-    ensures tells { OnOk result ((told : List ℕ)
+    ensures tells { OnOk result ((added : List ℕ)
         × Tells station.old.building.now station.old.clerk station.new.clerk
-        station.old.terminals.seats.items station.new.terminals.seats.items line.now told
-        × (string_bytes report.new ≡ string_bytes report.old ++ told)) }
+        station.old.terminals.seats.items station.new.terminals.seats.items line.now added
+        × (string_bytes report.new ≡ string_bytes report.old ++ added)) }
     ensures end { IfOk result (λ end. end ≡ end_of line.now) }
     ensures device { (action : DeviceAction) → line.now ≡ Device action
         → OnOk result (DoesToDevice action station.old.clerk station.new.clerk
@@ -158,11 +158,11 @@ pub fn push_line(
     text: &str,
     number: usize,
 ) -> Result<Option<End>, NoMemory>
-    ensures tells { IfOk result (λ end. (told : List ℕ)
+    ensures tells { IfOk result (λ end. (added : List ℕ)
         × LineTells station.old.building.now station.old.clerk station.new.clerk
         station.old.terminals.seats.items station.new.terminals.seats.items text.now number end
-        told
-        × (string_bytes report.new ≡ string_bytes report.old ++ told)) }
+        added
+        × (string_bytes report.new ≡ string_bytes report.old ++ added)) }
     ensures building { station.new.building ≡ station.old.building }
 {
     if text.is_empty() || text.starts_with('#') {

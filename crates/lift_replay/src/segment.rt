@@ -45,11 +45,11 @@ fn add_line(
     line: &str,
     number: usize,
 ) -> Result<Option<End>, NoMemory>
-    ensures tells { IfOk result (λ end. (told : List ℕ)
+    ensures tells { IfOk result (λ end. (added : List ℕ)
         × LineTells station.old.building.now station.old.clerk station.new.clerk
         station.old.terminals.seats.items station.new.terminals.seats.items line.now number end
-        told
-        × (string_bytes piece.new ≡ string_bytes piece.old ++ told)) }
+        added
+        × (string_bytes piece.new ≡ string_bytes piece.old ++ added)) }
     ensures building { station.new.building ≡ station.old.building }
     ensures emptied { OnErr result (string_bytes piece.new ≡ []) }
 {

@@ -16,14 +16,14 @@ use Rattle.lift_relay.specs.declared.pair.RunFault.{RunFault}
 use Rattle.lift_relay.specs.declared.pair.RunFault.TheVariants.{Keeper, Spawn}
 use Rattle.lift_parts.specs.Allocator.{AllocatorState}
 use Rattle.lift_relay.specs.Pair.{HaveRun}
-use Rattle.lift_relay.specs.lemmas.Heard.{turns_stay}
+use Rattle.lift_relay.specs.lemmas.Notified.{turns_stay}
 use Rattle.lift_parts.specs.declared.counts.FlushCounts.{FlushCounts}
 use Rattle.lift_parts.specs.Flusher.{FlusherState}
 use Rattle.lift_parts.specs.Keeping.{HaveKept, TurnsKeep}
 use Rattle.lift_parts.specs.History.{group_after}
 use Rattle.lift_parts.specs.Turns.{FlusherTurns, IsFlush, NoFlush, OneFlush, first_of}
 use Rattle.lift_serve.specs.declared.serving.ServeFault.{ServeFault}
-use Rattle.lift_serve.specs.Open.{EndedState, IsEndAt, IsReportOf, ServingEndState, ended_in, told_after}
+use Rattle.lift_serve.specs.Open.{EndedState, IsEndAt, IsReportOf, ServingEndState, ended_in, reported_after}
 use Rattle.lift_serve.specs.Relaying.{HaveRunOrNot, HaveServed, ServingKeeps, has_failed}
 
 module _ {D : Type 0} (state : D → DiskState) where
@@ -83,7 +83,7 @@ leaves_safe state keeper shown is whole broken honest left may = grind (arith, c
 
 -- that connections have ended is told where so many have, and where nothing is told as the fault
 pub report_of : (over : Result EndedState (Unit {0})) (first : Option ServeFault) (bound began : EndedState) (end : ServingEndState) → began ≡ bound → IsEndAt began over
-    → end.fault ≡ told_after over first → end.ended ≡ ended_in over → IsReportOf bound end
+    → end.fault ≡ reported_after over first → end.ended ≡ ended_in over → IsReportOf bound end
 report_of over first bound began end same at_end says is = record {
   ended = grind (arith, common_steps);
   counted = λ none. grind (arith, common_steps);
@@ -91,7 +91,7 @@ report_of over first bound began end same at_end says is = record {
 
 pub have_served : {D P : Type 0} (chooses : P → Choice) (state : D → DiskState) (a begun b : AllocatorState P) (f began g : FlusherState D) (fault : Option RunFault)
     (over : Result EndedState (Unit {0})) (first told : Option ServeFault) → begun ≡ a → began ≡ f → HaveRunOrNot (chooses begun.policy) state begun b began g fault
-    → (fault ≡ Some (Spawn tt) → IsErr over) → told ≡ told_after over first → HaveServed chooses state a b f g told
+    → (fault ≡ Some (Spawn tt) → IsErr over) → told ≡ reported_after over first → HaveServed chooses state a b f g told
 have_served {D} {P} chooses state a begun b f began g fault over first told same so run given_up says =
     subst (λ (p : AllocatorState P × FlusherState D). HaveServed chooses state p.0 b p.1 g told) (λ i. (same i, so i)) (record {
       fault = fault;

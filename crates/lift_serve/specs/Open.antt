@@ -47,15 +47,15 @@ ended_in (Ok ended) = Some ended
 ended_in (Err given_up) = None
 
 -- the first of two, if there is one
-abbrev pub first_told : {T : Type 0} → (before behind : Option T) → Option T
-first_told None behind = behind
-first_told (Some shortage) behind = Some shortage
+abbrev pub earlier_of : {T : Type 0} → (before behind : Option T) → Option T
+earlier_of None behind = behind
+earlier_of (Some shortage) behind = Some shortage
 
 -- what is reported of a serving whose accepting was over so: that no thread could be had for the
 -- serving itself, and else the first shortage
-abbrev pub told_after : Result EndedState (Unit {0}) → (first : Option ServeFault) → Option ServeFault
-told_after (Ok ended) first = first
-told_after (Err given_up) first = Some Thread
+abbrev pub reported_after : Result EndedState (Unit {0}) → (first : Option ServeFault) → Option ServeFault
+reported_after (Ok ended) first = first
+reported_after (Err given_up) first = Some Thread
 
 -- That connections have ended is reported only where as many have at this socket as were to; and where
 -- that isn't reported a fault is.

@@ -36,10 +36,10 @@ has_failed _ = false
 -- and that is reported, whatever else there was. The flusher is broken exactly where it was before, or a
 -- turn of it failed.
 pub record HaveServed {D P : Type 0} (chooses : P → Choice) (state : D → DiskState)
-    (a b : AllocatorState P) (f g : FlusherState D) (told : Option ServeFault) : Type 0 where
+    (a b : AllocatorState P) (f g : FlusherState D) (reported : Option ServeFault) : Type 0 where
   pub fault : Option RunFault
   pub ran : HaveRunOrNot (chooses a.policy) state a b f g fault
-  pub tells : fault ≡ Some (Spawn tt) → told ≡ Some Thread
+  pub tells : fault ≡ Some (Spawn tt) → reported ≡ Some Thread
   pub broken : g.writer.is_broken ≡ (has_failed fault || f.writer.is_broken)
 
 -- Whatever was safe and answered before is kept, and what was answered meanwhile: at each moment of each

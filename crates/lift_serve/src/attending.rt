@@ -2,7 +2,7 @@
 
 ghost use Rattle.std.specs.Prelude.{◌≡◌, ℕ, List, IfOk, IfErr, length};
 ghost use Rattle.lift_base.specs.Output.{sink_of};
-ghost use Rattle.lift_kiosk.specs.Lines.{GivesLine, Keeps65, Source, source_of};
+ghost use Rattle.lift_kiosk.specs.Lines.{GivesLine, Buffers65, Source, source_of};
 ghost use Rattle.lift_serve.specs.Connections.{Attends, CallsUpTo, EndsWithoutLine, IsSaid};
 ghost use Rattle.lift_serve.specs.Connections.{Names, first_reads};
 
@@ -66,7 +66,7 @@ impl<'d> Attendance<'d> {
 /// The first line.
 fn read_first<I: Read + Drop>(reader: &mut Counted<I>) -> Result<Line, NoLine>
     ensures line { IfOk result (λ found.
-        (line : List ℕ) × Keeps65 line found.bytes.items found.is_longer
+        (line : List ℕ) × Buffers65 line found.bytes.items found.is_longer
         × GivesLine line (source_of I.remaining reader.old) (source_of I.remaining reader.new)) }
     ensures few { CallsUpTo first_reads (source_of I.remaining reader.old)
         (source_of I.remaining reader.new) }

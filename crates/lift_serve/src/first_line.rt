@@ -2,7 +2,7 @@
 
 ghost use Rattle.std.specs.Prelude.{◌≡◌, ◌∷◌, ◌≤◌, ℕ, List, map, codes, length, IfSome, IfNone};
 ghost use Rattle.std.specs.Str.Lines.{strip_carriage_return};
-ghost use Rattle.lift_kiosk.specs.Lines.{Keeps65};
+ghost use Rattle.lift_kiosk.specs.Lines.{Buffers65};
 ghost use Rattle.lift_serve.specs.FirstLine.{AreTerminalWords, IsCarWord, IsKioskWord, SpeaksFor};
 
 use lift_base::text::{letter_of_word, number_up_to};
@@ -64,10 +64,10 @@ fn named_by(words: &[&str], cars: u8, kiosks: u8) -> Option<Terminal>
 /// The terminal of a building that a first line names; none where it is malformed, or where the building
 /// lacks it.
 pub fn terminal_of(line: &Line, building: &Building) -> Option<Terminal>
-    ensures some { (bytes : List ℕ) → Keeps65 bytes line.now.bytes.items line.now.is_longer
+    ensures some { (bytes : List ℕ) → Buffers65 bytes line.now.bytes.items line.now.is_longer
         → IfSome result (λ terminal. SpeaksFor (length building.now.cars)
         (length building.now.kiosks) (strip_carriage_return bytes) terminal) }
-    ensures none { (bytes : List ℕ) → Keeps65 bytes line.now.bytes.items line.now.is_longer
+    ensures none { (bytes : List ℕ) → Buffers65 bytes line.now.bytes.items line.now.is_longer
         → IfNone result ((terminal : ℕ) → SpeaksFor (length building.now.cars)
         (length building.now.kiosks) (strip_carriage_return bytes) terminal → ⊥) }
 {

@@ -21,7 +21,7 @@ pub use attending::{Attendance, Outcome, attend};
 pub use first_line::terminal_of;
 pub use keeping::journals_keep;
 pub use lift_memory::Memory;
-pub use lift_relay::{Failed, Flusher, HeardBy, Witness};
+pub use lift_relay::{Failed, Flusher, Notifies, Witness};
 pub use pace::{Pace, PagedAsk, Pager, RingCount};
 pub use prepared::connections::{ServingEnd, Ticket};
 pub use prepared::seating::{HeldSeat, Lobby, NoSeat, SeatReturn};

@@ -2,7 +2,7 @@
 
 ghost use Rattle.std.specs.Prelude.{Some};
 ghost use Rattle.lift_parts.specs.Parts.{AreOfOne};
-ghost use Rattle.lift_relay.specs.Heard.{FailureHeard};
+ghost use Rattle.lift_relay.specs.Notified.{FailureNotified};
 ghost use Rattle.lift_relay.specs.declared.pair.RunFault.{RunFault as Fault};
 ghost use Rattle.lift_serve.specs.Relaying.{HaveRunOrNot};
 
@@ -22,13 +22,13 @@ pub struct Parts<'d, 'b, D: Disk + Drop, P: Policy + Drop, K: Drop, V: Witness +
 }
 
 /// Both parts, which have not run.
-#[tactic(auto, using(crate::proofs::Relayings::not_run, lift_relay::specs::lemmas::Heard::heard_none))]
+#[tactic(auto, using(crate::proofs::Relayings::not_run, lift_relay::specs::lemmas::Notified::notified_none))]
 pub(crate) fn unrun<'d, 'b, D: Disk + Drop, P: Policy + Drop, K: Drop, V: Witness + Drop>(
     parts: Parts<'d, 'b, D, P, K, V>,
 ) -> Parts<'d, 'b, D, P, K, V>
     ensures unrun { HaveRunOrNot (P.chooses parts.entry.allocator.policy) D.state parts.entry.allocator
         result.allocator parts.entry.flusher result.flusher (Some (Fault.Spawn tt)) }
-    ensures heard { FailureHeard V.hears parts.entry.flusher.writer.is_broken
+    ensures notified { FailureNotified V.is_notified parts.entry.flusher.writer.is_broken
         result.flusher.writer.is_broken parts.entry.witness result.witness }
 {
     parts

@@ -3,7 +3,7 @@
 ghost use Rattle.std.specs.Prelude.{◌≡◌, Option, Some, IsErr};
 ghost use Rattle.std.specs.Thread.{IsSend, IsSync};
 ghost use Rattle.lift_policy.specs.Present.{IsDispatched, any_cars};
-ghost use Rattle.lift_relay.specs.Heard.{FailureHeard};
+ghost use Rattle.lift_relay.specs.Notified.{FailureNotified};
 ghost use Rattle.lift_relay.specs.declared.pair.RunFault.{RunFault as Fault};
 ghost use Rattle.lift_serve.specs.Open.{IsEndAt, IsReportOf};
 ghost use Rattle.lift_serve.specs.Relaying.{HaveRunOrNot, HaveServed, ServingKeeps};
@@ -19,7 +19,7 @@ use crate::socket::{Arrival, Connection};
 use lift_disk::Disk;
 use lift_parts::turns_keep_what_was_given;
 use lift_policy::Policy;
-use lift_relay::{Allocator, Flusher, HeardBy, Witness, run};
+use lift_relay::{Allocator, Flusher, Notifies, Witness, run};
 use std::alloc::Global;
 use std::sync::Wait;
 use std::thread;
@@ -138,7 +138,7 @@ where
     R: Threads + Wait + Clock + Sync,
     D: Disk + Drop,
     P: Policy + Drop + Send,
-    K: HeardBy<V> + Drop,
+    K: Notifies<V> + Drop,
     V: Witness + Drop,
     // Those are let in that speak for a terminal of the building that is served.
     requires own { hall.now.building.now ≡ parts.flusher.writer.plan }
@@ -146,7 +146,7 @@ where
     ensures ran { (fault : Option Fault) × HaveRunOrNot (P.chooses parts.entry.allocator.policy)
         D.state parts.entry.allocator result.0.allocator parts.entry.flusher result.0.flusher fault
         × (fault ≡ Some (Fault.Spawn tt) → IsErr result.1) }
-    ensures heard { FailureHeard V.hears parts.entry.flusher.writer.is_broken
+    ensures notified { FailureNotified V.is_notified parts.entry.flusher.writer.is_broken
         result.0.flusher.writer.is_broken parts.entry.witness result.0.witness }
     ensures over { IsEndAt hall.now.bound result.1 }
 {
@@ -159,7 +159,7 @@ where
                 × HaveRunOrNot (P.chooses parts.entry.allocator.policy) D.state parts.entry.allocator
                 result.0.allocator parts.entry.flusher result.0.flusher fault
                 × (fault ≡ Some (Fault.Spawn tt) → IsErr result.1) }
-            ensures heard { FailureHeard V.hears parts.entry.flusher.writer.is_broken
+            ensures notified { FailureNotified V.is_notified parts.entry.flusher.writer.is_broken
                 result.0.flusher.writer.is_broken parts.entry.witness result.0.witness }
             ensures over { IsEndAt hall.entry.now.bound result.1 }
         {
@@ -216,7 +216,7 @@ where
     R: Threads + Wait + Clock + Sync,
     D: Disk + Drop,
     P: Policy + Drop + Send,
-    K: HeardBy<V> + Drop,
+    K: Notifies<V> + Drop,
     V: Witness + Drop,
     // For the owner: what was safe and answered before is kept at each moment of each turn, and what the
     // turns gave from then on.
@@ -227,7 +227,7 @@ where
         result.0.allocator group.entry.flusher result.0.flusher result.1.fault }
     // The witness was notified that the device failed, once, where the flusher is broken that wasn't; else
     // it is as it was.
-    ensures heard { FailureHeard V.hears group.entry.flusher.writer.is_broken
+    ensures notified { FailureNotified V.is_notified group.entry.flusher.writer.is_broken
         result.0.flusher.writer.is_broken witness result.0.witness }
     // That connections have ended is reported only where as many have at this socket as were to;
     // and where that isn't reported a fault is.

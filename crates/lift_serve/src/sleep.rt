@@ -49,7 +49,7 @@ impl<'r, R: Wait + Clock> Sleep<'r, R> {
 }
 
 impl<'r, R: Wait + Clock> Rest for Sleep<'r, R> {
-    ghost was_told = { λ s asks. s.rung ≡ asks };
+    ghost was_notified = { λ s asks. s.rung ≡ asks };
 
     fn asked(&mut self, _seat: Snapshot<Seat>) {
         let paged = self.pager.asked();

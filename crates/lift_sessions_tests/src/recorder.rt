@@ -40,7 +40,7 @@ impl<'a> Recorder<'a> {
 impl Car for Recorder<'_> {
     ghost use Rattle.lift_car.specs.Model.{position_of_car, IsSentTo};
 
-    ghost told = { λ r. position_of_car r.car };
+    ghost stands = { λ r. position_of_car r.car };
 
     ghost goes = { λ before stop after. IsSentTo before.car stop after.car };
 

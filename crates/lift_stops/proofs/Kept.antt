@@ -16,7 +16,7 @@ use Rattle.lift_base.specs.declared.travel.Halt.{Halt}
 use Rattle.lift_base.specs.declared.history.Row.{Row}
 use Rattle.lift_stops.specs.Insertion.{floor_rank, rank_of}
 use Rattle.lift_stops.specs.StopList.{HasFloors, first_leg, is_ahead, pass_of, same_pass, is_halt_of, is_needed, all_halts, stop_list}
-use Rattle.lift_stops.specs.Schedule.{KeepsPasses}
+use Rattle.lift_stops.specs.Schedule.{PassesStay}
 use Rattle.lift_stops.specs.Leaving.{AreLeaving, leaving_at, leaving_of}
 use Rattle.lift_stops.specs.lemmas.Insertion.{Rises, Rises-filter, IsIn, rank_of_member, filter-agree}
 use Rattle.lift_stops.specs.lemmas.Halts.{halt_at, all_halts-all, all_halts-rise}
@@ -116,7 +116,7 @@ kept_at dir false ahead other on behind = refl
 
 pub keeps : (rows : List Row) (position next : Position) (halts : List Halt) → next.dir ≡ position.dir → is_ahead position.dir next.floor position.floor ≡ true
     → halts ≡ stop_list rows position → All HasFloors rows
-    → ((h : Halt) → slice_get halts 0 ≡ Some h → h.pass ≡ First → is_ahead position.dir h.floor next.floor ≡ true) → KeepsPasses rows position next
+    → ((h : Halt) → slice_get halts 0 ≡ Some h → h.pass ≡ First → is_ahead position.dir h.floor next.floor ≡ true) → PassesStay rows position next
 keeps rows position next halts dir-is on listed floors first = record {
   dir = dir-is;
   passes = λ k blank within.
@@ -142,7 +142,7 @@ same_needs (row ∷ rows) position next halt passes =
     let later = same_needs rows position next halt (λ k blank within. passes (suc k) blank (omega (arith, within))) in
     rw (here, later) refl
 
-pub same_stops : (rows : List Row) (position next : Position) → KeepsPasses rows position next → stop_list rows next ≡ stop_list rows position
+pub same_stops : (rows : List Row) (position next : Position) → PassesStay rows position next → stop_list rows next ≡ stop_list rows position
 unfolding stop_list
 same_stops rows position next keeps =
     filter-agree (is_needed rows next) (is_needed rows position) (all_halts next.dir) (λ halt member. same_needs rows position next halt keeps.passes)
@@ -156,7 +156,7 @@ same_leaving (row ∷ rows) position next halt passes =
     let own : leaving_of next halt row ≡ leaving_of position halt row = rw here refl in
     omega (arith, own, later, sum_by-cons (leaving_of next halt) row rows, sum_by-cons (leaving_of position halt) row rows)
 
-pub same_table : (rows : List Row) (position next : Position) (table : List ℕ) → KeepsPasses rows position next → AreLeaving rows position table → AreLeaving rows next table
+pub same_table : (rows : List Row) (position next : Position) (table : List ℕ) → PassesStay rows position next → AreLeaving rows position table → AreLeaving rows next table
 same_table rows position next table keeps leaving = record {
   size = leaving.size;
   at_each = λ halt low. leaving.at_each halt low ∙ sym (same_leaving rows position next halt keeps.passes);

@@ -18,7 +18,7 @@ abbrev pub position_after : Stop → Position
 position_after stop = record { floor = stop.floor; dir = stop.dir }
 
 -- At another position a car makes each call in the pass in which it made it before.
-pub record KeepsPasses (rows : List Row) (position next : Position) : Type 0 where
+pub record PassesStay (rows : List Row) (position next : Position) : Type 0 where
   pub dir : next.dir ≡ position.dir
   pub passes : All (λ row. pass_of next row ≡ pass_of position row) rows
 

@@ -7,7 +7,7 @@ ghost use Rattle.lift_base.specs.declared.history.Row.{Row as RowValue};
 ghost use Rattle.lift_base.specs.History.{row_after};
 ghost use Rattle.lift_stops.specs.Parts.{AllDiffer};
 ghost use Rattle.lift_stops.specs.StopList.{HasFloors, StopsInOrder, stop_list, next_stop};
-ghost use Rattle.lift_stops.specs.Schedule.{KeepsPasses, position_after};
+ghost use Rattle.lift_stops.specs.Schedule.{PassesStay, position_after};
 ghost use Rattle.lift_stops.specs.Leaving.{AreLeaving};
 
 use crate::leaving::Leaving;
@@ -39,9 +39,9 @@ fn position_at(stop: &Stop) -> Position
 /// Whether a car that goes from one position to another makes each of its calls in the pass in which
 /// it made it before, because it goes on in its direction and leaves no halt of its first pass
 /// behind. No is promised nothing.
-fn keeps_passes(halts: &[Halt], position: &Position, next: &Position) -> bool
+fn passes_stay(halts: &[Halt], position: &Position, next: &Position) -> bool
     ensures { (rows : List RowValue) → halts.now ≡ stop_list rows position.now
-        → All HasFloors rows → IsTrue result → KeepsPasses rows position.now next.now }
+        → All HasFloors rows → IsTrue result → PassesStay rows position.now next.now }
 {
     let dir = position.dir;
     if next.dir != dir || !is_ahead(dir, next.floor, position.floor) {
@@ -148,7 +148,7 @@ impl Schedule {
     fn stand_at(&mut self, position: Position)
         ensures { self.new ≡ record self.old { position = position } }
     {
-        if self.is_listed && !keeps_passes(&self.halts, &self.position, &position) {
+        if self.is_listed && !passes_stay(&self.halts, &self.position, &position) {
             self.is_listed = false;
         }
         self.position = position;

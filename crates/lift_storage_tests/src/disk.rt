@@ -1,4 +1,4 @@
-//! Tests of `lift_disk`: a device that fails once; and calls of a file, which are told.
+//! Tests of `lift_disk`: a device that fails once; and calls of a file, which are listed.
 
 mod calls;
 mod flaky;

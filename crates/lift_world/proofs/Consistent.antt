@@ -21,7 +21,7 @@ use Rattle.lift_world.specs.declared.event.Phase.{Phase}
 use Rattle.lift_world.specs.declared.event.Phase.TheVariants.{Writing, Synced, GateWritten}
 use Rattle.lift_policy.specs.Decision.{Decision}
 use Rattle.lift_world.specs.Decided.{when, decided}
-use Rattle.lift_world.specs.World.{World, SealedBatch, no_batch, start, outcome, batch_in_flight, state_of, acknowledged, told_in, is_running, is_broken, is_off, asks, is_taken_of, may_keep, written, is_idle, is_synced, is_gate_written}
+use Rattle.lift_world.specs.World.{World, SealedBatch, no_batch, start, outcome, batch_in_flight, state_of, acknowledged, acknowledged_in, is_running, is_broken, is_off, asks, is_taken_of, may_keep, written, is_idle, is_synced, is_gate_written}
 use Rattle.lift_world.specs.Next.{run, next, unknown_to, deciding, taking, asking, sealing, pulled, in_phase, settling, failing, answering, hearing, cutting, reopened, may_ask, may_take, may_seal, may_pull, may_write, may_sync, may_fail, may_reopen, next_answer}
 use Rattle.lift_world.specs.Headline.{RecoversAcknowledged, IsHeld, IsOfBuilding}
 use Rattle.lift_world.specs.Replays.{FitAfter}
@@ -29,11 +29,11 @@ use Rattle.lift_world.specs.Lawful.{AcceptsFitting}
 use Rattle.lift_world.specs.lemmas.Phases.{not_idle, not_idle_synced, writing_busy}
 use Rattle.lift_world.specs.lemmas.Moves.{hold_when, hold_if, hold_then, hold_map}
 use Rattle.lift_world.specs.lemmas.Entries.{find_held, held_more, over_nothing}
-use Rattle.lift_world.specs.lemmas.Decisions.{IsAllotted, DecidesWell, decides_well, fits_allotted, held_allotted, told-unknown}
+use Rattle.lift_world.specs.lemmas.Decisions.{IsAllotted, DecidesWell, decides_well, fits_allotted, held_allotted, acknowledged-unknown}
 
 -- what a reply tells of is held
 abbrev pub Tells : Plan → RegisterState → List Entry → Taken → Type 0
-Tells building base entries c = All (IsHeld base entries) (told_in building c)
+Tells building base entries c = All (IsHeld base entries) (acknowledged_in building c)
 
 -- a sealed batch tells of entries accepted up to its end
 abbrev pub IsSealed : Plan → RegisterState → List Entry → SealedBatch → Type 0
@@ -65,7 +65,7 @@ all_held_more : (base : RegisterState) (xs ys : List Entry) → ((e : Entry) →
 all_held_more base xs ys more es h = All-weaker (IsHeld base xs) (IsHeld base ys) (held_more base xs ys more) es h
 
 tells_more : (building : Plan) (base : RegisterState) (xs ys : List Entry) → ((e : Entry) → Contains xs e → Contains ys e) → (c : Taken) → Tells building base xs c → Tells building base ys c
-tells_more building base xs ys more c h = all_held_more base xs ys more (told_in building c) h
+tells_more building base xs ys more c h = all_held_more base xs ys more (acknowledged_in building c) h
 
 all_tell_more : (building : Plan) (base : RegisterState) (xs ys : List Entry) → ((e : Entry) → Contains xs e → Contains ys e) → (cs : List Taken) → All (Tells building base xs) cs → All (Tells building base ys) cs
 all_tell_more building base xs ys more cs h = All-weaker (Tells building base xs) (Tells building base ys) (tells_more building base xs ys more) cs h
@@ -74,7 +74,7 @@ unknown_tells : (building : Plan) (base : RegisterState) (xs : List Entry) (cs :
 unknown_tells building base xs cs = All-map (Tells building base xs) unknown_to cs (all_unknown cs)
   where
     all_unknown : (cs : List Taken) → All (λ (c : Taken). Tells building base xs (unknown_to c)) cs
-    all_unknown cs = λ k d lt. subst (λ (es : List Entry). All (IsHeld base xs) es) (sym (told-unknown building _ _ _)) (All-nil (IsHeld base xs))
+    all_unknown cs = λ k d lt. subst (λ (es : List Entry). All (IsHeld base xs) es) (sym (acknowledged-unknown building _ _ _)) (All-nil (IsHeld base xs))
 
 -- entries that fit one after another
 pub fit_more : (building : Plan) (base : RegisterState) (before xs ys : List Entry) → FitAfter building base before xs → FitAfter building base (before ++ xs) ys → FitAfter building base before (xs ++ ys)
@@ -128,7 +128,7 @@ decided_keeps w command d k well =
       queue_sealed = All-weaker (IsSealed w.building w.base w.accepted) (IsSealed w.building w.base (w.accepted ++ well.added)) (sealed_still w.building w.base w.accepted well.added) w.queue k.queue_sealed;
       taken_told = All-push (Tells w.building w.base (w.accepted ++ well.added)) w.taken _
           (all_tell_more w.building w.base w.accepted (w.accepted ++ well.added) (λ e h. Contains-append_left w.accepted well.added e h) w.taken k.taken_told)
-          (well.told (held_allotted w.building w.base w.accepted k.sound k.of_building (fit_allotted w.building w.base [] w.accepted k.sound k.fit)));
+          (well.acknowledged (held_allotted w.building w.base w.accepted k.sound k.of_building (fit_allotted w.building w.base [] w.accepted k.sound k.fit)));
     })
 
 sealing_keeps : (w : World) → IsConsistent w → IsConsistent (sealing w)
@@ -267,9 +267,9 @@ answering_keeps w terminal c k at = record {
   flight_ahead = k.flight_ahead;
   queue_sealed = k.queue_sealed;
   taken_told = k.taken_told;
-  shown_safe = subst (λ (xs : List Entry). All (IsHeld w.base (take w.safe w.accepted)) xs) (sym (flat_map-append (told_in w.building) w.given (c ∷ [])))
+  shown_safe = subst (λ (xs : List Entry). All (IsHeld w.base (take w.safe w.accepted)) xs) (sym (flat_map-append (acknowledged_in w.building) w.given (c ∷ [])))
       (All-append (IsHeld w.base (take w.safe w.accepted)) (acknowledged w) _ k.shown_safe
-      (subst (λ (xs : List Entry). All (IsHeld w.base (take w.safe w.accepted)) xs) (sym (append-nil (told_in w.building c)))
+      (subst (λ (xs : List Entry). All (IsHeld w.base (take w.safe w.accepted)) xs) (sym (append-nil (acknowledged_in w.building c)))
       (All-contains (Tells w.building w.base (take w.safe w.accepted)) w.due c k.due_safe (find_held (is_taken_of terminal) w.due c at).0)));
   due_safe = All-filter _ (Tells w.building w.base (take w.safe w.accepted)) w.due k.due_safe;
 }

@@ -162,15 +162,15 @@ outcome w Safe = safe_list w
 outcome w WithBatch = safe_list w ++ batch_in_flight w
 
 -- the entry that a reply acknowledges
-abbrev pub told_by : Plan → ℕ → ℕ → Body → Reply → List Entry
-told_by building terminal number (Call to party) (Car car) =
+abbrev pub acknowledged_by : Plan → ℕ → ℕ → Body → Reply → List Entry
+acknowledged_by building terminal number (Call to party) (Car car) =
     Allot terminal number (kiosk_floor building terminal) to car party ∷ []
-told_by building terminal number (Stop floor dir) (Stopped next) = Stopping terminal number floor dir ∷ []
-told_by building terminal number _ _ = []
+acknowledged_by building terminal number (Stop floor dir) (Stopped next) = Stopping terminal number floor dir ∷ []
+acknowledged_by building terminal number _ _ = []
 
-abbrev pub told_in : Plan → Taken → List Entry
-told_in building c = told_by building c.terminal c.number c.body c.reply
+abbrev pub acknowledged_in : Plan → Taken → List Entry
+acknowledged_in building c = acknowledged_by building c.terminal c.number c.body c.reply
 
 -- the entries that a stored `Car` or `Stopped`, new or repeated, acknowledges
 abbrev pub acknowledged : World → List Entry
-acknowledged w = flat_map (told_in w.building) w.given
+acknowledged w = flat_map (acknowledged_in w.building) w.given

@@ -34,7 +34,7 @@ fn verdict_of(
 }
 
 /// The reply to a command that changes no register.
-fn told(reply: Reply) -> Option<Decided>
+fn reply_alone(reply: Reply) -> Option<Decided>
     ensures { result ≡ Some (record { reply = reply; entry = None }) }
 {
     Some(Decided { reply, entry: None })
@@ -143,17 +143,17 @@ fn proceed(
     ensures balanced { IsBalanced register.new }
 {
     match verdict {
-        Verdict::Refused(reason) => told(Reply::Refused(*reason)),
+        Verdict::Refused(reason) => reply_alone(Reply::Refused(*reason)),
         Verdict::Call(..) => None,
-        Verdict::RepeatedCall(car) => told(Reply::Car(*car)),
+        Verdict::RepeatedCall(car) => reply_alone(Reply::Car(*car)),
         Verdict::Stop(car, stop) => {
             let number = command.number;
             Some(serve(building, register, positions, number, *car, stop))
         }
         Verdict::RepeatedStop(car, at) => {
-            told(Reply::Stopped(stand(register, positions, *car, at)))
+            reply_alone(Reply::Stopped(stand(register, positions, *car, at)))
         }
-        Verdict::Place(car, at) => told(Reply::Placed(stand(register, positions, *car, at))),
+        Verdict::Place(car, at) => reply_alone(Reply::Placed(stand(register, positions, *car, at))),
     }
 }
 

@@ -4,12 +4,12 @@
 
 use lift_base::text::Watched;
 use lift_disk::SystemOpener;
-use lift_program::{Given, Host, Openers, not_given, start};
+use lift_program::{Host, Invocation, Openers, no_words, start};
 use std::process::ExitCode;
 use std::{env, io};
 
 /// The words after the program's name.
-fn given(rt: &HostRuntime) -> io::Result<Vec<String>> {
+fn words_given(rt: &HostRuntime) -> io::Result<Vec<String>> {
     let words = env::args(rt)?.skip(1).collect(rt.alloc())?;
     Ok(words)
 }
@@ -26,18 +26,18 @@ fn openers(rt: &HostRuntime) -> Openers<Host<'_>, SystemOpener<'_>, Host<'_>> {
 fn main(rt: HostRuntime) -> ExitCode {
     let mut output = Watched::new(rt.stdout());
     let mut errors = Watched::new(rt.stderr());
-    let status = match given(&rt) {
+    let status = match words_given(&rt) {
         Ok(words) => {
             let (end, _errors, _input) = start(
                 &rt,
-                Given::new(openers(&rt), words.as_slice(), rt.stdin()),
+                Invocation::new(openers(&rt), words.as_slice(), rt.stdin()),
                 rt.alloc(),
                 &mut output,
                 errors,
             );
             end.status()
         }
-        Err(error) => not_given(error, &mut errors).status(),
+        Err(error) => no_words(error, &mut errors).status(),
     };
     ExitCode::from(status)
 }

@@ -89,8 +89,8 @@ module _ {D P : Type 0} (choice : Choice) (any : RunsAreAny choice)
 
   -- so it is of each, whatever it answers
   abbrev pub IsAdded : Bool → Type 0
-  IsAdded fails = (batch : List Entry) × (more : List Entry) × (told : List Taken)
-      × TurnAdds (group_of before) (group_of after) fails batch more told
+  IsAdded fails = (batch : List Entry) × (more : List Entry) × (replied : List Taken)
+      × TurnAdds (group_of before) (group_of after) fails batch more replied
 
   abbrev failing : KeeperFault → Result Counts KeeperFault
   failing fault = Err fault
@@ -115,9 +115,9 @@ module _ {D P : Type 0} (choice : Choice) (any : RunsAreAny choice)
 
 -- A turn that makes nothing safe leaves what was.
 same_safe : {D : Type 0} {base : RegisterState} {after : GroupState D} {safe : List Entry}
-    (told : List Taken) → History base after (safe ++ []) told → History base after safe told
-same_safe {D} {base} {after} {safe} told h =
-    subst (λ (es : List Entry). History base after es told) (append-nil safe) h
+    (replied : List Taken) → History base after (safe ++ []) replied → History base after safe replied
+same_safe {D} {base} {after} {safe} replied h =
+    subst (λ (es : List Entry). History base after es replied) (append-nil safe) h
 
 module _ {D : Type 0} {base : RegisterState} {before after : GroupState D} {safe : List Entry}
     {given : List Taken} where

@@ -82,11 +82,11 @@ first_queued batch rest [] k = absurd k
 first_queued batch rest (q ∷ qs) k = record { q = q; qs = qs; at = refl; same = k.0; rests = k.1 }
 
 -- its commands are given these answers, whichever are told
-pub record Answers (batch : SentBatch) (told : List Taken) (behind later : ℕ → ClerkView) : Type 0 where
+pub record Answers (batch : SentBatch) (replied : List Taken) (behind later : ℕ → ClerkView) : Type 0 where
   pub commands : List Command
   pub are : map command_of batch.commands ≡ commands
-  pub told_are : map command_of told ≡ commands
-  pub grows : (t : ℕ) → Grows (behind t) (later t) (filter (asks t) commands) (filter (is_answer_to t) (map answer_of told))
+  pub replied_are : map command_of replied ≡ commands
+  pub grows : (t : ℕ) → Grows (behind t) (later t) (filter (asks t) commands) (filter (is_answer_to t) (map answer_of replied))
 
 not_none : (xs : List Entry) → xs ≢ [] → 0 < length xs
 not_none [] some = absurd (some refl)
@@ -101,8 +101,8 @@ module _ {D : Type 0} {w : World} {ahead : ℕ → List ℕ} {behind : ℕ → C
   q = first.q
 
   -- Unknown to each, whatever was decided
-  unknown_are : (told : List Taken) → map unknown_to batch.commands ≡ told → map unknown_to (answered_of all_found q.commands) ≡ told
-  unknown_are told told_is = ap (map unknown_to) (all_answered q.commands) ∙ unknown_same q.commands batch.commands first.same ∙ told_is
+  unknown_are : (replied : List Taken) → map unknown_to batch.commands ≡ replied → map unknown_to (answered_of all_found q.commands) ≡ replied
+  unknown_are replied replied_is = ap (map unknown_to) (all_answered q.commands) ∙ unknown_same q.commands batch.commands first.same ∙ replied_is
 
   -- while nothing has failed
   module _ (k : RunsWhole w state old (batch ∷ rest)) where
@@ -155,12 +155,12 @@ module _ {D : Type 0} {w : World} {ahead : ℕ → List ℕ} {behind : ℕ → C
 
   module _ (later : ℕ → ClerkView) (next : State) (new : WriterView D) (same_plan : new.plan ≡ old.plan) where
     -- the words, once the commands are answered
-    module _ (told : List Taken) (a : Answers batch told behind later) (end : World) (asked : end.asked ≡ w.asked) (queue : end.queue ≡ first.qs) (answers : end.answered ≡ w.answered ++ map answer_of told) where
+    module _ (replied : List Taken) (a : Answers batch replied behind later) (end : World) (asked : end.asked ≡ w.asked) (queue : end.queue ≡ first.qs) (answers : end.answered ≡ w.answered ++ map answer_of replied) where
       abbrev here : ℕ → List Command
       here t = filter (asks t) a.commands
 
       abbrev told_here : ℕ → List Answer
-      told_here t = filter (is_answer_to t) (map answer_of told)
+      told_here t = filter (is_answer_to t) (map answer_of replied)
 
       way_is : (t : ℕ) → on_way w t ≡ here t ++ on_way end t
       way_is t =
@@ -176,7 +176,7 @@ module _ {D : Type 0} {w : World} {ahead : ℕ → List ℕ} {behind : ℕ → C
           let all : k.first ++ on_way w t ≡ (k.first ++ new) ++ on_way end t = ap (λ (xs : List Command). k.first ++ xs) (way_is t) ∙ sym (append_assoc k.first new (on_way end t)) in
           let old : List Answer = filter (is_answer_to t) w.answered in
           let now : filter (is_answer_to t) end.answered ≡ old ++ told_here t =
-          ap (filter (is_answer_to t)) answers ∙ filter-append (is_answer_to t) w.answered (map answer_of told) in
+          ap (filter (is_answer_to t)) answers ∙ filter-append (is_answer_to t) w.answered (map answer_of replied) in
           let lt : suc (length (behind t).taken) ≡ 1 + length (map ask_of k.first) = omega (arith, ap length k.looked, asks_count 1 (map ask_of k.first)) in
           let la : suc (length (behind t).answered) ≡ 1 + length old = omega (arith, ap length k.answered, answers_long 1 old) in
           let even = k.even in
@@ -194,8 +194,8 @@ module _ {D : Type 0} {w : World} {ahead : ℕ → List ℕ} {behind : ℕ → C
             even = omega (
               arith,
               length-append k.first new,
-              as_many t told,
-              ap (λ (cs : List Command). length (filter (asks t) cs)) a.told_are,
+              as_many t replied,
+              ap (λ (cs : List Command). length (filter (asks t) cs)) a.replied_are,
               ap length now,
               length-append old (told_here t),
               length-filter (is_answer_to t) end.answered,
@@ -204,7 +204,7 @@ module _ {D : Type 0} {w : World} {ahead : ℕ → List ℕ} {behind : ℕ → C
           }
 
     -- what a flush leaves, whichever it is: what is so of each
-    module _ (told : List Taken) (a : Answers batch told behind later) (safe : ℕ) (flight : SealedBatch) (phase : Phase) (power : Power) (due given : List Taken) (given_is : given ≡ told) where
+    module _ (replied : List Taken) (a : Answers batch replied behind later) (safe : ℕ) (flight : SealedBatch) (phase : Phase) (power : Power) (due given : List Taken) (given_is : given ≡ replied) where
       abbrev left : World
       left = record w {
         safe = safe;
@@ -218,9 +218,9 @@ module _ {D : Type 0} {w : World} {ahead : ℕ → List ℕ} {behind : ℕ → C
       }
 
       leads : (events : List Event) (entries : List Entry) → goes events w ≡ Some left → safe_list left ≡ entries → due ≡ [] → register_of w.base (safe_list left) ≡ new.register
-          → (new.is_broken ≡ false → RunsWhole left next new rest) → (new.is_broken ≡ true → RunsBroken left new) → LeadsTo w events told entries (λ (v : World). IsTied v ahead later next new rest)
+          → (new.is_broken ≡ false → RunsWhole left next new rest) → (new.is_broken ≡ true → RunsBroken left new) → LeadsTo w events replied entries (λ (v : World). IsTied v ahead later next new rest)
       leads events entries possible safe_is none register whole broken =
-          let answered : left.answered ≡ w.answered ++ map answer_of told = ap (λ (xs : List Taken). w.answered ++ map answer_of xs) given_is in
+          let answered : left.answered ≡ w.answered ++ map answer_of replied = ap (λ (xs : List Taken). w.answered ++ map answer_of xs) given_is in
           record {
             end = left;
             possible = possible;
@@ -238,7 +238,7 @@ module _ {D : Type 0} {w : World} {ahead : ℕ → List ℕ} {behind : ℕ → C
               nothing_due = none;
               safe = register;
               queue = first.rests;
-              words = words told a left refl refl answered;
+              words = words replied a left refl refl answered;
               whole = whole;
               broken = broken;
             };
@@ -265,12 +265,12 @@ module _ {D : Type 0} {w : World} {ahead : ℕ → List ℕ} {behind : ℕ → C
           (λ e. not_both new.is_broken whole e)
 
       -- the device fails it
-      left_in_doubt : (told : List Taken) → map unknown_to batch.commands ≡ told → Answers batch told behind later → new.is_broken ≡ true → new.register ≡ old.register → new.doubt ≡ batch.entries → batch.entries ≢ [] → (folds : ℕ)
-          → LeadsTo w (failing_flush all_found q folds GateWritten (length batch.entries)) told (safe_list w) (λ (v : World). IsTied v ahead later next new rest)
-      left_in_doubt told told_is a breaks register doubt some folds =
+      left_in_doubt : (replied : List Taken) → map unknown_to batch.commands ≡ replied → Answers batch replied behind later → new.is_broken ≡ true → new.register ≡ old.register → new.doubt ≡ batch.entries → batch.entries ≢ [] → (folds : ℕ)
+          → LeadsTo w (failing_flush all_found q folds GateWritten (length batch.entries)) replied (safe_list w) (λ (v : World). IsTied v ahead later next new rest)
+      left_in_doubt replied replied_is a breaks register doubt some folds =
           let more = not_none batch.entries some in
           let count = (count_is k) in
-          leads told a w.safe (record { commands = []; upto = q.upto }) GateWritten Broken (w.due ++ map unknown_to (left_unanswered all_found q.commands)) (map unknown_to (answered_of all_found q.commands)) (unknown_are told told_is)
+          leads replied a w.safe (record { commands = []; upto = q.upto }) GateWritten Broken (w.due ++ map unknown_to (left_unanswered all_found q.commands)) (map unknown_to (answered_of all_found q.commands)) (unknown_are replied replied_is)
           (failing_flush all_found q folds GateWritten (length batch.entries)) (safe_list w)
           (subst (λ (n : ℕ). goes (failing_flush all_found q folds GateWritten n) w ≡ Some (flush_failed w all_found q first.qs GateWritten)) count
           (laws.failed_flushes w all_found q first.qs folds GateWritten k.between (order laws w m.reached) first.at (omega arith) tt))
@@ -284,17 +284,17 @@ module _ {D : Type 0} {w : World} {ahead : ℕ → List ℕ} {behind : ℕ → C
         → Led (λ p folds. flusher_events all_found p folds (length batch.entries)) batch.commands (safe_list w ++ batch.entries)
     flush_safe a was whole register none same = (q, first.same, λ folds. made_safe (m.whole was) a whole register none same folds)
 
-    pub flush_fails : (told : List Taken) → map unknown_to batch.commands ≡ told → Answers batch told behind later → old.is_broken ≡ false → new.is_broken ≡ true → new.register ≡ old.register → new.doubt ≡ batch.entries
-        → batch.entries ≢ [] → Led (λ p folds. failing_flush all_found p folds GateWritten (length batch.entries)) told (safe_list w)
-    flush_fails told is a was breaks register doubt some = (q, first.same, λ folds. left_in_doubt (m.whole was) told is a breaks register doubt some folds)
+    pub flush_fails : (replied : List Taken) → map unknown_to batch.commands ≡ replied → Answers batch replied behind later → old.is_broken ≡ false → new.is_broken ≡ true → new.register ≡ old.register → new.doubt ≡ batch.entries
+        → batch.entries ≢ [] → Led (λ p folds. failing_flush all_found p folds GateWritten (length batch.entries)) replied (safe_list w)
+    flush_fails replied is a was breaks register doubt some = (q, first.same, λ folds. left_in_doubt (m.whole was) replied is a breaks register doubt some folds)
 
     -- after a fault
-    pub flush_broken : (told : List Taken) → map unknown_to batch.commands ≡ told → Answers batch told behind later → old.is_broken ≡ true → new ≡ old → Led (λ p folds. broken_flush all_found p) told (safe_list w)
-    flush_broken told is a was same =
+    pub flush_broken : (replied : List Taken) → map unknown_to batch.commands ≡ replied → Answers batch replied behind later → old.is_broken ≡ true → new ≡ old → Led (λ p folds. broken_flush all_found p) replied (safe_list w)
+    flush_broken replied is a was same =
         let kb : RunsBroken w old = m.broken was in (
           q,
           first.same,
-          λ folds. leads told a w.safe w.flight w.phase w.power (w.due ++ map unknown_to (left_unanswered all_found q.commands)) (map unknown_to (answered_of all_found q.commands)) (unknown_are told is) (broken_flush all_found q)
+          λ folds. leads replied a w.safe w.flight w.phase w.power (w.due ++ map unknown_to (left_unanswered all_found q.commands)) (map unknown_to (answered_of all_found q.commands)) (unknown_are replied is) (broken_flush all_found q)
               (safe_list w) (laws.broken_flushes w all_found q first.qs kb.between (order laws w m.reached) first.at) refl
               (ap (λ (xs : List Taken). w.due ++ map unknown_to xs) (none_left q.commands) ∙ append-nil w.due ∙ m.nothing_due) (m.safe ∙ ap (λ (v : WriterView D). v.register) (sym same))
               (λ e. not_both new.is_broken e (ap (λ (v : WriterView D). v.is_broken) same ∙ was))

@@ -13,7 +13,7 @@ use Rattle.lift_desk.specs.lemmas.Places.{view_at-else}
 use Rattle.lift_desk.specs.lemmas.WordLists.{last_of-push}
 use Rattle.lift_policy.specs.declared.command.Command.{Command}
 use Rattle.lift_clerk.specs.declared.answering.DueAnswer.{DueAnswer}
-use Rattle.lift_clerk.specs.Answering.{AreOwed, terminals_in, reply_told, replies_told}
+use Rattle.lift_clerk.specs.Answering.{AreOwed, terminals_in, stored_reply, stored_replies}
 use Rattle.lift_clerk.specs.Answering.{with_answers, with_reply_to_last}
 use Rattle.lift_clerk.specs.lemmas.Lists.{AreOthers}
 use Rattle.lift_clerk.specs.Scanning.{terminals_of}
@@ -40,7 +40,7 @@ pub answered-else : (is_safe : Bool) (places : List ClerkPlace) (answers : List 
     → view_at (with_answers is_safe places answers) j ≡ view_at places j
 answered-else is_safe places [] j apart = refl
 answered-else is_safe places (a ∷ answers) j apart =
-    let view = with_reply_to_last (view_at places a.terminal) (reply_told is_safe a.reply) in
+    let view = with_reply_to_last (view_at places a.terminal) (stored_reply is_safe a.reply) in
     answered-else is_safe (clerk_with places a.terminal view) answers j apart.1
     ∙ view_at-else places a.terminal j view (λ e. apart.0 (sym e))
 
@@ -48,7 +48,7 @@ pub length-answered : (is_safe : Bool) (places : List ClerkPlace) (answers : Lis
     → length (with_answers is_safe places answers) ≡ length places
 length-answered is_safe places [] = refl
 length-answered is_safe places (a ∷ answers) =
-    let view = with_reply_to_last (view_at places a.terminal) (reply_told is_safe a.reply) in
+    let view = with_reply_to_last (view_at places a.terminal) (stored_reply is_safe a.reply) in
     length-answered is_safe (clerk_with places a.terminal view) answers
     ∙ length-set places a.terminal
     (placed_at (get_or places a.terminal no_place).table view)
@@ -91,16 +91,16 @@ module _ (is_safe : Bool) (front : List ClerkPlace) (p : ClerkPlace) (word : ℕ
 
   abbrev told : ClerkView
   told = with_answer looked
-      (reply_word (length looked.taken) ask.number (reply_told is_safe a.reply))
+      (reply_word (length looked.taken) ask.number (stored_reply is_safe a.reply))
 
   first-stored : a.terminal ≡ length front
       → FindsAt p (record { word = word; found = Some ask })
       → (let l = front ++ placed_at p.table looked ∷ places in clerk_with l a.terminal
-      (with_reply_to_last (view_at l a.terminal) (reply_told is_safe a.reply)))
+      (with_reply_to_last (view_at l a.terminal) (stored_reply is_safe a.reply)))
       ≡ front ++ placed_at p.table told ∷ places
   first-stored at finds =
       let l : List ClerkPlace = front ++ placed_at p.table looked ∷ places in
-      let reply = reply_told is_safe a.reply in
+      let reply = stored_reply is_safe a.reply in
       ap (λ t. clerk_with l t (with_reply_to_last (view_at l t) reply)) at
       ∙ ap (λ v. clerk_with l (length front) (with_reply_to_last v reply))
       (view-seam front (placed_at p.table looked) places)
@@ -114,7 +114,7 @@ abbrev Stores : Bool → ℕ → List ClerkPlace → List Visit → Type 0
 Stores is_safe first places visits = (front : List ClerkPlace) (answers : List DueAnswer)
     → length front ≡ first → terminals_in answers ≡ terminals_of (commands_of first visits)
     → with_answers is_safe (front ++ looked_at places visits) answers
-    ≡ front ++ served places visits (replies_told is_safe answers)
+    ≡ front ++ served places visits (stored_replies is_safe answers)
 
 stored-case : (is_safe : Bool) (first : ℕ) (p : ClerkPlace) (places : List ClerkPlace) (word : ℕ)
     (found : Option Ask) (visits : List Visit)
@@ -124,10 +124,10 @@ stored-case : (is_safe : Bool) (first : ℕ) (p : ClerkPlace) (places : List Cle
     → with_answers is_safe (front ++ placed_at p.table (with_taking p.view word)
     ∷ looked_at places visits) answers
     ≡ front ++ served (p ∷ places) (record { word = word; found = found } ∷ visits)
-    (replies_told is_safe answers)
+    (stored_replies is_safe answers)
 stored-case is_safe first p places word None visits finds ih front answers many is =
     let q = placed_at p.table (with_taking p.view word) in
-    let replies = replies_told is_safe answers in
+    let replies = stored_replies is_safe answers in
     ap (λ l. with_answers is_safe l answers)
     (sym (append_assoc front (q ∷ []) (looked_at places visits)))
     ∙ ih (front ++ q ∷ []) answers (omega (arith, length-append front (q ∷ []))) is
@@ -135,10 +135,10 @@ stored-case is_safe first p places word None visits finds ih front answers many 
 stored-case is_safe first p places word (Some ask) visits finds ih front [] many is =
     absurd (omega (arith, ap length is))
 stored-case is_safe first p places word (Some ask) visits finds ih front (a ∷ answers) many is =
-    let replies = replies_told is_safe answers in
+    let replies = stored_replies is_safe answers in
     let looked : ClerkView = with_taking p.view word in
     let told = with_answer looked
-    (reply_word (length looked.taken) ask.number (reply_told is_safe a.reply)) in
+    (reply_word (length looked.taken) ask.number (stored_reply is_safe a.reply)) in
     let q = placed_at p.table told in
     let at : a.terminal ≡ first = ap (λ l. get_or l 0 0) is in
     let rest : terminals_in answers ≡ terminals_of (commands_of (suc first) visits) = cc in
@@ -162,7 +162,7 @@ pub scan-answered : (is_safe : Bool) (places : List ClerkPlace) (visits : List V
     (answers : List DueAnswer) → Finds places visits
     → terminals_in answers ≡ terminals_of (commands_of 0 visits)
     → with_answers is_safe (looked_at places visits) answers
-    ≡ served places visits (replies_told is_safe answers)
+    ≡ served places visits (stored_replies is_safe answers)
 scan-answered is_safe places visits answers finds is =
     stored-after is_safe 0 places visits finds [] answers refl is
 

@@ -129,7 +129,7 @@ module _ {D P : Type 0} (laws : Laws) (w : World) (before after : ClerkState D P
     answers_are batch same = record {
       commands = cs;
       are = same;
-      told_are = held cs rs answers.one_each;
+      replied_are = held cs rs answers.one_each;
       grows = answers.grows;
     }
 

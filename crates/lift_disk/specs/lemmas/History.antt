@@ -136,7 +136,7 @@ module _ (first : Image) (calls : List Call) (now synced : Image) (loose : List 
     failures = omega (arith, more);
     honest = (λ h. h, λ h. h);
     inert = (λ h. h, λ h. h);
-    told = λ call later. (λ no. no, λ no. no);
+    armed = λ call later. (λ no. no, λ no. no);
     time = λ _. record {
       later = omega arith;
       nothing_else = λ t left le since. ⊎_elim (λ is. inr is) (λ was. inl (inr was)) since;
@@ -178,7 +178,7 @@ module _ (first : Image) (calls : List Call) (now synced : Image) (loose : List 
         failures = omega arith;
         honest = (λ h. h, λ h. h);
         inert = (λ h. h, λ h. h);
-        told = λ call later. (λ no. no, λ no. no);
+        armed = λ call later. (λ no. no, λ no. no);
         time = λ _. record {
           later = omega (arith, length-append calls (Sync loose ∷ []));
           nothing_else = λ t left le since.

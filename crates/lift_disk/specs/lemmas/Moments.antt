@@ -42,7 +42,7 @@ runs_none disk = record {
   failures = omega arith;
   honest = (λ h. h, λ h. h);
   inert = (λ h. h, λ h. h);
-  told = λ call later. (λ h. h, λ h. h);
+  armed = λ call later. (λ h. h, λ h. h);
 }
 
 -- one call
@@ -53,7 +53,7 @@ runs_call old new goes_on = record {
   failures = goes_on.failures;
   honest = goes_on.honest;
   inert = goes_on.inert;
-  told = goes_on.told;
+  armed = goes_on.armed;
 }
 
 -- a fault is answered exactly where one failure more is counted
@@ -77,11 +77,11 @@ runs_then old mid new first second = record {
   failures = omega (arith, first.failures, second.failures);
   honest = (λ h. first.honest.0 (second.honest.0 h), λ h. second.honest.1 (first.honest.1 h));
   inert = (λ h. first.inert.0 (second.inert.0 h), λ h. second.inert.1 (first.inert.1 h));
-  told = λ call later.
+  armed = λ call later.
       let early : mid.calls < call = omega (arith, second.calls, later) in (
-        λ h. (first.told call early).0 ((second.told call later).0 h),
+        λ h. (first.armed call early).0 ((second.armed call later).0 h),
         λ h.
-            (second.told call later).1 ((first.told call early).1 h),
+            (second.armed call later).1 ((first.armed call early).1 h),
       );
 }
 

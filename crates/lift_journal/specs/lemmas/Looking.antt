@@ -3,7 +3,7 @@ use Rattle.std.proofs.Common.{◌≡◌, inl, inr, ⊎_elim, refl, sym, ◌∙�
 use Rattle.std.proofs.Common.{OnErr}
 use Rattle.std.specs.Prelude.{IfErr, true, false}
 use Rattle.std.specs.Result.{is_err}
-use Rattle.lift_disk.specs.Disk.{DiskState, HasCause, IsSynced, KeepsImage, LeavesAsBefore, RunsOn}
+use Rattle.lift_disk.specs.Disk.{DiskState, HasCause, IsSynced, ReadsAsBefore, LeavesAsBefore, RunsOn}
 use Rattle.lift_disk.specs.Disk.{LeavesNoOther, SavesAll}
 use Rattle.lift_disk.specs.lemmas.Moments.{runs_none, runs_then, touches_none, touches_nothing_then}
 use Rattle.lift_journal.specs.declared.fault.JournalFault.{JournalFault}
@@ -11,15 +11,15 @@ use Rattle.lift_journal.specs.declared.fault.JournalFault.TheVariants.{Disk, Not
 use Rattle.lift_journal.specs.declared.fault.JournalFault.TheVariants.{Full, Broken}
 use Rattle.lift_journal.specs.Steps.{IsSyncedAt, SavesAsRead, ReadsOnly, ReadsWell, HasFailed}
 use Rattle.lift_journal.specs.Steps.{Looks, Examines, HasItsCause}
-use Rattle.lift_journal.specs.Told.{EndsAtFirstFailure, FailsBy}
+use Rattle.lift_journal.specs.Armed.{EndsAtFirstFailure, FailsBy}
 use Rattle.lift_journal.specs.lemmas.Telling.{none_made, passes_then, fails_then}
 
-pub keeps_then : (old mid new : DiskState) → RunsOn old mid → KeepsImage old mid
-    → KeepsImage mid new → KeepsImage old new
+pub keeps_then : (old mid new : DiskState) → RunsOn old mid → ReadsAsBefore old mid
+    → ReadsAsBefore mid new → ReadsAsBefore old new
 keeps_then old mid new runs first second honest inert =
     second (runs.honest.1 honest) (runs.inert.1 inert) ∙ first honest inert
 
-pub saves_then : (old mid new : DiskState) → RunsOn old mid → KeepsImage mid new
+pub saves_then : (old mid new : DiskState) → RunsOn old mid → ReadsAsBefore mid new
     → SavesAsRead old mid → SavesAsRead mid new → SavesAsRead old new
 saves_then old mid new runs image first second honest inert =
     let honest_mid = runs.honest.1 honest in
@@ -57,7 +57,7 @@ reads_then old mid new first second = record {
 pub well_none : (disk : DiskState) → ReadsWell disk disk
 well_none disk = record {
   failures = refl;
-  told = none_made disk;
+  armed = none_made disk;
   kept = λ honest synced.
       record { synced = synced; same = refl };
 }
@@ -66,7 +66,7 @@ pub well_then : (old mid new : DiskState) → ReadsOnly old mid → ReadsWell ol
     → ReadsWell mid new → ReadsWell old new
 well_then old mid new only first second = record {
   failures = second.failures ∙ first.failures;
-  told = passes_then old mid new only.runs first.told second.told;
+  armed = passes_then old mid new only.runs first.armed second.armed;
   kept = λ honest synced.
       let before = first.kept honest synced in
       let after = second.kept (only.runs.honest.1 honest) before.synced in
@@ -77,7 +77,7 @@ pub failed_then : (old mid new : DiskState) → ReadsOnly old mid → ReadsWell 
     → HasFailed mid new → HasFailed old new
 failed_then old mid new only well second = record {
   failures = omega (arith, second.failures, well.failures);
-  told = fails_then old mid new only.runs well.told second.told;
+  armed = fails_then old mid new only.runs well.armed second.armed;
 }
 
 -- a clause of an answer, weakened
@@ -93,14 +93,14 @@ err_weaker (Err e) P Q f p = f p
 pub looks_by : {T E : Type 0} (r : Result T E) (old new : DiskState) → ReadsOnly old new
     → HasCause r old new → EndsAtFirstFailure r old new
     → OnOk r (old.is_honest → IsSynced old → IsSyncedAt old.image new) → Looks r old new
-looks_by (Ok x) old new only cause told kept =
+looks_by (Ok x) old new only cause armed kept =
     record {
       only = only;
-      ok = record { failures = cause.ok; told = told.ok; kept = kept };
+      ok = record { failures = cause.ok; armed = armed.ok; kept = kept };
       err = tt;
     }
-looks_by (Err e) old new only cause told kept =
-    record { only = only; ok = tt; err = record { failures = cause.err; told = told.err } }
+looks_by (Err e) old new only cause armed kept =
+    record { only = only; ok = tt; err = record { failures = cause.err; armed = armed.err } }
 
 pub looks_then : {T E : Type 0} (r : Result T E) (old mid new : DiskState) → ReadsOnly old mid
     → ReadsWell old mid → Looks r mid new → Looks r old new
@@ -121,13 +121,13 @@ cause_then Full old mid new only well cause = well_then old mid new only well ca
 cause_then Broken old mid new only well cause = well_then old mid new only well cause
 
 -- what was told has happened
-pub cause_told : (fault : JournalFault) (old new : DiskState) → HasItsCause fault old new
+pub cause_armed : (fault : JournalFault) (old new : DiskState) → HasItsCause fault old new
     → FailsBy fault old new
-cause_told Disk old new cause = cause.told
-cause_told NotFormatted old new cause = cause.told
-cause_told (Damaged sector) old new cause = cause.told
-cause_told Full old new cause = cause.told
-cause_told Broken old new cause = cause.told
+cause_armed Disk old new cause = cause.armed
+cause_armed NotFormatted old new cause = cause.armed
+cause_armed (Damaged sector) old new cause = cause.armed
+cause_armed Full old new cause = cause.armed
+cause_armed Broken old new cause = cause.armed
 
 pub examines_then : {T : Type 0} (r : Result T JournalFault) (old mid new : DiskState)
     → ReadsOnly old mid → ReadsWell old mid → Examines r mid new → Examines r old new

@@ -6,7 +6,7 @@ use Rattle.std.specs.Prelude.{◌-◌, ◌==◌}
 use Rattle.std.proofs.lemmas.List.{take_all, take-append-le}
 use Rattle.std.proofs.lemmas.Bool.Decides.{nat_tests}
 use Rattle.std.proofs.KnownBytes.{Consumes-trans}
-use Rattle.lift_kiosk.specs.Lines.{Source, GivesBytes, GivesLine, GivesPart, HasNoFeed, Keeps65}
+use Rattle.lift_kiosk.specs.Lines.{Source, GivesBytes, GivesLine, GivesPart, HasNoFeed, Buffers65}
 
 pub gives_more : (bytes : List ℕ) (byte : ℕ) (before mid after : Source)
     → GivesBytes bytes before mid
@@ -42,7 +42,7 @@ part_ends part byte before mid after so_far one feed = record {
 }
 
 pub keeps_no_more : (line kept : List ℕ) (byte : ℕ) (longer : Bool) → length kept ≡ 65
-    → Keeps65 line kept longer → Keeps65 (line ++ byte ∷ []) kept true
+    → Buffers65 line kept longer → Buffers65 (line ++ byte ∷ []) kept true
 keeps_no_more line kept byte longer full so_far =
     let long : 65 ≤ length line =
     (let at = ap length so_far.front in omega (arith, at, full, length-take 65 line)) in
@@ -52,7 +52,7 @@ keeps_no_more line kept byte longer full so_far =
     }
 
 pub keeps_one_more : (line kept new : List ℕ) (byte : ℕ) (longer : Bool) → length kept < 65
-    → new ≡ kept ++ byte ∷ [] → Keeps65 line kept longer → Keeps65 (line ++ byte ∷ []) new longer
+    → new ≡ kept ++ byte ∷ [] → Buffers65 line kept longer → Buffers65 (line ++ byte ∷ []) new longer
 keeps_one_more line kept new byte longer room grown so_far =
     let short : length line < 65 =
     (let at = ap length so_far.front in omega (arith, at, room, length-take 65 line)) in
@@ -66,7 +66,7 @@ keeps_one_more line kept new byte longer room grown so_far =
     }
 
 -- of a line that is kept whole, nothing is missing
-pub kept_whole : (line kept : List ℕ) → Keeps65 line kept false → kept ≡ line
+pub kept_whole : (line kept : List ℕ) → Buffers65 line kept false → kept ≡ line
 kept_whole line kept keeps =
     let few : length line ≤ 65 = (let more = keeps.more in grind (arith, nat_tests)) in
     keeps.front ∙ take_all 65 line few

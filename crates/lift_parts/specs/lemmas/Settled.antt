@@ -8,7 +8,7 @@ use Rattle.lift_desk.specs.declared.view.ClerkView.{ClerkView}
 use Rattle.lift_desk.specs.Steps.{with_taking}
 use Rattle.lift_desk.specs.Seats.{ClerkPlace, no_place, view_at, clerk_with, placed_at, Owes}
 use Rattle.lift_desk.specs.lemmas.Places.{view_at-here, view_at-else}
-use Rattle.lift_clerk.specs.Answering.{AreOwed, terminals_in, reply_told, with_answers, with_reply_to_last}
+use Rattle.lift_clerk.specs.Answering.{AreOwed, terminals_in, stored_reply, with_answers, with_reply_to_last}
 use Rattle.lift_clerk.specs.TakenAndAnswered.{AreApart, ask_of}
 use Rattle.lift_clerk.specs.lemmas.Lists.{AreOthers}
 use Rattle.lift_clerk.specs.Visits.{FindsAt}
@@ -71,7 +71,7 @@ owed-after desk places (t ∷ batch) many below apart found =
 
 -- the terminal's words, once its look was answered
 abbrev pub told_after : Bool → NotedCommand → ClerkView → ClerkView
-told_after is_safe t view = with_reply_to_last (with_taking view t.note.word) (reply_told is_safe t.reply)
+told_after is_safe t view = with_reply_to_last (with_taking view t.note.word) (stored_reply is_safe t.reply)
 
 -- What holds of a terminal which none of these commands is of, and of one which just one of them is of
 -- once that was found and answered, holds of each terminal once all of them were.
@@ -90,7 +90,7 @@ module _ (is_safe : Bool) (j : ℕ) (P : List NotedCommand → ClerkPlace → Cl
     looked = with_taking (view_at places t.command.terminal) t.note.word
 
     abbrev told : ClerkView
-    told = with_reply_to_last (view_at mid t.command.terminal) (reply_told is_safe t.reply)
+    told = with_reply_to_last (view_at mid t.command.terminal) (stored_reply is_safe t.reply)
 
     abbrev places' : List ClerkPlace
     places' = clerk_with places t.command.terminal looked
@@ -108,7 +108,7 @@ module _ (is_safe : Bool) (j : ℕ) (P : List NotedCommand → ClerkPlace → Cl
         let many = same.0 in
         let now : view_at (with_answers is_safe mid' (answers_in batch)) j ≡ told_after is_safe t (view_at places j) =
         answered-else is_safe mid' (answers_in batch) j (others-answers j batch others) ∙ ap (view_at mid') (sym at) ∙ view_at-here mid t.command.terminal told (omega arith)
-        ∙ ap (λ (v : ClerkView). with_reply_to_last v (reply_told is_safe t.reply)) was ∙ ap (λ (n : ℕ). told_after is_safe t (view_at places n)) at in
+        ∙ ap (λ (v : ClerkView). with_reply_to_last v (stored_reply is_safe t.reply)) was ∙ ap (λ (n : ℕ). told_after is_safe t (view_at places n)) at in
         subst (P (t ∷ batch) (get_or places j no_place)) (sym now)
         (here t batch (get_or places j no_place) at others (subst (λ (n : ℕ). FindsAt (get_or places n no_place) (noted_visit t)) at found.0))
     in-case false e ih =

@@ -7,7 +7,7 @@ use crate::serve::words::Words;
 use lift_disk::Disk;
 use lift_keeper::{Keeper, Writer};
 use lift_policy::{Dispatching, Policy};
-use lift_serve::{HeardBy, Listening, prepare, serve};
+use lift_serve::{Listening, Notifies, prepare, serve};
 use std::alloc::Global;
 use std::net::{Net, TcpListener, TcpStream};
 use std::process::Abort;
@@ -44,7 +44,7 @@ struct Own {
     made: (),
 }
 
-impl HeardBy<()> for Own {}
+impl Notifies<()> for Own {}
 
 /// Serves at a socket until this many connections have ended. The writer after it; none where there was
 /// no room for the group, or another fault than the device's, or where connections have not ended.

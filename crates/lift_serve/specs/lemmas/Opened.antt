@@ -45,7 +45,7 @@ handed_on state held plan base first last f safe given g mid now own honest None
 handed_on {D} state held plan base first last f safe given h end later own honest
     (OneKept {g = g} {mid = mid} {now = now} turns flush s kept) =
     let k = handed_on state held plan base first last f safe given g mid now own honest turns in
-    let told : List Taken = s.goes_on.told in
+    let replied : List Taken = s.goes_on.replied in
     record {
       own = flush.commits.same.0 ∙ k.own;
       honest = s.stands.honest.1 k.honest;
@@ -56,7 +56,7 @@ handed_on {D} state held plan base first last f safe given h end later own hones
             (λ was left kept. either_front plan base mid s.batch now left
             (subst (λ (p : Plan). KeepsEither D p base mid s.batch now left) k.own kept)) s.stands),
       );
-      front = (k.front.0 ++ told, sym (append_assoc given k.front.0 told) ∙ ap (λ (l : List Taken). l ++ told) k.front.1);
+      front = (k.front.0 ++ replied, sym (append_assoc given k.front.0 replied) ∙ ap (λ (l : List Taken). l ++ replied) k.front.1);
       always = λ before. leaves_then first _ _ _ (k.always before)
           (leaves_weaker _ _ _ (KeepsAll D plan base given)
           (λ was left kept. keeps_first plan g.writer.plan base mid s.batch given now left k.own k.front kept) s.stands);

@@ -5,7 +5,7 @@ ghost use Rattle.std.specs.Prelude.{◌≡◌, ◌≤◌, ℕ, ◌+◌, ◌%◌,
 ghost use Rattle.std.specs.Prelude.{IfOk, IfErr, IfSome, IfNone, IsErr, IsSome, IsTrue, OnErr, ◌↔◌};
 ghost use Rattle.std.specs.Prelude.{not, ◌==◌, ◌≢◌, filter, true, false};
 ghost use Rattle.std.specs.Result.{result_err};
-ghost use Rattle.lift_serve.specs.Open.{AreOver, IsEndAt, ended_in, first_told, one_more, told_after};
+ghost use Rattle.lift_serve.specs.Open.{AreOver, IsEndAt, ended_in, earlier_of, one_more, reported_after};
 
 use super::shortages::{Shortage, push};
 use super::terms::ServingTerms;
@@ -204,7 +204,7 @@ impl Connections {
             }))) }
         ensures refused { IfOk result (λ entered. IfNone entered (self.new ≡ record self.old {
           ended = one_more bound.now.sessions self.old.ended;
-          shortage = first_told self.old.shortage (Some ServeFault.Memory);
+          shortage = earlier_of self.old.shortage (Some ServeFault.Memory);
         })) }
     {
         if let Some(over) = self.is_over(bound) {
@@ -252,7 +252,7 @@ impl Connections {
           numbers = filter (λ n.
               not (n == number)) self.old.numbers;
           ended = one_more bound.now.sessions self.old.ended;
-          shortage = first_told self.old.shortage (result_err attended.entry);
+          shortage = earlier_of self.old.shortage (result_err attended.entry);
         } }
         ensures number { result.number ≡ number }
     {
@@ -265,13 +265,13 @@ impl Connections {
     /// Keeps the first shortage in mind.
     fn note(&mut self, attended: Result<Attendance<'_>, Shortage>)
         ensures { self.new ≡ record self.old {
-          shortage = first_told self.old.shortage (result_err attended.entry);
+          shortage = earlier_of self.old.shortage (result_err attended.entry);
         } }
     {
         match attended {
             Ok(_attended) => {}
             Err(shortage) => {
-                let fault = shortage.told();
+                let fault = shortage.noted();
                 if self.first.is_none() {
                     self.first = Some(fault);
                 }
@@ -355,7 +355,7 @@ impl Connections {
     /// How the serving ended whose accepting was over so. Told is that all were given up, and else the
     /// first shortage.
     pub(crate) fn into_end(self, over: Over) -> ServingEnd
-        ensures fault { result.fault ≡ told_after over self.shortage }
+        ensures fault { result.fault ≡ reported_after over self.shortage }
         ensures ended { result.ended ≡ ended_in over }
     {
         let Connections {

@@ -1,7 +1,7 @@
 //! What the threads of a serving share.
 
 ghost use Rattle.std.specs.Prelude.{◌≡◌, Option, IfErr, IfSome, IsErr};
-ghost use Rattle.lift_serve.specs.Open.{IsEndAt, ended_in, told_after};
+ghost use Rattle.lift_serve.specs.Open.{IsEndAt, ended_in, reported_after};
 ghost use Rattle.lift_serve.specs.declared.serving.ServeFault.{ServeFault};
 
 use super::connections::{Connections, ServingEnd};
@@ -96,7 +96,7 @@ impl<'d, 'b> Hall<'d, 'b> {
     /// How the serving ended whose accepting was over so. Told is that all were given up, and else the
     /// first shortage.
     pub(crate) fn into_end(self, over: Over) -> ServingEnd
-        ensures fault { (first : Option ServeFault) × (result.fault ≡ told_after over first) }
+        ensures fault { (first : Option ServeFault) × (result.fault ≡ reported_after over first) }
         ensures ended { result.ended ≡ ended_in over }
     {
         let Hall {

@@ -41,7 +41,7 @@ impl Shortage {
     }
 
     /// What was refused. Only `Connections` can ask, which note it.
-    pub(super) fn told(self) -> ServeFault
+    pub(super) fn noted(self) -> ServeFault
         ensures { result ≡ self }
     {
         let Shortage { fault } = self;

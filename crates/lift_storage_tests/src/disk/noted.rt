@@ -1,6 +1,6 @@
-//! Calls of a file that is told, and of a device over one, beside the calls of the system's file that they are.
+//! Calls of a file that is listed, and of a device over one, beside the calls of the system's file that they are.
 use crate::disk::calls::Call;
-use lift_disk::{Buffered, Disk, HostFile, SectorFile, SystemFile, ToldFile, TracedFile};
+use lift_disk::{Buffered, Disk, HostFile, ListedFile, SectorFile, SystemFile, TracedFile};
 use std::cell::Cell;
 use std::fs::{Metadata, OpenFile, Permissions};
 use std::io;
@@ -117,9 +117,9 @@ impl HostFile for NotedFile<'_> {
     }
 }
 
-/// A call of a file that is told; a read and a write are of the sector 3, or of that and the next.
+/// A call of a file that is listed; a read and a write are of the sector 3, or of that and the next.
 #[derive(Clone, Copy)]
-enum Told {
+enum Listed {
     Lock,
     Restrict,
     Read,
@@ -135,12 +135,15 @@ enum Told {
 }
 
 /// Calls, and what each is of the file: also where a call of that moves 300 bytes at most.
-const TOLD: &[(Told, &[Note])] = &[
-    (Told::Lock, &[Note::Lock]),
-    (Told::Restrict, &[Note::Rights]),
-    (Told::Read, &[Note::Read(1536, 512), Note::Read(1836, 212)]),
+const TOLD: &[(Listed, &[Note])] = &[
+    (Listed::Lock, &[Note::Lock]),
+    (Listed::Restrict, &[Note::Rights]),
     (
-        Told::ReadTwo,
+        Listed::Read,
+        &[Note::Read(1536, 512), Note::Read(1836, 212)],
+    ),
+    (
+        Listed::ReadTwo,
         &[
             Note::Read(1536, 1024),
             Note::Read(1836, 724),
@@ -149,11 +152,11 @@ const TOLD: &[(Told, &[Note])] = &[
         ],
     ),
     (
-        Told::Write,
+        Listed::Write,
         &[Note::Write(1536, 512), Note::Write(1836, 212)],
     ),
     (
-        Told::WriteTwo,
+        Listed::WriteTwo,
         &[
             Note::Write(1536, 1024),
             Note::Write(1836, 724),
@@ -161,33 +164,33 @@ const TOLD: &[(Told, &[Note])] = &[
             Note::Write(2436, 124),
         ],
     ),
-    (Told::SyncData, &[Note::Sync]),
-    (Told::WriteBack, &[Note::Sync]),
-    (Told::DropCached, &[Note::Drop]),
-    (Told::SetLength, &[Note::SetLength(66_560)]),
-    (Told::SyncAll, &[Note::SyncAll]),
-    (Told::Length, &[Note::Length]),
+    (Listed::SyncData, &[Note::Sync]),
+    (Listed::WriteBack, &[Note::Sync]),
+    (Listed::DropCached, &[Note::Drop]),
+    (Listed::SetLength, &[Note::SetLength(66_560)]),
+    (Listed::SyncAll, &[Note::SyncAll]),
+    (Listed::Length, &[Note::Length]),
 ];
 
 /// Whether a call succeeds.
-fn succeeds<F: ToldFile>(file: &mut F, call: Told) -> bool {
+fn succeeds<F: ListedFile>(file: &mut F, call: Listed) -> bool {
     match call {
-        Told::Lock => file.lock_told().is_ok(),
-        Told::Restrict => file.restrict_told().is_ok(),
-        Told::Read => file.read_sectors_told(&mut [[1; 512]], 1536).is_ok(),
-        Told::ReadTwo => file.read_sectors_told(&mut [[1; 512]; 2], 1536).is_ok(),
-        Told::Write => file.write_sectors_told(&[[1; 512]], 1536).is_ok(),
-        Told::WriteTwo => file.write_sectors_told(&[[1; 512]; 2], 1536).is_ok(),
-        Told::SyncData => file.sync_data_told().is_ok(),
-        Told::WriteBack => file.write_back_told().is_ok(),
-        Told::DropCached => file.drop_cached_told().is_ok(),
-        Told::SetLength => file.set_length_told(66_560).is_ok(),
-        Told::SyncAll => file.sync_all_told().is_ok(),
-        Told::Length => matches!(file.length_told(), Ok(0)),
+        Listed::Lock => file.lock_listed().is_ok(),
+        Listed::Restrict => file.restrict_listed().is_ok(),
+        Listed::Read => file.read_sectors_listed(&mut [[1; 512]], 1536).is_ok(),
+        Listed::ReadTwo => file.read_sectors_listed(&mut [[1; 512]; 2], 1536).is_ok(),
+        Listed::Write => file.write_sectors_listed(&[[1; 512]], 1536).is_ok(),
+        Listed::WriteTwo => file.write_sectors_listed(&[[1; 512]; 2], 1536).is_ok(),
+        Listed::SyncData => file.sync_data_listed().is_ok(),
+        Listed::WriteBack => file.write_back_listed().is_ok(),
+        Listed::DropCached => file.drop_cached_listed().is_ok(),
+        Listed::SetLength => file.set_length_listed(66_560).is_ok(),
+        Listed::SyncAll => file.sync_all_listed().is_ok(),
+        Listed::Length => matches!(file.length_listed(), Ok(0)),
     }
 }
 
-/// Each call of the file fails in turn, and then none: a call that is told fails just where one of these
+/// Each call of the file fails in turn, and then none: a call that is listed fails just where one of these
 /// does, which is then the last of them.
 #[test]
 fn each_call_is_one_of_the_file(rt: HostRuntime) {

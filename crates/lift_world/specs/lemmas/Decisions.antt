@@ -39,7 +39,7 @@ use Rattle.lift_policy.specs.lemmas.Joins.{serves_car, call_fits, stop_fits}
 use Rattle.lift_policy.specs.Decision.{Decision}
 use Rattle.lift_world.specs.Decided.{when, letter_in, kept_letter, is_among, allotted}
 use Rattle.lift_world.specs.Decided.{repeated, proceeded, decided, decided_after}
-use Rattle.lift_world.specs.World.{told_by, state_at}
+use Rattle.lift_world.specs.World.{acknowledged_by, state_at}
 use Rattle.lift_world.specs.Headline.{IsHeld, WasLast, IsOfBuilding}
 use Rattle.lift_world.specs.Replays.{FitAfter}
 use Rattle.lift_world.specs.lemmas.Entries.{kept_entry}
@@ -106,17 +106,17 @@ stop_held P terminal number floor dir l (Stopping k n f d) held at is num same =
     let whole : Stopping k n f d ≡ Stopping terminal number floor dir = cc in
     subst P whole held
 
-told-refused : (building : Plan) (terminal number : ℕ) (body : Body) (reason : Reason)
-    → told_by building terminal number body (Refused reason) ≡ []
-told-refused building terminal number (Call to party) reason = refl
-told-refused building terminal number (Stop floor dir) reason = refl
-told-refused building terminal number (Place floor dir) reason = refl
+acknowledged-refused : (building : Plan) (terminal number : ℕ) (body : Body) (reason : Reason)
+    → acknowledged_by building terminal number body (Refused reason) ≡ []
+acknowledged-refused building terminal number (Call to party) reason = refl
+acknowledged-refused building terminal number (Stop floor dir) reason = refl
+acknowledged-refused building terminal number (Place floor dir) reason = refl
 
-pub told-unknown : (building : Plan) (terminal number : ℕ) (body : Body)
-    → told_by building terminal number body Unknown ≡ []
-told-unknown building terminal number (Call to party) = refl
-told-unknown building terminal number (Stop floor dir) = refl
-told-unknown building terminal number (Place floor dir) = refl
+pub acknowledged-unknown : (building : Plan) (terminal number : ℕ) (body : Body)
+    → acknowledged_by building terminal number body Unknown ≡ []
+acknowledged-unknown building terminal number (Call to party) = refl
+acknowledged-unknown building terminal number (Stop floor dir) = refl
+acknowledged-unknown building terminal number (Place floor dir) = refl
 
 one_held : (P : Entry → Type 0) (e : Entry) → P e → All P (e ∷ [])
 one_held P e h = All-cons P e [] h (All-nil P)
@@ -164,8 +164,8 @@ pub record DecidesWell (building : Plan) (base : RegisterState) (accepted : List
   pub batch : decision.next.batch ≡ drop sealed accepted ++ added
   pub few : length added ≤ 1
   pub fits : FitAfter building base accepted added
-  pub told : ((e : Entry) → IsHeld base accepted e → IsAllotted building e)
-      → All (IsHeld base (accepted ++ added)) (told_by building terminal number body decision.reply)
+  pub acknowledged : ((e : Entry) → IsHeld base accepted e → IsAllotted building e)
+      → All (IsHeld base (accepted ++ added)) (acknowledged_by building terminal number body decision.reply)
 
 -- a possible call is of its kiosk, between floors below 64
 call_allotted : (building : Plan) (kiosk number from to car party : ℕ) → IsBuilding building
@@ -234,7 +234,7 @@ module _ (building : Plan) (sound : IsBuilding building) (base : RegisterState) 
   grown : (body : Body) (entry : Entry) (d : Decision) → Fits building here.register entry
       → d.next.register ≡ register_of here.register (entry ∷ [])
       → d.next.batch ≡ here.batch ++ entry ∷ []
-      → told_by building terminal number body d.reply ≡ entry ∷ []
+      → acknowledged_by building terminal number body d.reply ≡ entry ∷ []
       → DecidesWell building base accepted sealed terminal number body d
   grown body entry d fits register batch told = record {
     added = entry ∷ [];
@@ -242,13 +242,13 @@ module _ (building : Plan) (sound : IsBuilding building) (base : RegisterState) 
     batch = batch;
     few = omega arith;
     fits = (fits, tt);
-    told = λ all. subst (λ (x : List Entry). All (IsHeld base (accepted ++ entry ∷ [])) x) (sym told)
+    acknowledged = λ all. subst (λ (x : List Entry). All (IsHeld base (accepted ++ entry ∷ [])) x) (sym told)
         (one_held (IsHeld base (accepted ++ entry ∷ [])) entry (inl (Contains-push accepted entry)));
   }
 
   stays : (body : Body) (d : Decision) → d.next.register ≡ here.register → d.next.batch ≡ here.batch
       → (((e : Entry) → IsHeld base accepted e → IsAllotted building e)
-      → All (IsHeld base accepted) (told_by building terminal number body d.reply))
+      → All (IsHeld base accepted) (acknowledged_by building terminal number body d.reply))
       → DecidesWell building base accepted sealed terminal number body d
   stays body d register batch told = record {
     added = [];
@@ -256,8 +256,8 @@ module _ (building : Plan) (sound : IsBuilding building) (base : RegisterState) 
     batch = batch ∙ sym (append-nil (drop sealed accepted));
     few = omega arith;
     fits = tt;
-    told = λ all. subst (λ (r : List Entry).
-        All (IsHeld base r) (told_by building terminal number body d.reply))
+    acknowledged = λ all. subst (λ (r : List Entry).
+        All (IsHeld base r) (acknowledged_by building terminal number body d.reply))
         (sym (append-nil accepted)) (told all);
   }
 
@@ -388,7 +388,7 @@ module _ (building : Plan) (sound : IsBuilding building) (base : RegisterState) 
   decides_after body None d (Some reason) q h =
       subst (DecidesWell building base accepted sealed terminal number body) (some_is _ d h)
       (stays body (record { reply = Refused reason; next = here }) refl refl (λ all.
-      none_held (IsHeld base accepted) _ (told-refused building terminal number body reason)))
+      none_held (IsHeld base accepted) _ (acknowledged-refused building terminal number body reason)))
   decides_after body (Some car) d (Some reason) q h = cc
 
   pub decides_well : (body : Body) (letter : Option ℕ) (d : Decision)

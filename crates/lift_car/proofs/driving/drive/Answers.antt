@@ -22,17 +22,17 @@ returns-in-Err-clause-drive g c =
         ends = inr (omega (arith, so_far.1), c.in-Err.ensures.end);
         number = c.in-Err.ensures.number;
         stays = c.in-Err.ensures.parked;
-        tells = tells_along g.C.Car.told _ _ _ (last_stop so_far.0) (tells_last g.C.Car.told g.C.Car.goes (HaltsBeside g.P.Port.view g.C.Halts.halts) _ so_far.0 _ _ so_far.2) c.in-Err.ensures.parked;
+        tells = tells_along g.C.Car.stands _ _ _ (last_stop so_far.0) (tells_last g.C.Car.stands g.C.Car.goes (HaltsBeside g.P.Port.view g.C.Halts.halts) _ so_far.0 _ _ so_far.2) c.in-Err.ensures.parked;
       }),
     )
 
 pub returns-in-Err-clause-late : goal.returns-in-Err-clause-late
 returns-in-Err-clause-late g c =
     let so_far = c.loop.invariant.run in
-    late_drive g.C.Car.told g.C.Car.goes (HaltsBeside g.P.Port.view g.C.Halts.halts) c.args.limits.looks c.bring_in-opening.result _ so_far.0 c.in-Err.end _ _ _ c.bring_in-opening.ensures.opened so_far.2 c.in-Err.ensures.end
+    late_drive g.C.Car.stands g.C.Car.goes (HaltsBeside g.P.Port.view g.C.Halts.halts) c.args.limits.looks c.bring_in-opening.result _ so_far.0 c.in-Err.end _ _ _ c.bring_in-opening.ensures.opened so_far.2 c.in-Err.ensures.end
 
 pub returns-in-Err-clause-spent : goal.returns-in-Err-clause-spent
-returns-in-Err-clause-spent g c = spent_drive g.C.Car.told c.args.limits.looks c.in-Err.end _ _ c.in-Err.ensures.end
+returns-in-Err-clause-spent g c = spent_drive g.C.Car.stands c.args.limits.looks c.in-Err.end _ _ c.in-Err.ensures.end
 
 pub loop-preserved : goal.loop-preserved
 loop-preserved g c =
@@ -41,7 +41,7 @@ loop-preserved g c =
     record {
       free = c.in-Ok.ensures.free;
       stays = c.in-Ok.ensures.stays ∙ c.loop.invariant.stays;
-      run = (_, omega (arith, so_far.1, length_push so_far.0 done.0), run_more g.C.Car.told g.C.Car.goes (HaltsBeside g.P.Port.view g.C.Halts.halts) _ so_far.0 done.0 _ _ _ so_far.2 done.1 done.2);
+      run = (_, omega (arith, so_far.1, length_push so_far.0 done.0), run_more g.C.Car.stands g.C.Car.goes (HaltsBeside g.P.Port.view g.C.Halts.halts) _ so_far.0 done.0 _ _ _ so_far.2 done.1 done.2);
     }
 
 pub returns-clause-drive : goal.returns-clause-drive
@@ -62,6 +62,6 @@ returns-clause-drive g c =
         ends = inl (omega (arith, so_far.1), refl, refl);
         number = refl;
         stays = refl;
-        tells = tells_last g.C.Car.told g.C.Car.goes (HaltsBeside g.P.Port.view g.C.Halts.halts) _ so_far.0 _ _ so_far.2;
+        tells = tells_last g.C.Car.stands g.C.Car.goes (HaltsBeside g.P.Port.view g.C.Halts.halts) _ so_far.0 _ _ so_far.2;
       }),
     )

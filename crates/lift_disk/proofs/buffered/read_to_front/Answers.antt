@@ -13,4 +13,4 @@ pub returns-clause-given : goal.returns-clause-given
 returns-clause-given g c =
     let r = c.read_run in
     let long : length r.new.run ≡ c.args.count = r.auto.run ∙ length-take-le c.args.count c.args.room.now (omega (arith, c.requires.count, c.told-room)) in
-    on_ok r.result (given_front (g.R.RunDisk.has_given r.new.self) c.args.sector c.args.count r.new.run _ long) r.ensures.given
+    on_ok r.result (given_front (g.R.RunDisk.has_read_bytes r.new.self) c.args.sector c.args.count r.new.run _ long) r.ensures.given

@@ -77,7 +77,7 @@ loop-index-preserved g c =
     subst (λ m. Drafted old new c.args.start (c.loop-index.gate + (m + 1)) (k + 1) records) long
     (drafted_more old now new c.args.start c.loop-index.gate k records c.loop-index.invariant body (omega (arith, long, room)) (long ∙ is ∙ ap (λ (l : List Record). body_size (length l)) c.base_batch-batch.ensures)
     (subst (λ (b : Batch). IsBody (k + 1) b body) (ap new_batch c.base_batch-batch.ensures) c.put_body-body.ensures.spelled) (base_in_order c.args.register.now c.base_len-count.ensures.lawful)
-    c.write_open_batch.ensures.runs c.in_ok-write_open_batch.ensures.made.calls c.in_ok-write_open_batch.ensures.made.writes c.in_ok-write_open_batch.ensures.cause.ok c.in_ok-write_open_batch.ensures.told.ok
+    c.write_open_batch.ensures.runs c.in_ok-write_open_batch.ensures.made.calls c.in_ok-write_open_batch.ensures.made.writes c.in_ok-write_open_batch.ensures.cause.ok c.in_ok-write_open_batch.ensures.armed.ok
     (c.put_body-body.ensures.exact ∙ ap (batch_body (k + 1)) (ap new_batch c.base_batch-batch.ensures)) c.in_ok-write_open_batch.ensures.follows.all c.write_open_batch.ensures.touched c.in_ok-write_open_batch.ensures.written (g.met.D.Disk.whole c.loop-index.disk))
 
 pub returns-clause-gate : goal.returns-clause-gate
@@ -118,7 +118,7 @@ returns-in_err-write_open_batch-clause-performs g c =
     record {
       runs = runs_then old now new so_far.runs c.write_open_batch.ensures.runs;
       cause = record { ok = rw fault.1 tt; err = rw fault.1 (omega (arith, so_far.failures, c.in_err-write_open_batch.ensures.cause.err)) };
-      told = err_ends _ c.from_residual.result old new c.from_residual.ensures.1 (fails_then old now new so_far.runs so_far.told c.in_err-write_open_batch.ensures.told.err);
+      armed = err_ends _ c.from_residual.result old new c.from_residual.ensures.1 (fails_then old now new so_far.runs so_far.armed c.in_err-write_open_batch.ensures.armed.err);
       made = record {
         calls = rw fault.1 tt;
         writes = rw fault.1 tt;
@@ -142,7 +142,7 @@ returns-clause-performs g c =
     record {
       runs = so_far.runs;
       cause = record { ok = so_far.failures; err = tt };
-      told = record { ok = so_far.told; err = tt };
+      armed = record { ok = so_far.armed; err = tt };
       made = record {
         calls = omega (arith, so_far.calls, taken);
         writes = omega (arith, so_far.writes, taken);

@@ -31,11 +31,11 @@ returns-clause-written g c =
           ∙ ap (λ (s : List ℕ). slice_set (overwritten old.image (c.args.gate + 1) c.args.body.now) c.args.gate s) c.mark.ensures;
     }) c.write.ensures.stores
 
-pub returns-clause-told : goal.returns-clause-told
-returns-clause-told g c =
+pub returns-clause-armed : goal.returns-clause-armed
+returns-clause-armed g c =
     let mid = g.D.Disk.state c.write_sectors.new.disk in
     let new = g.D.Disk.state c.write.new.self in
-    ends_then (g.D.Disk.state c.args.disk.now) mid new c.write_sectors.ensures.performs.runs c.in_ok-write_sectors.ensures.performs.told.ok
+    ends_then (g.D.Disk.state c.args.disk.now) mid new c.write_sectors.ensures.performs.runs c.in_ok-write_sectors.ensures.performs.armed.ok
     c.write.result (access_ends c.write.result (Write c.args.gate c.mark.result) mid new c.write.ensures.access)
 
 pub returns-in_err-write_sectors-clause-follows : goal.returns-in_err-write_sectors-clause-follows

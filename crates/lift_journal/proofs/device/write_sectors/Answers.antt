@@ -26,7 +26,7 @@ loop-sector-preserved g c =
       written = written_more (g.D.Disk.state c.args.disk.now) now new c.args.first c.args.sectors.now c.loop-sector.sector-index c.loop-sector.invariant.written
           c.loop-sector-test.true (g.met.D.Disk.only_now c.loop-sector.disk) c.write.ensures.access.goes_on
           (subst (λ n. now.is_honest → Touches n now new) c.loop-sector.invariant.at c.write.ensures.touched)
-          c.in_ok-write.ensures.access.fault.ok c.write.ensures.access.writes (one_passes now new c.write.ensures.access.goes_on c.in_ok-write.ensures.access.told.ok c.in_ok-write.ensures.access.told.same)
+          c.in_ok-write.ensures.access.fault.ok c.write.ensures.access.writes (one_passes now new c.write.ensures.access.goes_on c.in_ok-write.ensures.access.armed.ok c.in_ok-write.ensures.access.armed.same)
           (subst (λ n. new.trace ≡ now.trace ++ Write n (get_or c.args.sectors.now c.loop-sector.sector-index []) ∷ []) c.loop-sector.invariant.at c.in_ok-write.ensures.access.recorded.ok) c.requires.there (g.met.D.Disk.whole c.args.disk.now)
           (subst (λ n. now.is_honest → now.is_steady → IsSteadyAt (slice_set now.image n (get_or c.args.sectors.now c.loop-sector.sector-index [])) new) c.loop-sector.invariant.at c.in_ok-write.ensures.stores.steady);
     }
@@ -42,8 +42,8 @@ returns-in_err-write-clause-performs g c =
     record {
       runs = runs_then old now new so_far.runs (runs_call now new goes_on);
       cause = record { ok = rw fault.1 tt; err = rw fault.1 (let more : old.failures < new.failures = omega (arith, so_far.failures, c.in_err-write.ensures.access.fault.err) in more) };
-      told = err_ends _ c.from_residual.result old new c.from_residual.ensures.1
-          (fails_then old now new so_far.runs so_far.told (one_fails now new goes_on c.in_err-write.ensures.access.told.err c.in_err-write.ensures.access.told.short));
+      armed = err_ends _ c.from_residual.result old new c.from_residual.ensures.1
+          (fails_then old now new so_far.runs so_far.armed (one_fails now new goes_on c.in_err-write.ensures.access.armed.err c.in_err-write.ensures.access.armed.short));
       made = record {
         calls = rw fault.1 tt;
         writes = rw fault.1 tt;

@@ -43,10 +43,10 @@ returns-clause-keeps g c =
     (added_reads g.D.Disk.state middle after c.args.records.now.items same c.append.ensures.breaks.shape c.append.result adds c.requires.entries)
     (added_lists g.D.Disk.state middle after c.args.records.now.items same c.append.ensures.breaks.shape c.append.result adds) c.append.ensures.goes.used c.append.ensures.goes.second c.append.ensures.breaks.stays
 
-pub returns-clause-told : goal.returns-clause-told
-returns-clause-told g c =
+pub returns-clause-armed : goal.returns-clause-armed
+returns-clause-armed g c =
     answers_then c.append.result (g.D.Disk.state c.args.journal.now.device) (g.D.Disk.state c.make_room.new.journal.device) (g.D.Disk.state c.append.new.self.device)
-    c.make_room.ensures.runs c.in_ok-make_room.ensures.told.ok c.append.ensures.calls.told
+    c.make_room.ensures.runs c.in_ok-make_room.ensures.armed.ok c.append.ensures.calls.armed
 
 pub returns-clause-fails : goal.returns-clause-fails
 returns-clause-fails g c =
@@ -73,6 +73,6 @@ returns-clause-fails g c =
     let honest_new = same.1 honest_mid in
     let keeps = then.keeps honest_mid in
     adding_fails plan journal.shape.half journal.is_in_second_half journal.used register batch old mid new c.len.result middle.shape.half middle.is_in_second_half middle.used
-    (count ∙ ap length kept ∙ length-map batch EntryRecord) (ap (λ (s : Shape). s.half) c.make_room.ensures.breaks.shape) room.second room.used room.made.calls (disk_calls c.append.result mid new is c.append.ensures.calls.told)
+    (count ∙ ap length kept ∙ length-map batch EntryRecord) (ap (λ (s : Shape). s.half) c.make_room.ensures.breaks.shape) room.second room.used room.made.calls (disk_calls c.append.result mid new is c.append.ensures.calls.armed)
     (append_fails plan middle.shape middle.is_in_second_half middle.used register mid then batch records kept fit new honest_mid honest_new c.requires.entries picks (g.met.D.Disk.may_lose after.device)
     (c.append.ensures.fails is honest_mid inert_mid keeps.batches keeps.holds)))

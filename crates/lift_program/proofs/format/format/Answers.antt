@@ -13,13 +13,13 @@ returns-in-Ok-format-clause-made g c =
     let left = c.format.new.disk in
     is_made _ c.args.image.now c.args.building.now c.in-Ok.building c.args.half c.in-Ok-create.disk left _ c.new-in-Ok-format.ensures c.in-Ok.ensures.found c.shape-shape.ensures.lawful
     (record { made = c.in-Ok-create.ensures.made; uncalled = c.in-Ok-create.ensures.calls }) c.in-Ok-format.ensures.performs.runs (search rules) (search rules) (search rules) (search rules) (search rules)
-    (λ honest. subst (λ s. ReadsAs s [] [] (sector_file_state_of g.I.Told.ToldFile.holds left).image) c.shape-shape.ensures.value (c.in-Ok-format.ensures.empty honest))
+    (λ honest. subst (λ s. ReadsAs s [] [] (sector_file_state_of g.I.Listed.ListedFile.holds left).image) c.shape-shape.ensures.value (c.in-Ok-format.ensures.empty honest))
     c.in-Ok-format.ensures.synced
 
 pub returns-in-Err-create-clause-failure : goal.returns-in-Err-create-clause-failure
 returns-in-Err-create-clause-failure g c = (
   reads_building _ c.in-Ok.building c.in-Ok.ensures.found,
-  has_no_image _ _ c.in-Err-create.cause _ c.refused-fault.ensures.same c.refused-fault.ensures.fault c.refused-fault.ensures.told c.in-Err-create.ensures.refused,
+  has_no_image _ _ c.in-Err-create.cause _ c.refused-fault.ensures.same c.refused-fault.ensures.fault c.refused-fault.ensures.caused c.in-Err-create.ensures.refused,
 )
 
 pub returns-clause-failure : goal.returns-clause-failure
@@ -27,6 +27,6 @@ returns-clause-failure g c =
     let image = c.in-Ok-create.disk in
     let left = c.format.new.disk in
     let here = c.in-Err-format.ensures in
-    let stops = subst (λ s. MakesPrefix (format_calls s) (sector_file_state_of g.I.Told.ToldFile.holds image) (sector_file_state_of g.I.Told.ToldFile.holds left)) c.shape-shape.ensures.value here.performs.follows.front in
+    let stops = subst (λ s. MakesPrefix (format_calls s) (sector_file_state_of g.I.Listed.ListedFile.holds image) (sector_file_state_of g.I.Listed.ListedFile.holds left)) c.shape-shape.ensures.value here.performs.follows.front in
     is_unformatted _ c.args.image.now c.args.building.now c.in-Ok.building c.args.half image left c.new-in-Err-format.result (Journal (OfJournal Disk)) c.new-in-Err-format.ensures c.in-Ok.ensures.found
     (record { made = c.in-Ok-create.ensures.made; uncalled = c.in-Ok-create.ensures.calls }) refl stops here.performs.runs here.performs.cause.err

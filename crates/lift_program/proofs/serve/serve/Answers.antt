@@ -3,7 +3,7 @@ use Rattle.std.specs.Io.KnownBytes.{Appends}
 use Rattle.lift_program.specs.Ends.{serving_text}
 use Rattle.lift_program.proofs.Asked.{served_end}
 use Rattle.lift_program.proofs.Stages.{is_whole_yet}
-use Rattle.lift_program.proofs.Telling.{heard_errors, told_at_once}
+use Rattle.lift_program.proofs.Telling.{notified_errors, reported_at_once}
 use Rattle.lift_program.proofs.serve.serve.Goals as goal
 
 pub returns-clause-end : goal.returns-clause-end
@@ -19,7 +19,7 @@ returns-clause-end g c =
           is_left = sym c.left_served.ensures;
           ran = c.serve-served.ensures.ran;
           keeps = c.serve-served.ensures.keeps;
-          told = search rules;
+          reported = search rules;
           reports = c.serve-served.ensures.reports;
         }),
       ),
@@ -42,5 +42,5 @@ returns-clause-at_once g c =
     let served = c.serve-served.result.0 in
     let is = served.flusher.writer.is_broken in
     let whole = is_whole_yet _ c.args.asked.policy ready.keeper of.allocator of.flusher ready.group ready.is_kept.whole in
-    told_at_once contents c.args.errors served.witness.errors was is c.serve-served.result.1.fault c.fault_of.result whole (search rules)
-    (heard_errors contents was is (record { errors = c.args.errors }) served.witness c.serve-served.ensures.heard)
+    reported_at_once contents c.args.errors served.witness.errors was is c.serve-served.result.1.fault c.fault_of.result whole (search rules)
+    (notified_errors contents was is (record { errors = c.args.errors }) served.witness c.serve-served.ensures.notified)

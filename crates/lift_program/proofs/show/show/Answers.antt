@@ -9,7 +9,7 @@ use Rattle.lift_program.proofs.show.show.Goals as goal
 
 pub returns-in-Ok-write_rows-clause-shown : goal.returns-in-Ok-write_rows-clause-shown
 returns-in-Ok-write_rows-clause-shown g c =
-    let state = unwritten_state_of g.I.Told.ToldFile.holds in
+    let state = unwritten_state_of g.I.Listed.ListedFile.holds in
     let opened = c.in-Ok-image_to_show.disk in
     let left = c.left_by.result in
     let writer = c.in-Ok-open.keeper.writer in
@@ -43,7 +43,7 @@ returns-clause-failure g c =
 
 pub returns-clause-front : goal.returns-clause-front
 returns-clause-front g c =
-    let state = buffered_state_of (unwritten_state_of g.I.Told.ToldFile.holds) in
+    let state = buffered_state_of (unwritten_state_of g.I.Listed.ListedFile.holds) in
     let opened = c.in-Ok-image_to_show.disk in
     let left = c.left_by-in-Err-write_rows.result in
     let writer = c.in-Ok-open.keeper.writer in

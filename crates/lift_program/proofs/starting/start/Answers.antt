@@ -1,8 +1,8 @@
 use Rattle.std.proofs.Common.{refl, subst, sym}
-use Rattle.lift_program.specs.Ends.{TellsLine, line_at_once, line_of, was_told}
+use Rattle.lift_program.specs.Ends.{TellsLine, line_at_once, line_of, was_reported}
 use Rattle.lift_program.specs.declared.words.Request.TheVariants.{Serve}
 use Rattle.lift_program.proofs.Asked.{end_keeps}
-use Rattle.lift_program.proofs.Telling.{served_told, told_once}
+use Rattle.lift_program.proofs.Telling.{served_reported, reported_once}
 use Rattle.lift_program.proofs.starting.start.Goals.{in-Ok, in-Err}
 use Rattle.lift_program.proofs.starting.start.Goals as goal
 
@@ -49,7 +49,7 @@ returns-clause-line g c =
     let b = c.match-outcome.end.1 in
     let first : TellsLine contents (line_at_once c.match-outcome.end.0) a b =
     elim c.match-outcome.branch [
-      | in-Ok w ↦ rw w.end-is (served_told contents a w.serve-outcome.result.1 (Unit {0}) (Unit {0}) w.serve-outcome.result.0 w.serve-outcome.ensures.at_once w.serve-outcome.ensures.quiet)
+      | in-Ok w ↦ rw w.end-is (served_reported contents a w.serve-outcome.result.1 (Unit {0}) (Unit {0}) w.serve-outcome.result.0 w.serve-outcome.ensures.at_once w.serve-outcome.ensures.quiet)
       | in-Err w ↦ rw w.end-is (subst (λ line. TellsLine contents line a a) (sym (rw w.in-Err.is at c.prepare-input.ensures.quiet)) refl)
     ] in
-    told_once contents a b c.tell.new.errors (was_told c.match-outcome.end.0) (line_of c.match-outcome.end.0) first c.tell.ensures.told c.tell.ensures.quiet
+    reported_once contents a b c.tell.new.errors (was_reported c.match-outcome.end.0) (line_of c.match-outcome.end.0) first c.tell.ensures.line c.tell.ensures.quiet

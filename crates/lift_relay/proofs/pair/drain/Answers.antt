@@ -1,13 +1,13 @@
 use Rattle.std.proofs.Common.{inl, refl, sym, subst}
 use Rattle.lift_parts.specs.Allocator.{AllocatorState}
 use Rattle.lift_parts.specs.Turns.{AllocatorTurns, NoMore, NoFlush}
-use Rattle.lift_relay.specs.lemmas.Heard.{flush_stays, heard_none, heard_on, turns_stay}
+use Rattle.lift_relay.specs.lemmas.Notified.{flush_stays, notified_none, notified_on, turns_stay}
 use Rattle.lift_relay.proofs.Draining.{sending_more, sends_on, waits_by}
 use Rattle.lift_relay.proofs.Ran.{one_flush}
 use Rattle.lift_relay.proofs.pair.drain.Goals as goal
 
 pub loop-init : goal.loop-init
-loop-init g c = record { closed = c.requires.closed; allocator = NoMore; sends = inl refl; heard = heard_none g.V.Witness.hears c.args.flusher.now.writer.is_broken c.args.witness.now; flusher = NoFlush }
+loop-init g c = record { closed = c.requires.closed; allocator = NoMore; sends = inl refl; notified = notified_none g.V.Witness.is_notified c.args.flusher.now.writer.is_broken c.args.witness.now; flusher = NoFlush }
 
 pub loop-preserved : goal.loop-preserved
 loop-preserved g c =
@@ -19,8 +19,8 @@ loop-preserved g c =
       closed = sent.ensures.closed;
       allocator = sending_more (g.P.Policy.chooses a.policy) a c.loop.allocator.allocator sent.new.self.allocator sent.result i.allocator sent.ensures.sent sent.ensures.full;
       sends = sends_on a c.loop.allocator.allocator sent.new.self.allocator sent.result i.sends (λ is. (sent.ensures.sent is).1) (λ no. waits_by _ _ (sent.ensures.full no));
-      heard = heard_on g.V.Witness.hears _ _ _ c.args.witness.now c.loop.witness c.turn.new.witness
-          (turns_stay g.D.Disk.state _ _ _ _ i.flusher) (flush_stays g.D.Disk.state _ _ _ e.turn) i.heard e.heard;
+      notified = notified_on g.V.Witness.is_notified _ _ _ c.args.witness.now c.loop.witness c.turn.new.witness
+          (turns_stay g.D.Disk.state _ _ _ _ i.flusher) (flush_stays g.D.Disk.state _ _ _ e.turn) i.notified e.notified;
       flusher = one_flush g.D.Disk.state _ _ _ _ _ _ _ _ i.flusher e.turn c.err.ensures.value c.or-first.ensures;
     }
 

@@ -10,4 +10,4 @@ returns-clause-found c =
     empty_found c.args.building.now (state_of c.format.new.disk).image reads (c.in-Ok.ensures.half tt)
 
 pub unreachable-requires : goal.unreachable-requires
-unreachable-requires c = never_fails (state_of c.in_ok-disk.disk) (state_of c.format.new.disk) tt (λ call later fails. fails) refl c.in-Err.ensures.performs.told.err
+unreachable-requires c = never_fails (state_of c.in_ok-disk.disk) (state_of c.format.new.disk) tt (λ call later fails. fails) refl c.in-Err.ensures.performs.armed.err

@@ -1,6 +1,6 @@
 use Rattle.std.proofs.Common.{subst}
 use Rattle.lift_parts.specs.Flusher.{FlusherState}
-use Rattle.lift_relay.specs.Heard.{FailureHeard}
+use Rattle.lift_relay.specs.Notified.{FailureNotified}
 use Rattle.lift_policy.specs.Present.{IsDispatched, any_cars}
 use Rattle.lift_serve.proofs.Relayings.{have_served, report_of, serving_keeps}
 use Rattle.lift_serve.proofs.serving.serve.Goals as goal
@@ -19,12 +19,12 @@ returns-clause-ran g c =
     have_served (IsDispatched any_cars g.P.Policy.chooses) g.D.Disk.state c.args.group.allocator begun.result.0.allocator ran.result.0.allocator c.args.group.flusher begun.result.0.flusher ran.result.0.flusher
     ran.ensures.ran.0 ran.result.1 _ _ begun.ensures.allocator begun.ensures.flusher ran.ensures.ran.1 ran.ensures.ran.2 c.into_end.ensures.fault.1
 
-pub returns-clause-heard : goal.returns-clause-heard
-returns-clause-heard g c =
+pub returns-clause-notified : goal.returns-clause-notified
+returns-clause-notified g c =
     let ran = c.run_beside-ran in
     let begun = c.begun-parts in
-    subst (λ (heard : FlusherState g.row.D.Denot × g.row.V.Denot). FailureHeard g.V.Witness.hears heard.0.writer.is_broken ran.result.0.flusher.writer.is_broken heard.1 ran.result.0.witness)
-    (λ i. (begun.ensures.flusher i, begun.ensures.witness i)) ran.ensures.heard
+    subst (λ (heard : FlusherState g.row.D.Denot × g.row.V.Denot). FailureNotified g.V.Witness.is_notified heard.0.writer.is_broken ran.result.0.flusher.writer.is_broken heard.1 ran.result.0.witness)
+    (λ i. (begun.ensures.flusher i, begun.ensures.witness i)) ran.ensures.notified
 
 pub returns-clause-reports : goal.returns-clause-reports
 returns-clause-reports g c =

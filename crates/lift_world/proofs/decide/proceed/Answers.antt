@@ -15,12 +15,12 @@ serve-requires-clause-fits c =
 
 pub returns-in-RepeatedStop-clause-carries : goal.returns-in-RepeatedStop-clause-carries
 returns-in-RepeatedStop-clause-carries c =
-    subst (λ (o : Option Decided). CarriesOut c.args.building.now c.args.register.now c.args.positions.now c.args.command.now None o c.args.register.now c.stand.new.positions) (sym c.told-in-RepeatedStop.ensures)
+    subst (λ (o : Option Decided). CarriesOut c.args.building.now c.args.register.now c.args.positions.now c.args.command.now None o c.args.register.now c.stand.new.positions) (sym c.reply_alone-in-RepeatedStop.ensures)
     (carries_stand c.args.building.now c.args.register.now c.args.positions.now c.args.command.now c.in-RepeatedStop.car c.in-RepeatedStop.at c.stand.result c.stand.new.positions
     (subst (λ (v : Verdict). IsVerdictOf c.args.building.now c.args.register.now c.args.positions.now c.args.command.now v) c.in-RepeatedStop.is c.requires.verdict) c.stand.ensures.positions c.stand.ensures.next)
 
 pub returns-in-Place-clause-carries : goal.returns-in-Place-clause-carries
 returns-in-Place-clause-carries c =
-    subst (λ (o : Option Decided). CarriesOut c.args.building.now c.args.register.now c.args.positions.now c.args.command.now None o c.args.register.now c.stand-in-Place.new.positions) (sym c.told-in-Place.ensures)
+    subst (λ (o : Option Decided). CarriesOut c.args.building.now c.args.register.now c.args.positions.now c.args.command.now None o c.args.register.now c.stand-in-Place.new.positions) (sym c.reply_alone-in-Place.ensures)
     (carries_place c.args.building.now c.args.register.now c.args.positions.now c.args.command.now c.in-Place.car c.in-Place.at c.stand-in-Place.result c.stand-in-Place.new.positions
     (subst (λ (v : Verdict). IsVerdictOf c.args.building.now c.args.register.now c.args.positions.now c.args.command.now v) c.in-Place.is c.requires.verdict) c.stand-in-Place.ensures.positions c.stand-in-Place.ensures.next)

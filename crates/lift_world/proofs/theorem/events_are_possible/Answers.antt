@@ -16,7 +16,7 @@ use Rattle.lift_base.specs.declared.command.Body.TheVariants.{Call, Stop as Stop
 use Rattle.lift_base.specs.declared.command.Reply.{Reply}
 use Rattle.lift_policy.specs.Terminals.{kiosk_floor}
 use Rattle.lift_world.specs.declared.event.Taken.{Taken}
-use Rattle.lift_world.specs.World.{World, told_by, told_in, acknowledged}
+use Rattle.lift_world.specs.World.{World, acknowledged_by, acknowledged_in, acknowledged}
 use Rattle.lift_world.specs.Possible.{StoresTheReply, ReopeningsUnplace, AcknowledgesReplies}
 use Rattle.lift_world.specs.lemmas.Entries.{flat_map_held}
 use Rattle.lift_world.proofs.theorem.events_are_possible.Goals as goal
@@ -25,17 +25,17 @@ none_placed : (n : ℕ) → AllByRecursion (λ (p : Option Position). p ≡ None
 none_placed zero = tt
 none_placed (suc n) = (refl, none_placed n)
 
-one_told : (w : World) (c : Taken) (e : Entry) → Contains w.given c → Contains (told_in w.building c) e → Contains (acknowledged w) e
-one_told w c e given told = flat_map_held (told_in w.building) w.given c e given told
+one_told : (w : World) (c : Taken) (e : Entry) → Contains w.given c → Contains (acknowledged_in w.building c) e → Contains (acknowledged w) e
+one_told w c e given told = flat_map_held (acknowledged_in w.building) w.given c e given told
 
 acknowledges : (w : World) → AcknowledgesReplies w
 acknowledges w c given = (
   λ to party car body reply. let e : Entry = Allot c.terminal c.number (kiosk_floor w.building c.terminal) to car party in
-      one_told w c e given (subst (λ (b : Body). Contains (told_by w.building c.terminal c.number b c.reply) e) (sym body)
-      (subst (λ (r : Reply). Contains (told_by w.building c.terminal c.number (Call to party) r) e) (sym reply) (Contains-push [] e))),
+      one_told w c e given (subst (λ (b : Body). Contains (acknowledged_by w.building c.terminal c.number b c.reply) e) (sym body)
+      (subst (λ (r : Reply). Contains (acknowledged_by w.building c.terminal c.number (Call to party) r) e) (sym reply) (Contains-push [] e))),
   λ floor dir next body reply. let e : Entry = Stopping c.terminal c.number floor dir in
-      one_told w c e given (subst (λ (b : Body). Contains (told_by w.building c.terminal c.number b c.reply) e) (sym body)
-      (subst (λ (r : Reply). Contains (told_by w.building c.terminal c.number (StopBody floor dir) r) e) (sym reply) (Contains-push [] e))),
+      one_told w c e given (subst (λ (b : Body). Contains (acknowledged_by w.building c.terminal c.number b c.reply) e) (sym body)
+      (subst (λ (r : Reply). Contains (acknowledged_by w.building c.terminal c.number (StopBody floor dir) r) e) (sym reply) (Contains-push [] e))),
 )
 
 stored : (w : World) → StoresTheReply w

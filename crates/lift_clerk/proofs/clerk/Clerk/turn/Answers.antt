@@ -10,7 +10,7 @@ use Rattle.lift_keeper.specs.Writer.{WriterView}
 use Rattle.lift_clerk.specs.declared.counts.Counts.{Counts}
 use Rattle.lift_clerk.specs.Clerk.{ClerkState}
 use Rattle.lift_clerk.specs.Turn.{IsTurn, IsFailedTurn, IsBrokenTurn}
-use Rattle.lift_clerk.specs.Answering.{replies_told}
+use Rattle.lift_clerk.specs.Answering.{stored_replies}
 use Rattle.lift_clerk.proofs.Turning.{owes_all, serves_all, serves_rest, is_whole, same_keeper, good_turn, failed_turn, broken_turn, committed, not_committed, calls_on_ok, calls_on_err}
 use Rattle.lift_clerk.proofs.clerk.Clerk.turn.Goals as goal
 
@@ -21,7 +21,7 @@ returns-in-Ok-clause-answered g c =
     let now = c.scan_desk.new.scanner in
     let answers = c.scan_desk.new.found.items in
     let serves = serves_all s.desk.now (g.P.Policy.chooses s.parts.policy) s.parts.seat now.seat c.answer_all.new.self s.parts.keeper now.keeper answers true c.self.invariant.seated all c.answer_all.ensures.stored c.answer_all.ensures.in_range in
-    serves_rest s.parts.seat c.answer_all.new.self all.scans.visits (replies_told true answers) serves c.self.invariant.answered
+    serves_rest s.parts.seat c.answer_all.new.self all.scans.visits (stored_replies true answers) serves c.self.invariant.answered
 
 pub returns-in-Err-clause-answered : goal.returns-in-Err-clause-answered
 returns-in-Err-clause-answered g c =
@@ -30,7 +30,7 @@ returns-in-Err-clause-answered g c =
     let now = c.scan_desk.new.scanner in
     let answers = c.scan_desk.new.found.items in
     let serves = serves_all s.desk.now (g.P.Policy.chooses s.parts.policy) s.parts.seat now.seat c.answer_all-in-Err.new.self s.parts.keeper now.keeper answers false c.self.invariant.seated all c.answer_all-in-Err.ensures.stored c.answer_all-in-Err.ensures.in_range in
-    serves_rest s.parts.seat c.answer_all-in-Err.new.self all.scans.visits (replies_told false answers) serves c.self.invariant.answered
+    serves_rest s.parts.seat c.answer_all-in-Err.new.self all.scans.visits (stored_replies false answers) serves c.self.invariant.answered
 
 pub invariant_of-self : goal.invariant_of-self
 invariant_of-self g c =
@@ -41,7 +41,7 @@ invariant_of-self g c =
     let serves = serves_all s.desk.now (g.P.Policy.chooses s.parts.policy) s.parts.seat now.seat c.answer_all.new.self s.parts.keeper now.keeper answers true c.self.invariant.seated all c.answer_all.ensures.stored c.answer_all.ensures.in_range in
     record {
       seated = c.answer_all.ensures.seated;
-      answered = serves_rest s.parts.seat c.answer_all.new.self all.scans.visits (replies_told true answers) serves c.self.invariant.answered;
+      answered = serves_rest s.parts.seat c.answer_all.new.self all.scans.visits (stored_replies true answers) serves c.self.invariant.answered;
       empty_batch = inl (ap (λ (t : State). t.batch) c.in-Ok.ensures.begins);
     }
 
@@ -54,7 +54,7 @@ invariant_of-self-in-Err g c =
     let serves = serves_all s.desk.now (g.P.Policy.chooses s.parts.policy) s.parts.seat now.seat c.answer_all-in-Err.new.self s.parts.keeper now.keeper answers false c.self.invariant.seated all c.answer_all-in-Err.ensures.stored c.answer_all-in-Err.ensures.in_range in
     record {
       seated = c.answer_all-in-Err.ensures.seated;
-      answered = serves_rest s.parts.seat c.answer_all-in-Err.new.self all.scans.visits (replies_told false answers) serves c.self.invariant.answered;
+      answered = serves_rest s.parts.seat c.answer_all-in-Err.new.self all.scans.visits (stored_replies false answers) serves c.self.invariant.answered;
       empty_batch = inr c.in-Err.ensures.commits.breaks;
     }
 

@@ -11,7 +11,7 @@ returns-clause-access g c =
           d.calls.count m.calls.count d.writes.count m.writes.count d.trace.calls c.then-self.result.calls
           (ap (λ n. n.count) c.make_room.ensures.counts.0 ∙ c.next-self.ensures) c.in_ok-make_room.ensures.faults.ok);
       fault = search rules;
-      told = search rules;
+      armed = search rules;
       writes = search rules;
       recorded = search rules;
     }

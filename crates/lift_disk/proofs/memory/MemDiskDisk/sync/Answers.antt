@@ -31,7 +31,7 @@ returns-clause-access c =
           (c.note_sync.ensures.1 ∙ ap (λ (l : List Bool). m.history.calls ++ Sync l ∷ []) c.loose.ensures) c.next-self.ensures
           (λ i is. none_flagged (length m.sectors.loose.items) i (subst (λ (l : List Bool). IsFlagged l i) c.sync.ensures.loose is)));
       fault = search rules;
-      told = search rules;
+      armed = search rules;
       writes = search rules;
       recorded = search rules;
     }

@@ -13,7 +13,7 @@ pub returns-clause-access : goal.returns-clause-access
 returns-clause-access c = record {
   goes_on = opened_goes_on (state_of c.args.self.now) (state_of c.announce.new.self) (state_of c.write_run.new.self) c.args.sector c.announce.ensures.announced c.write_run.ensures.leaves c.write_run.ensures.access.goes_on;
   fault = search rules;
-  told = search rules;
+  armed = search rules;
   writes = search rules;
   recorded = search rules;
 }

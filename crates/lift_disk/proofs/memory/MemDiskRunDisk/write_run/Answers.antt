@@ -26,7 +26,7 @@ returns-clause-access c =
           c.args.sector c.args.run.now (c.requires.announced tt) c.note_run.new.self.first c.note_run.new.self.calls c.next-self.result.count c.next-self-2.result.count c.then-self.result.calls
           c.note_run.ensures.0 c.note_run.ensures.1 c.next-self.ensures);
       fault = search rules;
-      told = search rules;
+      armed = search rules;
       writes = search rules;
       recorded = search rules;
     }

@@ -8,8 +8,8 @@ use Rattle.lift_disk.proofs.sectors.SectorFile.create.Goals as goal
 
 pub returns-in-Ok-named-clause-made : goal.returns-in-Ok-named-clause-made
 returns-in-Ok-named-clause-made g c =
-    let gives = g.F.ToldFile.gives in
-    let holds = g.F.ToldFile.holds in
+    let gives = g.F.ListedFile.gives in
+    let holds = g.F.ListedFile.holds in
     let opens = g.O.FileOpener.opens c.args.opener to_be_made c.args.path.now in
     let names = g.O.FileOpener.names c.args.opener c.args.path.now in
     let file = c.in-Ok.opened.0 in
@@ -28,7 +28,7 @@ returns-in-Ok-named-clause-made g c =
 
 pub returns-in-Err-named-clause-refused : goal.returns-in-Err-named-clause-refused
 returns-in-Err-named-clause-refused g c =
-    let gives = g.F.ToldFile.gives in
+    let gives = g.F.ListedFile.gives in
     let file = c.in-Ok.opened.0 in
     let opened : g.O.FileOpener.opens c.args.opener to_be_made c.args.path.now (Some file) = search rules in
     let failed = c.in-Err-named.failed.file in

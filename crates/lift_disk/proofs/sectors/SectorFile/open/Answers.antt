@@ -8,12 +8,12 @@ use Rattle.lift_disk.proofs.sectors.SectorFile.open.Goals as goal
 
 pub returns-in-Ok-locked-clause-measured : goal.returns-in-Ok-locked-clause-measured
 returns-in-Ok-locked-clause-measured g c =
-    let gives = g.F.ToldFile.gives in
-    let holds = g.F.ToldFile.holds in
+    let gives = g.F.ListedFile.gives in
+    let holds = g.F.ListedFile.holds in
     let file = c.in-Ok.file in
     let bytes = c.in-Ok-locked.bytes in
     let traced = c.in-Ok-locked.traced in
-    let told = c.in-Ok-locked.ensures.told in record {
+    let told = c.in-Ok-locked.ensures.listed in record {
       file = file;
       opened = search rules;
       bytes = bytes;

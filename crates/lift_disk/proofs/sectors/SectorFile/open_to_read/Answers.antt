@@ -8,12 +8,12 @@ use Rattle.lift_disk.proofs.sectors.SectorFile.open_to_read.Goals as goal
 
 pub returns-in-Ok-measured-clause-measured : goal.returns-in-Ok-measured-clause-measured
 returns-in-Ok-measured-clause-measured g c =
-    let gives = g.F.ToldFile.gives in
-    let holds = g.F.ToldFile.holds in
+    let gives = g.F.ListedFile.gives in
+    let holds = g.F.ListedFile.holds in
     let file = c.in-Ok.file in
     let bytes = c.in-Ok-measured.bytes in
     let traced = c.in-Ok-measured.looked_at in
-    let told = c.in-Ok-measured.ensures.told in record {
+    let told = c.in-Ok-measured.ensures.listed in record {
       file = file;
       opened = search rules;
       bytes = bytes;

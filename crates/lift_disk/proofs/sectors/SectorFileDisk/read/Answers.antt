@@ -7,4 +7,4 @@ use Rattle.lift_disk.proofs.sectors.SectorFileDisk.read.Goals as goal
 pub returns-clause-gives : goal.returns-clause-gives
 returns-clause-gives g c =
     let r = c.read_run in
-    on_ok r.result (λ gives honest. read_here (g.F.ToldFile.holds (file_of r.new.self.file)).image c.args.sector r.new.run c.args.buffer.now (r.auto.run ∙ c.from_mut.ensures.len) (gives honest)) r.ensures.gives
+    on_ok r.result (λ gives honest. read_here (g.F.ListedFile.holds (file_of r.new.self.file)).image c.args.sector r.new.run c.args.buffer.now (r.auto.run ∙ c.from_mut.ensures.len) (gives honest)) r.ensures.gives

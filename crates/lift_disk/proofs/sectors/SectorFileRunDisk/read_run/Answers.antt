@@ -13,8 +13,8 @@ pub invariant_of-self-2 : goal.invariant_of-self-2
 invariant_of-self-2 g c =
     let r = c.read_sectors in
     let d = c.args.self.now in
-    let old = g.F.ToldFile.holds (file_of d.file) in
-    let new = g.F.ToldFile.holds (file_of r.new.self) in
+    let old = g.F.ListedFile.holds (file_of d.file) in
+    let new = g.F.ListedFile.holds (file_of r.new.self) in
     let did : old.is_honest × (old.size ≡ d.sectors) → ReadsRun c.args.sector r.new.run old new =
     at_sectors old _ _ _ d.sectors (ok_items r.result c.is_err.ensures.value c.if-is_err.false r.ensures.held.made) c.offset_of.ensures (omega (arith, c.requires, r.auto.run)) in
     record {
@@ -29,14 +29,14 @@ pub returns-clause-access : goal.returns-clause-access
 returns-clause-access g c =
     let r = c.read_sectors in
     let d = c.args.self.now in
-    let old = g.F.ToldFile.holds (file_of d.file) in
-    let new = g.F.ToldFile.holds (file_of r.new.self) in
+    let old = g.F.ListedFile.holds (file_of d.file) in
+    let new = g.F.ListedFile.holds (file_of r.new.self) in
     let did : old.is_honest × (old.size ≡ d.sectors) → ReadsRun c.args.sector r.new.run old new =
     at_sectors old _ _ _ d.sectors (ok_items r.result c.is_err.ensures.value c.if-is_err.false r.ensures.held.made) c.offset_of.ensures (omega (arith, c.requires, r.auto.run)) in
     record {
       goes_on = file_goes_on old new d.sectors _ _ _ _ _ _ _ _ c.next-self.ensures (omega (arith, (ok_items r.result c.is_err.ensures.value c.if-is_err.false r.ensures.traced.made.unfailed))) r.ensures.held.same (λ honest. (did honest).rests);
       fault = search rules;
-      told = search rules;
+      armed = search rules;
       writes = search rules;
       recorded = search rules;
     }
@@ -45,8 +45,8 @@ pub returns-clause-leaves : goal.returns-clause-leaves
 returns-clause-leaves g c =
     let r = c.read_sectors in
     let d = c.args.self.now in
-    let old = g.F.ToldFile.holds (file_of d.file) in
-    let new = g.F.ToldFile.holds (file_of r.new.self) in
+    let old = g.F.ListedFile.holds (file_of d.file) in
+    let new = g.F.ListedFile.holds (file_of r.new.self) in
     let did : old.is_honest × (old.size ≡ d.sectors) → ReadsRun c.args.sector r.new.run old new =
     at_sectors old _ _ _ d.sectors (ok_items r.result c.is_err.ensures.value c.if-is_err.false r.ensures.held.made) c.offset_of.ensures (omega (arith, c.requires, r.auto.run)) in
     file_leaves old new d.sectors _ _ _ _ _ _ _ _ (λ honest. (did honest).rests)
@@ -55,8 +55,8 @@ pub returns-clause-keeps : goal.returns-clause-keeps
 returns-clause-keeps g c =
     let r = c.read_sectors in
     let d = c.args.self.now in
-    let old = g.F.ToldFile.holds (file_of d.file) in
-    let new = g.F.ToldFile.holds (file_of r.new.self) in
+    let old = g.F.ListedFile.holds (file_of d.file) in
+    let new = g.F.ListedFile.holds (file_of r.new.self) in
     let did : old.is_honest × (old.size ≡ d.sectors) → ReadsRun c.args.sector r.new.run old new =
     at_sectors old _ _ _ d.sectors (ok_items r.result c.is_err.ensures.value c.if-is_err.false r.ensures.held.made) c.offset_of.ensures (omega (arith, c.requires, r.auto.run)) in
     file_keeps old new d.sectors _ _ _ _ _ _ _ _ (λ honest. (did honest).keeps)
@@ -65,8 +65,8 @@ pub returns-clause-gives : goal.returns-clause-gives
 returns-clause-gives g c honest =
     let r = c.read_sectors in
     let d = c.args.self.now in
-    let old = g.F.ToldFile.holds (file_of d.file) in
-    let new = g.F.ToldFile.holds (file_of r.new.self) in
+    let old = g.F.ListedFile.holds (file_of d.file) in
+    let new = g.F.ListedFile.holds (file_of r.new.self) in
     let did : ReadsRun c.args.sector r.new.run old new =
     at_sectors old _ _ _ d.sectors (ok_items r.result c.is_err.ensures.value c.if-is_err.false r.ensures.held.made) c.offset_of.ensures (omega (arith, c.requires, r.auto.run)) honest in
     did.gives

@@ -14,8 +14,8 @@ pub invariant_of-self-2 : goal.invariant_of-self-2
 invariant_of-self-2 g c =
     let r = c.write_sectors in
     let d = c.args.self.now in
-    let old = g.F.ToldFile.holds (file_of d.file) in
-    let new = g.F.ToldFile.holds (file_of r.new.self) in
+    let old = g.F.ListedFile.holds (file_of d.file) in
+    let new = g.F.ListedFile.holds (file_of r.new.self) in
     let did : old.is_honest × (old.size ≡ d.sectors) → WritesRun c.args.sector c.args.run.now old new =
     λ honest. at_sectors old _ _ _ d.sectors (ok_items r.result c.is_err.ensures.value c.if-is_err.false r.ensures.held.made) c.offset_of.ensures c.requires.inside honest (c.requires.announced honest) in
     record {
@@ -30,14 +30,14 @@ pub returns-then-is_err-clause-access : goal.returns-then-is_err-clause-access
 returns-then-is_err-clause-access g c =
     let r = c.write_sectors in
     let d = c.args.self.now in
-    let old = g.F.ToldFile.holds (file_of d.file) in
-    let new = g.F.ToldFile.holds (file_of r.new.self) in
+    let old = g.F.ListedFile.holds (file_of d.file) in
+    let new = g.F.ListedFile.holds (file_of r.new.self) in
     let did : old.is_honest × (old.size ≡ d.sectors) → Rests old new =
     λ honest. at_sectors old _ _ _ d.sectors (err_items r.result c.is_err.ensures.value c.if-is_err.true r.ensures.held.failed) c.offset_of.ensures c.requires.inside honest (c.requires.announced honest) in
     record {
       goes_on = file_goes_on old new d.sectors _ _ _ _ _ _ _ _ c.next-self.ensures (omega (arith, (err_items r.result c.is_err.ensures.value c.if-is_err.true r.ensures.traced.made.failed))) r.ensures.held.same did;
       fault = search rules;
-      told = search rules;
+      armed = search rules;
       writes = search rules;
       recorded = search rules;
     }
@@ -46,8 +46,8 @@ pub returns-then-is_err-clause-leaves : goal.returns-then-is_err-clause-leaves
 returns-then-is_err-clause-leaves g c =
     let r = c.write_sectors in
     let d = c.args.self.now in
-    let old = g.F.ToldFile.holds (file_of d.file) in
-    let new = g.F.ToldFile.holds (file_of r.new.self) in
+    let old = g.F.ListedFile.holds (file_of d.file) in
+    let new = g.F.ListedFile.holds (file_of r.new.self) in
     let did : old.is_honest × (old.size ≡ d.sectors) → Rests old new =
     λ honest. at_sectors old _ _ _ d.sectors (err_items r.result c.is_err.ensures.value c.if-is_err.true r.ensures.held.failed) c.offset_of.ensures c.requires.inside honest (c.requires.announced honest) in
     file_leaves old new d.sectors _ _ _ _ _ _ _ _ did
@@ -56,14 +56,14 @@ pub returns-clause-access : goal.returns-clause-access
 returns-clause-access g c =
     let r = c.write_sectors in
     let d = c.args.self.now in
-    let old = g.F.ToldFile.holds (file_of d.file) in
-    let new = g.F.ToldFile.holds (file_of r.new.self) in
+    let old = g.F.ListedFile.holds (file_of d.file) in
+    let new = g.F.ListedFile.holds (file_of r.new.self) in
     let did : old.is_honest × (old.size ≡ d.sectors) → WritesRun c.args.sector c.args.run.now old new =
     λ honest. at_sectors old _ _ _ d.sectors (ok_items r.result c.is_err.ensures.value c.if-is_err.false r.ensures.held.made) c.offset_of.ensures c.requires.inside honest (c.requires.announced honest) in
     record {
       goes_on = file_goes_on old new d.sectors _ _ _ _ _ _ _ _ c.next-self.ensures (omega (arith, (ok_items r.result c.is_err.ensures.value c.if-is_err.false r.ensures.traced.made.unfailed))) r.ensures.held.same (λ honest. (did honest).rests);
       fault = search rules;
-      told = search rules;
+      armed = search rules;
       writes = search rules;
       recorded = search rules;
     }
@@ -72,8 +72,8 @@ pub returns-clause-leaves : goal.returns-clause-leaves
 returns-clause-leaves g c =
     let r = c.write_sectors in
     let d = c.args.self.now in
-    let old = g.F.ToldFile.holds (file_of d.file) in
-    let new = g.F.ToldFile.holds (file_of r.new.self) in
+    let old = g.F.ListedFile.holds (file_of d.file) in
+    let new = g.F.ListedFile.holds (file_of r.new.self) in
     let did : old.is_honest × (old.size ≡ d.sectors) → WritesRun c.args.sector c.args.run.now old new =
     λ honest. at_sectors old _ _ _ d.sectors (ok_items r.result c.is_err.ensures.value c.if-is_err.false r.ensures.held.made) c.offset_of.ensures c.requires.inside honest (c.requires.announced honest) in
     file_leaves old new d.sectors _ _ _ _ _ _ _ _ (λ honest. (did honest).rests)
@@ -82,8 +82,8 @@ pub returns-clause-stores : goal.returns-clause-stores
 returns-clause-stores g c =
     let r = c.write_sectors in
     let d = c.args.self.now in
-    let old = g.F.ToldFile.holds (file_of d.file) in
-    let new = g.F.ToldFile.holds (file_of r.new.self) in
+    let old = g.F.ListedFile.holds (file_of d.file) in
+    let new = g.F.ListedFile.holds (file_of r.new.self) in
     let did : old.is_honest × (old.size ≡ d.sectors) → WritesRun c.args.sector c.args.run.now old new =
     λ honest. at_sectors old _ _ _ d.sectors (ok_items r.result c.is_err.ensures.value c.if-is_err.false r.ensures.held.made) c.offset_of.ensures c.requires.inside honest (c.requires.announced honest) in
     file_stores old new d.sectors _ _ _ _ _ _ _ _ c.args.sector c.args.run.now did

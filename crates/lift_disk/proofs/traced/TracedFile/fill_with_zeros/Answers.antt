@@ -15,16 +15,16 @@ loop-i-preserved g c =
     let run : take count (replicate 128 zero) ≡ replicate (min 128 (c.args.sectors - c.loop-i.i * 128)) zero = take-replicate count 128 zero (omega (arith, is)) ∙ ap (λ n. replicate n zero) is in
     let call : WriteSectors (c.from.result * 512) (take count (replicate 128 zero)) ≡ zero_write c.args.sectors c.loop-i.i =
     ap (λ n. WriteSectors (n * 512) (take count (replicate 128 zero))) c.from.ensures ∙ ap (WriteSectors (c.loop-i.i * 128 * 512)) run in
-    let made = subst (λ (call : FileCall). IsMaking g.F.ToldFile.gives (call ∷ []) c.loop-i.self c.fill.new.self) call c.in_ok-fill.ensures.making in (
-      subst (λ (calls : List FileCall). IsMaking g.F.ToldFile.gives calls c.args.self.now c.fill.new.self) (sym (one_zero_write c.args.sectors c.loop-i.i))
-          (making_then g.F.ToldFile.gives (zero_writes c.args.sectors c.loop-i.i) (zero_write c.args.sectors c.loop-i.i ∷ []) c.args.self.now c.loop-i.self c.fill.new.self c.loop-i.invariant.0 made),
-      same_then (g.F.ToldFile.holds (file_of c.args.self.now)) (g.F.ToldFile.holds (file_of c.loop-i.self)) (g.F.ToldFile.holds (file_of c.fill.new.self)) c.loop-i.invariant.1 c.fill.ensures.same,
+    let made = subst (λ (call : FileCall). IsMaking g.F.ListedFile.gives (call ∷ []) c.loop-i.self c.fill.new.self) call c.in_ok-fill.ensures.making in (
+      subst (λ (calls : List FileCall). IsMaking g.F.ListedFile.gives calls c.args.self.now c.fill.new.self) (sym (one_zero_write c.args.sectors c.loop-i.i))
+          (making_then g.F.ListedFile.gives (zero_writes c.args.sectors c.loop-i.i) (zero_write c.args.sectors c.loop-i.i ∷ []) c.args.self.now c.loop-i.self c.fill.new.self c.loop-i.invariant.0 made),
+      same_then (g.F.ListedFile.holds (file_of c.args.self.now)) (g.F.ListedFile.holds (file_of c.loop-i.self)) (g.F.ListedFile.holds (file_of c.fill.new.self)) c.loop-i.invariant.1 c.fill.ensures.same,
     )
 
 pub returns-in_err-fill-clause-failed : goal.returns-in_err-fill-clause-failed
 returns-in_err-fill-clause-failed g c =
-    let gives = g.F.ToldFile.gives in
-    let fails = g.F.ToldFile.fails in
+    let gives = g.F.ListedFile.gives in
+    let fails = g.F.ListedFile.fails in
     let sectors = c.args.sectors in
     let i = c.loop-i.i in
     let old = file_of c.args.self.now in

@@ -4,5 +4,5 @@ use Rattle.lift_disk.proofs.traced.TracedFile.fill_with_zeros.Given as goal
 
 abbrev pub invariant-loop-i : goal.invariant-loop-i
 invariant-loop-i g l =
-    IsMaking g.F.ToldFile.gives (zero_writes l.sectors l.i) l.fn.self l.self
-    × IsSameFile (g.F.ToldFile.holds (file_of l.fn.self)) (g.F.ToldFile.holds (file_of l.self))
+    IsMaking g.F.ListedFile.gives (zero_writes l.sectors l.i) l.fn.self l.self
+    × IsSameFile (g.F.ListedFile.holds (file_of l.fn.self)) (g.F.ListedFile.holds (file_of l.self))

@@ -7,8 +7,8 @@ use Rattle.lift_disk.proofs.traced.TracedFile.make.Goals as goal
 
 pub returns-in_err-fill_with_zeros-clause-failed : goal.returns-in_err-fill_with_zeros-clause-failed
 returns-in_err-fill_with_zeros-clause-failed g c =
-    let gives = g.F.ToldFile.gives in
-    let fails = g.F.ToldFile.fails in
+    let gives = g.F.ListedFile.gives in
+    let fails = g.F.ListedFile.fails in
     let old = c.args.self.now in
     let sectors = c.args.sectors in
     let zeros = zero_writes sectors ((sectors + 127) / 128) in
@@ -26,8 +26,8 @@ returns-in_err-fill_with_zeros-clause-failed g c =
 
 pub returns-in_err-set_length-2-clause-failed : goal.returns-in_err-set_length-2-clause-failed
 returns-in_err-set_length-2-clause-failed g c =
-    let gives = g.F.ToldFile.gives in
-    let fails = g.F.ToldFile.fails in
+    let gives = g.F.ListedFile.gives in
+    let fails = g.F.ListedFile.fails in
     let old = c.args.self.now in
     let sectors = c.args.sectors in
     let zeros = zero_writes sectors ((sectors + 127) / 128) in
@@ -42,7 +42,7 @@ returns-in_err-set_length-2-clause-failed g c =
 
 pub returns-clause-making : goal.returns-clause-making
 returns-clause-making g c =
-    let gives = g.F.ToldFile.gives in
+    let gives = g.F.ListedFile.gives in
     let old = c.args.self.now in
     let sectors = c.args.sectors in
     let zeros = zero_writes sectors ((sectors + 127) / 128) in
@@ -61,8 +61,8 @@ returns-clause-making g c =
 
 pub returns-clause-failed : goal.returns-clause-failed
 returns-clause-failed g c =
-    let gives = g.F.ToldFile.gives in
-    let fails = g.F.ToldFile.fails in
+    let gives = g.F.ListedFile.gives in
+    let fails = g.F.ListedFile.fails in
     let old = c.args.self.now in
     let sectors = c.args.sectors in
     let zeros = zero_writes sectors ((sectors + 127) / 128) in

@@ -13,7 +13,7 @@ returns-in-Ok-clause-opens g c =
     let well = c.in-Ok.ensures.examines.ok in
     record {
       opens = opens old new place.shape place.start place.gate place.number
-          c.find_place.ensures.examines.only well.failures well.told (λ honest. (found.stands honest).synced) found.stands;
+          c.find_place.ensures.examines.only well.failures well.armed (λ honest. (found.stands honest).synced) found.stands;
       whole = refl;
       failures_at_opening = ap (λ (d : g.row.D.Denot). (g.D.Disk.state d).failures) c.of-at_opening.ensures;
       half = picks_synced place.shape place.start place.gate place.number new

@@ -19,7 +19,7 @@ returns-in-Ok-clause-reopens g c =
     let well = c.in-Ok.ensures.examines.ok in
     let opened_from = subst (λ (v : JournalView g.row.D.Denot). Opens (g.D.Disk.state v.device) new place.shape (place.gate - place.start)) c.self.view_is
     (opens (g.D.Disk.state c.self.inside.device) new place.shape place.start place.gate place.number
-    c.find_place.ensures.examines.only well.failures well.told (λ honest. (found.stands honest).synced) found.stands) in
+    c.find_place.ensures.examines.only well.failures well.armed (λ honest. (found.stands honest).synced) found.stands) in
     let half = picks_synced place.shape place.start place.gate place.number new (λ honest_new. found.stands (c.find_place.ensures.examines.only.runs.honest.0 honest_new)) in
     let calls = subst (λ (v : JournalView g.row.D.Denot). new.trace ≡ (g.D.Disk.state v.device).trace ++ opening_calls (half_start (nat_lt 2 place.start) place.shape.half) (place.gate - place.start + 1)) c.self.view_is
     (opening_at (g.D.Disk.state c.self.inside.device) new place.shape.half place.start (place.gate - place.start + 1)

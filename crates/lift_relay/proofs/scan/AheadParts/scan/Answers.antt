@@ -17,7 +17,7 @@ returns g c =
     let taken = c.scan_desk.new.found.items in
     let scans = c.scan_desk.ensures.1.scans in
     let used = uses 0 old.seat scans.visits scans.looks in
-    let keeps = run-keeps (g.P.Policy.chooses old.policy) c.decisions_keep.ensures.joins old.decider.plan old.decider.state c.scan_desk.new.scanner.decider.state (commands_in taken) (replies_in taken)
+    let keeps = run-keeps (g.P.Policy.chooses old.policy) c.decisions_preserve.ensures.joins old.decider.plan old.decider.state c.scan_desk.new.scanner.decider.state (commands_in taken) (replies_in taken)
     (nothing_more old.decider.state.register c.register-shown.result.now shown.value shown.lawful) c.requires.empty_batch scans.found.run in
     record {
       takes = c.scan_desk.ensures.1;

@@ -14,7 +14,7 @@ returns-in_err-ask g c = λ start found old.
     let self = c.args.self.now in
     let choice = g.P.Policy.chooses start.policy in
     let look = c.in_err-ask.ensures in
-    let runs = subst (λ p. RunsJoin (g.P.Policy.chooses p)) old.0 c.decisions_keep.ensures.runs in (
+    let runs = subst (λ p. RunsJoin (g.P.Policy.chooses p)) old.0 c.decisions_preserve.ensures.runs in (
       old.0,
       subst (λ (r : Option NotedCommand). TakesAhead choice c.args.desk.now start.seat c.take.new.ahead start.decider self.decider (found ++ option_to_list r) (suc c.args.terminal)) (sym c.from_residual.ensures)
           (takes-more choice c.args.desk.now start.seat self.seat c.take.new.ahead start.decider self.decider self.decider found None c.args.terminal None runs c.requires.terminal old.1
@@ -31,7 +31,7 @@ returns g c = λ start found old.
     let decide = c.decide-reply in
     let command : Command = record { terminal = c.args.terminal; number = ask.number; body = ask.body } in
     let k : NotedCommand = record { command = command; reply = decide.result; note = note.result } in
-    let runs = subst (λ p. RunsJoin (g.P.Policy.chooses p)) old.0 c.decisions_keep.ensures.runs in
+    let runs = subst (λ p. RunsJoin (g.P.Policy.chooses p)) old.0 c.decisions_preserve.ensures.runs in
     let run = subst (λ p. Run self.decider.plan (g.P.Policy.chooses p) self.decider.state (command ∷ []) (decide.result ∷ []) decide.new.self.state) old.0 (decide.new.self.state, decide.ensures.step, refl) in (
       old.0,
       subst (λ (s : List ClerkPlace). TakesAhead choice c.args.desk.now start.seat s start.decider decide.new.self (found ++ k ∷ []) (suc c.args.terminal)) (sym note.ensures.same)

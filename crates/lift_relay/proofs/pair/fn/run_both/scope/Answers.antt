@@ -10,7 +10,7 @@ use Rattle.core.proofs.atomic.AtomicBool.TheSendSync as flag_is
 use Rattle.lift_parts.specs.Allocator.{AllocatorState}
 use Rattle.lift_parts.specs.Turns.{AllocatorTurns, NoFlush}
 use Rattle.lift_relay.specs.declared.gate.GatedAllocator.{GatedAllocator}
-use Rattle.lift_relay.specs.lemmas.Heard.{heard_on, turns_stay}
+use Rattle.lift_relay.specs.lemmas.Notified.{notified_on, turns_stay}
 use Rattle.lift_relay.proofs.Crosses.{asking_send, allocating_send}
 use Rattle.lift_relay.proofs.Ran.{run_of}
 use Rattle.lift_relay.proofs.pair.fn.run_both.scope.Goals.{in-Ok-join, in-Err-join}
@@ -37,8 +37,8 @@ returns-after-join g c =
       same = refl;
       ran = run_of chooses state a ran.allocator drained.result.0 c.captures.flusher c.flush-first.new.flusher drained.new.flusher c.flush-first.result drained.result.1
           turned first.turns e.allocator e.flusher e.nothing_in_hand e.all_received;
-      heard = heard_on g.V.Witness.hears _ _ _ c.captures.witness.now c.flush-first.new.witness drained.new.witness
-          (turns_stay state _ _ _ _ first.turns) (turns_stay state _ _ _ _ e.flusher.1) first.heard e.heard;
+      notified = notified_on g.V.Witness.is_notified _ _ _ c.captures.witness.now c.flush-first.new.witness drained.new.witness
+          (turns_stay state _ _ _ _ first.turns) (turns_stay state _ _ _ _ e.flusher.1) first.notified e.notified;
       closed = λ _. first.closed;
     }
 
@@ -56,7 +56,7 @@ returns-in-Ok-2 g c =
       ran = run_of chooses g.D.Disk.state a ran drained.result.0 c.captures.flusher c.captures.flusher drained.new.flusher _ drained.result.1
           (subst (λ (x : AllocatorState g.row.P.Denot). AllocatorTurns (chooses x.policy) x ran) back c.in-Ok-2.ensures.comes.0)
           NoFlush e.allocator e.flusher e.nothing_in_hand e.all_received;
-      heard = e.heard;
+      notified = e.notified;
       closed = λ _. subst (λ x. g.G.Gate.closed x.now) gate c.in-Ok-2.ensures.closed;
     }
 

@@ -12,7 +12,7 @@ use lift_building::Building;
 use lift_disk::{Buffered, BufferedFile, Disk, FileOpener, SectorFile};
 use lift_keeper::Keeper;
 use lift_policy::Shipped;
-use lift_serve::{Flusher, HeardBy, ReadyGroup};
+use lift_serve::{Flusher, Notifies, ReadyGroup};
 use std::io::Write;
 use std::marker::PhantomData;
 
@@ -21,12 +21,12 @@ use std::marker::PhantomData;
 /// its failure.
 #[derive(Drop)]
 pub struct ImageKey<E> {
-    told: PhantomData<E>,
+    error: PhantomData<E>,
 }
 
 /// Whoever has such a group tells a writer of this type, and nobody else, when its device fails. Who
 /// is generic in the type has no other writer of it than the one that it was given.
-impl<E: Write + Drop> HeardBy<AtOnce<E>> for ImageKey<E> {}
+impl<E: Write + Drop> Notifies<AtOnce<E>> for ImageKey<E> {}
 
 /// The keeper that the recovery gives, over the journal in a file.
 #[inline(never)]
@@ -34,7 +34,7 @@ pub fn keeper_in<'b, I: FileOpener>(
     opener: I,
     path: &str,
     building: &'b Building,
-) -> Result<Keeper<'b, BufferedFile<I::Told>>, Failure<BufferedFile<I::Told>, I::Told, I>>
+) -> Result<Keeper<'b, BufferedFile<I::Listed>>, Failure<BufferedFile<I::Listed>, I::Listed, I>>
     ensures opened { IfOk result
         (HasKeeperOf ((⟦<I as ImageView>⟧.image opener).is_to_be_served path.now)
         (⟦<I as ImageView>⟧.image opener).served_state building.now) }
@@ -70,7 +70,7 @@ pub(super) fn left_unserved<D: Disk + Drop, E: Write + Drop>(
 ) -> Leftover<D>
     ensures { result ≡ group.entry.flusher.writer.device }
 {
-    Leftover::new(group.unserved(ImageKey { told: PhantomData }).into_disk())
+    Leftover::new(group.unserved(ImageKey { error: PhantomData }).into_disk())
 }
 
 /// The image as the flusher of a group that was served leaves it.
@@ -80,6 +80,6 @@ pub fn left_served<D: Disk + Drop, E: Write + Drop>(
 ) -> Leftover<D>
     ensures { result ≡ flusher.entry.writer.device }
 {
-    let writer = flusher.into_writer(ImageKey { told: PhantomData });
+    let writer = flusher.into_writer(ImageKey { error: PhantomData });
     Leftover::new(writer.into_disk())
 }

@@ -14,7 +14,7 @@ pub(crate) mod keeping;
 
 use crate::fault::Fault;
 use crate::files::building_in;
-use crate::given::ToServe;
+use crate::invocation::ToServe;
 use crate::leftover::{Failure, Leftover};
 use crate::opening::{FilesView, Listens, Openers, TextOpener};
 use crate::output::{Outflow, write_out};
@@ -98,9 +98,9 @@ impl<'w, B: TextOpener, I: FileOpener, L: Listens, E: Write + Drop> ToServe<'w, 
     ) -> Result<
         (
             u16,
-            ReadyGroup<'d, 'b, BufferedFile<I::Told>, Shipped, ImageKey<E>>,
+            ReadyGroup<'d, 'b, BufferedFile<I::Listed>, Shipped, ImageKey<E>>,
         ),
-        Failure<BufferedFile<I::Told>, I::Told, I>,
+        Failure<BufferedFile<I::Listed>, I::Listed, I>,
     >
         // That the port is served was passed on, before it is.
         ensures said { OnOk result
@@ -135,7 +135,7 @@ impl<'w, B: TextOpener, I: FileOpener, L: Listens, E: Write + Drop> ToServe<'w, 
             port,
             sessions,
             policy,
-            told: _,
+            error: _,
         } = self;
         let described = match building_in(openers.building, alloc, building) {
             Ok(building) => building,

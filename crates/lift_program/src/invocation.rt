@@ -11,8 +11,8 @@ ghost use Rattle.lift_program.specs.Words.{AskForRequest};
 
 use crate::end::{End, EndBy};
 use crate::format::format;
-use crate::given::ready::ForServing;
 use crate::help::answer;
+use crate::invocation::ready::ForServing;
 use crate::leftover::Leftover;
 use crate::opening::{FilesView, Listens, Openers, TextOpener};
 use crate::output::Outflow;
@@ -32,15 +32,15 @@ use std::marker::PhantomData;
 /// returns. So whoever waits with them has opened and read nothing, and nothing but what the words
 /// ask for can be opened by them. That a device fails is reported to an `E`.
 #[derive(Drop)]
-pub struct Given<'w, B, I, L, S, R, E> {
+pub struct Invocation<'w, B, I, L, S, R, E> {
     openers: Openers<B, I, ForServing<L>>,
     words: &'w [S],
     reader: R,
-    told: PhantomData<E>,
+    error: PhantomData<E>,
 }
 
 /// What the words ask to be served, and what opens it, of which nothing was asked yet. It can't be let
-/// go: `made_ready` alone takes it. That a device fails is told to an `E`.
+/// go: `made_ready` alone takes it. That a device fails is reported to an `E`.
 pub(crate) struct ToServe<'w, B, I, L, E> {
     openers: Openers<B, I, ForServing<L>>,
     image: &'w str,
@@ -48,18 +48,18 @@ pub(crate) struct ToServe<'w, B, I, L, E> {
     port: u16,
     sessions: u32,
     policy: Dispatching<Shipped>,
-    told: PhantomData<E>,
+    error: PhantomData<E>,
 }
 
-impl<'w, B: TextOpener, I: FileOpener, L: Listens, S: AsStr, R: Read + Drop, E: Write + Drop> Given<
+impl<
     'w,
-    B,
-    I,
-    L,
-    S,
-    R,
-    E,
-> {
+    B: TextOpener,
+    I: FileOpener,
+    L: Listens,
+    S: AsStr,
+    R: Read + Drop,
+    E: Write + Drop,
+> Invocation<'w, B, I, L, S, R, E> {
     /// These words, what opens by them, and this input.
     pub fn new(openers: Openers<B, I, L>, words: &'w [S], reader: R) -> Self
         ensures openers { result.openers ≡ openers }
@@ -71,7 +71,7 @@ impl<'w, B: TextOpener, I: FileOpener, L: Listens, S: AsStr, R: Read + Drop, E: 
             image,
             socket,
         } = openers;
-        Given {
+        Invocation {
             openers: Openers {
                 building,
                 image,
@@ -79,7 +79,7 @@ impl<'w, B: TextOpener, I: FileOpener, L: Listens, S: AsStr, R: Read + Drop, E: 
             },
             words,
             reader,
-            told: PhantomData,
+            error: PhantomData,
         }
     }
 
@@ -92,7 +92,7 @@ impl<'w, B: TextOpener, I: FileOpener, L: Listens, S: AsStr, R: Read + Drop, E: 
         writer: &mut W,
     ) -> (
         Leftover<Counted<R>>,
-        Result<ToServe<'w, B, I, L, E>, EndBy<I, I::Told>>,
+        Result<ToServe<'w, B, I, L, E>, EndBy<I, I::Listed>>,
     )
         ensures to_serve { IfOk result.1 (λ asked. AskForRequest (map S.text self.entry.words.now)
             (Serve asked.image asked.building asked.port asked.sessions asked.policy)) }
@@ -118,11 +118,11 @@ impl<'w, B: TextOpener, I: FileOpener, L: Listens, S: AsStr, R: Read + Drop, E: 
         ensures script { IfErr result.1 (λ end. IsScriptEnd W.sent W.contents W.gives W.flushes []
             result.0.came writer.old writer.new end) }
     {
-        let Given {
+        let Invocation {
             openers,
             words,
             reader,
-            told: _,
+            error: _,
         } = self;
         let mut input = Counted::new(reader);
         let request = match request_of(alloc, words) {
@@ -168,7 +168,7 @@ impl<'w, B: TextOpener, I: FileOpener, L: Listens, S: AsStr, R: Read + Drop, E: 
                     port,
                     sessions,
                     policy,
-                    told: PhantomData,
+                    error: PhantomData,
                 };
                 (Leftover::new(input), Ok(asked))
             }

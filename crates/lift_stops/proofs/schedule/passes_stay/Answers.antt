@@ -6,7 +6,7 @@ use Rattle.lift_base.specs.declared.travel.Dir.TheVariants.{Up, Down}
 use Rattle.lift_base.specs.declared.travel.Pass.TheVariants.{First}
 use Rattle.lift_base.specs.declared.travel.Halt.{Halt}
 use Rattle.lift_stops.proofs.Kept.{keeps}
-use Rattle.lift_stops.proofs.schedule.keeps_passes.Goals as goal
+use Rattle.lift_stops.proofs.schedule.passes_stay.Goals as goal
 
 same_dirs : (a b : Dir) → not (sameb the_type a b) ≡ false → a ≡ b
 same_dirs Up Up same = refl

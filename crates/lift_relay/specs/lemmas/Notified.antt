@@ -6,22 +6,22 @@ use Rattle.lift_keeper.specs.Writer.{WriterView}
 use Rattle.lift_parts.specs.declared.counts.FlushCounts.{FlushCounts}
 use Rattle.lift_parts.specs.Flusher.{FlusherState}
 use Rattle.lift_parts.specs.Turns.{FlusherTurns, NoFlush, OneFlush, IsFlush}
-use Rattle.lift_relay.specs.Heard.{FailureHeard}
+use Rattle.lift_relay.specs.Notified.{FailureNotified}
 
 -- of a writer that stays as it is nobody is notified
-pub heard_none : {V : Type 0} (hears : V → V → Type 0) (b : Bool) (v : V) → FailureHeard hears b b v v
-heard_none hears false v = refl
-heard_none hears true v = refl
+pub notified_none : {V : Type 0} (is_notified : V → V → Type 0) (b : Bool) (v : V) → FailureNotified is_notified b b v v
+notified_none is_notified false v = refl
+notified_none is_notified true v = refl
 
 -- A writer that is broken stays so: the witness is notified once.
-pub heard_on : {V : Type 0} (hears : V → V → Type 0) (a b c : Bool) (u v w : V) → (a ≡ true → b ≡ true) → (b ≡ true → c ≡ true)
-    → FailureHeard hears a b u v → FailureHeard hears b c v w → FailureHeard hears a c u w
-heard_on hears false false false u v w first_stays stays first then = then ∙ first
-heard_on hears false false true u v w first_stays stays first then = subst (λ x. hears x w) first then
-heard_on hears false true false u v w first_stays stays first then = absurd (let wrong = stays refl in cc)
-heard_on hears false true true u v w first_stays stays first then = subst (λ x. hears u x) (sym then) first
-heard_on hears true false c u v w first_stays stays first then = absurd (let wrong = first_stays refl in cc)
-heard_on hears true true c u v w first_stays stays first then = then ∙ first
+pub notified_on : {V : Type 0} (is_notified : V → V → Type 0) (a b c : Bool) (u v w : V) → (a ≡ true → b ≡ true) → (b ≡ true → c ≡ true)
+    → FailureNotified is_notified a b u v → FailureNotified is_notified b c v w → FailureNotified is_notified a c u w
+notified_on is_notified false false false u v w first_stays stays first then = then ∙ first
+notified_on is_notified false false true u v w first_stays stays first then = subst (λ x. is_notified x w) first then
+notified_on is_notified false true false u v w first_stays stays first then = absurd (let wrong = stays refl in cc)
+notified_on is_notified false true true u v w first_stays stays first then = subst (λ x. is_notified u x) (sym then) first
+notified_on is_notified true false c u v w first_stays stays first then = absurd (let wrong = first_stays refl in cc)
+notified_on is_notified true true c u v w first_stays stays first then = then ∙ first
 
 pub flush_stays : {D : Type 0} (state : D → DiskState) (f g : FlusherState D) (answer : Result FlushCounts KeeperFault) → IsFlush state f g answer → f.writer.is_broken ≡ true → g.writer.is_broken ≡ true
 flush_stays {D} state f g answer flush was = ap (λ (w : WriterView D). w.is_broken) (flush.commits.rests was) ∙ was

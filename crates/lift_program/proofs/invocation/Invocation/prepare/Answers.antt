@@ -2,7 +2,7 @@ use Rattle.std.proofs.Common.{◌≡◌, rules, ap, subst}
 use Rattle.lift_base.specs.Input.{InputState}
 use Rattle.lift_program.specs.Ends.{ReportsAll}
 use Rattle.lift_program.specs.declared.words.Request.TheVariants.{Replay, Format, Show}
-use Rattle.lift_program.proofs.given.Given.prepare.Goals as goal
+use Rattle.lift_program.proofs.invocation.Invocation.prepare.Goals as goal
 
 pub returns-in-Replay-clause-end : goal.returns-in-Replay-clause-end
 returns-in-Replay-clause-end g c = (Replay, search rules, (c.replay-outcome.ensures.fault, search rules))

@@ -1,6 +1,6 @@
 use Rattle.std.proofs.Common.{◌∙◌}
 use Rattle.lift_program.proofs.Stages.{has_no_image, has_no_keeper, is_opened}
-use Rattle.lift_program.proofs.given.ready.keeping.keeper_in.Goals as goal
+use Rattle.lift_program.proofs.invocation.ready.keeping.keeper_in.Goals as goal
 
 pub returns-in-Ok-open-clause-opened : goal.returns-in-Ok-open-clause-opened
 returns-in-Ok-open-clause-opened g c =
@@ -13,7 +13,7 @@ returns-in-Ok-open-clause-opened g c =
 
 pub returns-in-Err-clause-failure : goal.returns-in-Err-clause-failure
 returns-in-Err-clause-failure g c =
-    has_no_image _ _ c.in-Err.cause _ c.refused-fault.ensures.same c.refused-fault.ensures.fault c.refused-fault.ensures.told c.in-Err.ensures.refused
+    has_no_image _ _ c.in-Err.cause _ c.refused-fault.ensures.same c.refused-fault.ensures.fault c.refused-fault.ensures.caused c.in-Err.ensures.refused
 
 pub returns-in-Err-open-clause-failure : goal.returns-in-Err-open-clause-failure
 returns-in-Err-open-clause-failure g c =

@@ -9,7 +9,7 @@ use Rattle.lift_program.specs.declared.fault.Fault.TheVariants.{Memory, Network}
 use Rattle.lift_program.specs.declared.fault.Role.TheVariants.{Output}
 use Rattle.lift_program.proofs.Flushing.{building_no_network, file_no_network, keeper_failure_no_network}
 use Rattle.lift_program.proofs.Stages.{group_left, is_ready, keeper_failure, keeper_report, kept_left, output_left, output_report, report_of, stands_so}
-use Rattle.lift_program.proofs.given.ToServe.made_ready.Goals as goal
+use Rattle.lift_program.proofs.invocation.ToServe.made_ready.Goals as goal
 
 pub returns-clause-ready : goal.returns-clause-ready
 returns-clause-ready g c =
@@ -26,7 +26,7 @@ pub returns-in-Err-keeper_in-clause-failure : goal.returns-in-Err-keeper_in-clau
 returns-in-Err-keeper_in-clause-failure g c =
     let o = c.args.self.openers in
     let files : CommandFiles = record {
-      image = image_files o.image (g.I.FileOpener.stands o.image) (g.I.FileOpener.opens o.image) (g.I.FileOpener.names o.image) (g.I.FileOpener.unnamed o.image) g.I.Told.ToldFile.gives g.I.Told.ToldFile.fails g.I.Told.ToldFile.holds (buffered_state_of (sector_file_state_of g.I.Told.ToldFile.holds)) (buffered_state_of (unwritten_state_of g.I.Told.ToldFile.holds));
+      image = image_files o.image (g.I.FileOpener.stands o.image) (g.I.FileOpener.opens o.image) (g.I.FileOpener.names o.image) (g.I.FileOpener.unnamed o.image) g.I.Listed.ListedFile.gives g.I.Listed.ListedFile.fails g.I.Listed.ListedFile.holds (buffered_state_of (sector_file_state_of g.I.Listed.ListedFile.holds)) (buffered_state_of (unwritten_state_of g.I.Listed.ListedFile.holds));
       is_text = λ path. IsTextRead (g.B.TextOpener.opens o.building path) g.B.Text.Read.remaining;
       is_no_text = λ path. IsNoText (g.B.TextOpener.opens o.building path) g.B.Text.Read.remaining g.B.TextOpener.reads;
       gives = g.L.Listens.gives o.socket local;

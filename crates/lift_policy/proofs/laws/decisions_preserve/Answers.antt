@@ -2,7 +2,7 @@ use Rattle.lift_policy.proofs.Runs.{Run-append}
 use Rattle.lift_policy.specs.lemmas.Joins.{Step-joins}
 use Rattle.lift_policy.proofs.Refusals.{Step-refused, Step-known}
 use Rattle.lift_policy.proofs.States.{Step-keeps, Step-tells}
-use Rattle.lift_policy.proofs.laws.decisions_keep.Goals as goal
+use Rattle.lift_policy.proofs.laws.decisions_preserve.Goals as goal
 
 pub returns : goal.returns
 returns g c = record {
